@@ -1,0 +1,143 @@
+-- decayBelow x is at most 2^32 × e^(−x), also for an exponent up to one unit larger, and at most 10 below it. Assumes nothing.
+use mathlib.Core.Path.{_≡_, ap}
+use Prim.Native.Nat.{ℕ, zero, suc, _+_, _*_, _-_, _^_, _/_, _%_, _≤_, _<_}
+use native.Mathlib.Nat.{le-trans, mul-le-mul, mul-le-mul-left, mul-le-mul-right, mul-pos, div-add-mod', mod-lt, sub-add-cancel}
+use native.Mathlib.Omega.{arith}
+use Rattle.formula.specs.Fraction.{Fraction, over}
+use Rattle.formula.specs.FixedPoint.{entry, fineDecay, decayBelow}
+use Rattle.formula.proofs.Decay.{NotAbove, NotBelow, not-above-weaker, not-below-weaker, not-above-smaller, not-below-larger, not-above-product, not-below-product}
+use Rattle.formula.proofs.Rest.{second-equation, second-not-below, third, third-equation, third-not-above}
+use Rattle.formula.proofs.Entries.{entry-not-above, entry-not-below, fine-entry-not-above}
+use Rattle.formula.proofs.StepBounds.{entry-at-most, fine-entry-at-least}
+
+-- the same bound over a scale that is t times smaller
+module _ {c : ℕ} {q : Fraction} (c′ s t : ℕ) (pos : 0 < s * t) where
+  not-above-rescaled : c′ * t ≤ c → NotAbove c (s * t) q → NotAbove c′ s q
+  not-above-rescaled h = not-above-weaker c′ s pos (omega (arith, mul-le-mul-right s h))
+
+  not-below-rescaled : c ≤ c′ * t → NotBelow c (s * t) q → NotBelow c′ s q
+  not-below-rescaled h = not-below-weaker c′ s pos (omega (arith, mul-le-mul-right s h))
+
+-- ---- the rest: r = j / 2^32, below 2^−10
+
+-- b − y − 3 is at most b (1 − a / b + a² / 2 b² − a³ / 3 b³), with a = j + 1, y = j − square and square at most j² / 2 b
+below-third : (b j square y c third : ℕ) → 2 * (b * square) ≤ j * j → y + square ≡ j → c + (y + 3) ≡ b →
+    suc j * (suc j * suc j) ≤ 6 * (b * b) →
+    third + (6 * (suc j * (b * b)) + 2 * (suc j * (suc j * suc j))) ≡ 6 * (b * (b * b)) + 3 * (suc j * (suc j * b)) →
+    c * (6 * (b * b)) ≤ third
+below-third b j square y c third h e f g t =
+    omega
+    (arith, mul-le-mul-left (3 * b) h, ap (λ (x : ℕ). 6 * (b * b) * x) e, ap (λ (x : ℕ). 6 * (b * b) * x) f)
+
+module _ (j : ℕ) (small : j < 2 ^ 22) where
+  -- j − j² / 2^33, the square rounded down
+  abbrev drop : ℕ
+  drop = j - j * j / 2 ^ 33
+
+  square-small : j * j ≤ 2 ^ 22 * j
+  square-small = mul-le-mul-right j (omega arith)
+
+  rest-not-below : NotBelow (2 ^ 32 + 1 - drop) (2 ^ 32) (over j (2 ^ 32))
+  rest-not-below =
+      not-below-rescaled (2 ^ 32 + 1 - drop) (2 ^ 32) (2 ^ 33) (omega arith)
+      (omega (arith, square-small, second-equation j (2 ^ 32) (omega arith)))
+      (second-not-below j (2 ^ 32) (omega arith))
+
+  cube-small : suc j * (suc j * suc j) ≤ 2 ^ 66
+  cube-small = mul-le-mul {n₁ = suc j} {n₂ = 2 ^ 22} (omega arith) (mul-le-mul {n₁ = suc j} {n₂ = 2 ^ 22} {m₂ = 2 ^ 22} (omega arith) (omega arith))
+
+  rest-not-above : NotAbove (2 ^ 32 - drop - 3) (2 ^ 32) (over (suc j) (2 ^ 32))
+  rest-not-above =
+      not-above-rescaled (2 ^ 32 - drop - 3) (2 ^ 32) (6 * 2 ^ 64) (omega arith)
+      (below-third (2 ^ 32) j (j * j / 2 ^ 33) drop (2 ^ 32 - drop - 3) (third (suc j) (2 ^ 32))
+      (omega arith) (omega (arith, square-small)) (omega arith) (omega (arith, cube-small))
+      (third-equation (suc j) (2 ^ 32) (omega arith)))
+      (third-not-above (suc j) (2 ^ 32) (omega arith) (omega arith))
+
+-- ---- the fine entry and the rest: (m / 1024) + r
+
+-- t (b − y) / b is t − ⌊t y / b⌋, up to 1
+fine-low : (b t y z f : ℕ) → z * b ≤ t * y → t * y < z * b + b → t ≤ b → y + 3 ≤ b → f + (z + 4) ≡ t → f * b ≤ t * (b - y - 3)
+fine-low b t y z f h g u v e = core (b - y - 3) (omega arith)
+  where
+    core : (c : ℕ) → c + (y + 3) ≡ b → f * b ≤ t * c
+    core c d = omega (arith, ap (λ (x : ℕ). x * b) e, ap (λ (x : ℕ). t * x) d)
+
+fine-high : (b t y z f : ℕ) → z * b ≤ t * y → t ≤ b → y ≤ b → 1 ≤ b → f + (z + 4) ≡ t → (t + 1) * (b + 1 - y) ≤ (f + 7) * b
+fine-high b t y z f h u v p e = core (b + 1 - y) (omega arith)
+  where
+    core : (c : ℕ) → c + y ≡ b + 1 → (t + 1) * c ≤ (f + 7) * b
+    core c d = omega (arith, ap (λ (x : ℕ). x * b) e, ap (λ (x : ℕ). t * x) d)
+
+module _ (m j : ℕ) (m-small : m < 64) (small : j < 2 ^ 22) where
+  abbrev t : ℕ
+  t = entry m 1024
+
+  abbrev y : ℕ
+  y = drop j small
+
+  abbrev z : ℕ
+  z = t * y / 2 ^ 32
+
+  y-small : y ≤ 2 ^ 22
+  y-small = omega arith
+
+  z-small : z * 2 ^ 32 ≤ 2 ^ 22 * 2 ^ 32
+  z-small = omega (arith, mul-le-mul {n₁ = t} {n₂ = 2 ^ 32} (entry-at-most m 1024) y-small)
+
+  pub fine-sum : fineDecay m j + (z + 4) ≡ t
+  unfolding fineDecay
+  fine-sum = omega (arith, z-small, fine-entry-at-least m m-small)
+
+  pub fine-not-above : NotAbove (fineDecay m j) (2 ^ 32) (over (m * 2 ^ 22 + suc j) (2 ^ 32))
+  fine-not-above =
+      not-above-rescaled (fineDecay m j) (2 ^ 32) (2 ^ 32) (omega arith)
+      (fine-low (2 ^ 32) t y z (fineDecay m j) (omega arith) (omega arith) (entry-at-most m 1024) (omega arith) fine-sum)
+      (not-above-product (m * 2 ^ 22) (suc j) (2 ^ 32) (omega arith)
+      (not-above-smaller (over (m * 2 ^ 22) (2 ^ 32)) (over m 1024) (omega arith) (omega arith) (omega arith) (fine-entry-not-above m m-small))
+      (rest-not-above j small))
+
+  pub fine-not-below : NotBelow (fineDecay m j + 7) (2 ^ 32) (over (m * 2 ^ 22 + j) (2 ^ 32))
+  fine-not-below =
+      not-below-rescaled (fineDecay m j + 7) (2 ^ 32) (2 ^ 32) (omega arith)
+      (fine-high (2 ^ 32) t y z (fineDecay m j) (omega arith) (entry-at-most m 1024) (omega arith) (omega arith) fine-sum)
+      (not-below-product (m * 2 ^ 22) j (2 ^ 32) (omega arith)
+      (not-below-larger (over m 1024) (over (m * 2 ^ 22) (2 ^ 32)) (omega arith) (omega arith) (omega arith) (entry-not-below m 1024 (omega arith)))
+      (rest-not-below j small))
+
+-- ---- the coarse entry as well: x = n / 16 + m / 1024 + j / 2^32
+
+module _ (x : ℕ) where
+  abbrev n : ℕ
+  n = x / 2 ^ 28
+
+  abbrev m : ℕ
+  m = x % 2 ^ 28 / 2 ^ 22
+
+  abbrev j : ℕ
+  j = x % 2 ^ 28 % 2 ^ 22
+
+  m-below : m < 64
+  m-below = omega arith
+
+  j-below : j < 2 ^ 22
+  j-below = omega arith
+
+  pub decay-not-above : NotAbove (decayBelow x) (2 ^ 32) (over (suc x) (2 ^ 32))
+  unfolding decayBelow
+  decay-not-above =
+      not-above-smaller (over (suc x) (2 ^ 32)) (over (n * 2 ^ 28 + (m * 2 ^ 22 + suc j)) (2 ^ 32)) (omega arith) (omega arith) (omega arith)
+      (not-above-rescaled (decayBelow x) (2 ^ 32) (2 ^ 32) (omega arith) (omega arith)
+      (not-above-product (n * 2 ^ 28) (m * 2 ^ 22 + suc j) (2 ^ 32) (omega arith)
+      (not-above-smaller (over (n * 2 ^ 28) (2 ^ 32)) (over n 16) (omega arith) (omega arith) (omega arith) (entry-not-above n))
+      (fine-not-above m j m-below j-below)))
+
+  pub decay-not-below : NotBelow (decayBelow x + 10) (2 ^ 32) (over x (2 ^ 32))
+  unfolding decayBelow
+  decay-not-below =
+      not-below-larger (over (n * 2 ^ 28 + (m * 2 ^ 22 + j)) (2 ^ 32)) (over x (2 ^ 32)) (omega arith) (omega arith) (omega arith)
+      (not-below-rescaled (decayBelow x + 10) (2 ^ 32) (2 ^ 32) (omega arith)
+      (omega (arith, entry-at-most n 16, entry-at-most m 1024, fine-sum m j m-below j-below))
+      (not-below-product (n * 2 ^ 28) (m * 2 ^ 22 + j) (2 ^ 32) (omega arith)
+      (not-below-larger (over n 16) (over (n * 2 ^ 28) (2 ^ 32)) (omega arith) (omega arith) (omega arith) (entry-not-below n 16 (omega arith)))
+      (fine-not-below m j m-below j-below)))

@@ -1,0 +1,69 @@
+-- No lower end passes an upper end, so two whole numbers that pass differ by at most 1. Assumes nothing.
+use Prim.Native.Nat.{ℕ, suc, _+_, _*_, _-_, _≤_, _<_}
+use native.Mathlib.Nat.{le-refl, mul-pos, mul-le-mul-right, mul-lt-mul-of-pos-right, lt-of-mul-lt-mul-right, zero-lt-suc}
+use native.Mathlib.Omega.{arith}
+use Rattle.formula.specs.Fraction.{Fraction, plus, whole, AtMost}
+use Rattle.formula.specs.Formula.{Admitted, scale, lowerExponent, upperExponent, Difference, perThickness, weightWith, upperEnd, lowerEnd, EndAtMost, EndAboveMinusTwo, Passes}
+use Rattle.formula.proofs.FractionLaws.{plus-at-most-plus, times-at-most-times, divided-at-most-divided, inverse-at-most-inverse}
+use Rattle.formula.proofs.SeriesLaws.{low-top-pos, up-top-pos, low-at-most-up}
+
+-- ---- differences
+
+-- x ≤ y: gain − loss of x is at most gain − loss of y
+abbrev pub DifferenceAtMost : Difference → Difference → Type 0
+DifferenceAtMost x y = AtMost (plus (x .gain) (y .loss)) (plus (y .gain) (x .loss))
+
+-- w′ − 2 < x ≤ y ≤ w gives w′ < w + 2
+below-plus-two : (x y : Difference) (w w′ : ℕ) → 0 < y .gain .bottom → 0 < y .loss .bottom → DifferenceAtMost x y → EndAtMost y w → EndAboveMinusTwo x w′ → w′ < w + 2
+below-plus-two x y w w′ gain-pos loss-pos between at-most above =
+    let bottoms = x .gain .bottom * x .loss .bottom in
+    lt-of-mul-lt-mul-right (bottoms * (y .gain .bottom * y .loss .bottom))
+    (omega (arith, mul-le-mul-right bottoms at-most, mul-lt-mul-of-pos-right above (mul-pos gain-pos loss-pos)))
+
+per-thickness-grows : (A D : ℕ) (x y : Fraction) → AtMost x y → AtMost (perThickness A D x) (perThickness A D y)
+per-thickness-grows A D x y h = divided-at-most-divided _ _ (whole (D - A)) (times-at-most-times x y (whole 125000) h)
+
+-- the weight grows with e and falls with f
+weight-grows : (A D K p : ℕ) (e e′ f f′ : Fraction) → AtMost e e′ → AtMost f′ f → DifferenceAtMost (weightWith A D K p e f) (weightWith A D K p e′ f′)
+weight-grows A D K p e e′ f f′ h l =
+    plus-at-most-plus _ _ _ _
+    (per-thickness-grows A D _ _ (plus-at-most-plus (whole (K - A)) _ _ _ (le-refl _) (times-at-most-times e e′ (scale K p) h)))
+    (per-thickness-grows A D _ _ (times-at-most-times f′ f (scale K p) l))
+
+-- ---- the ends
+
+module _ (A D K p : ℕ) (K-pos : 0 < K) (p-pos : 0 < p) where
+  -- the bottom of l/s and of u/s
+  exponent-bottom-pos : 0 < 1 * (p * K)
+  exponent-bottom-pos = mul-pos (zero-lt-suc 0) (mul-pos p-pos K-pos)
+
+  -- the lower end at k is at most the upper end at k′: 1 / Up(k) ≤ 1 / Low(k′) at l/s, and 1 / Up(k′) ≤ 1 / Low(k) at u/s
+  pub ends-apart : (k k′ : ℕ) → Admitted (lowerExponent A K p) k → Admitted (upperExponent D K p) k′ → DifferenceAtMost (lowerEnd A D K p k) (upperEnd A D K p k′)
+  ends-apart k k′ h l =
+      weight-grows A D K p _ _ _ _
+      (inverse-at-most-inverse _ _ (low-at-most-up (lowerExponent A K p) exponent-bottom-pos k′ k h))
+      (inverse-at-most-inverse _ _ (low-at-most-up (upperExponent D K p) exponent-bottom-pos k k′ l))
+
+  module _ (thick : A < D) where
+    thickness-pos : 0 < D - A
+    thickness-pos = omega arith
+
+    upper-gain-pos : (k : ℕ) → 0 < upperEnd A D K p k .gain .bottom
+    upper-gain-pos k = omega (arith, mul-pos (low-top-pos (lowerExponent A K p) exponent-bottom-pos k) thickness-pos)
+
+    upper-loss-pos : (k : ℕ) → 0 < upperEnd A D K p k .loss .bottom
+    upper-loss-pos k = omega (arith, mul-pos (up-top-pos (upperExponent D K p) exponent-bottom-pos k) thickness-pos)
+
+    -- two numbers that pass differ by at most 1
+    pub passing-close : (w w′ : ℕ) → Passes A D K p w → Passes A D K p w′ → w′ ≤ suc w
+    passing-close w w′ h h′ =
+        let apart = ends-apart (h′ .k) (h .k) (h′ .counts .lower) (h .counts .upper) in
+        omega (arith, below-plus-two _ _ w w′ (upper-gain-pos (h .k)) (upper-loss-pos (h .k)) apart (h .upper) (h′ .lower))
+
+    -- no three numbers pass: the outer two would differ by 2
+    pub no-three-pass : (v w x : ℕ) → v < w → w < x → Passes A D K p v → Passes A D K p x → ⊥
+    no-three-pass v w x h l first last = omega (arith, passing-close v x first last)
+
+    -- where 125000 passes, no number below 124999 does
+    pub only-top-passes : (w : ℕ) → Passes A D K p 125000 → Passes A D K p w → 124999 ≤ w
+    only-top-passes w top h = omega (arith, passing-close w 125000 h top)

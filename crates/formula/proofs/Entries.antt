@@ -1,0 +1,92 @@
+-- The entries of the decay table (d = 16) and of the fine table (d = 1024) are whole parts of 2^32 × e^(−n/d). Assumes nothing.
+use mathlib.Core.Bool.{Bool}
+use mathlib.Core.Logic.{⊎-elim}
+use mathlib.Core.Path.{_≡_, refl, subst, sym}
+use Prim.Native.Nat.{ℕ, zero, suc, _+_, _*_, _^_, _/_, _-_, _≤_, _<_, zero-le}
+use native.Mathlib.Nat.{lt-div-mul-add, lt-of-lt-of-le, eq-zero-or-pos, zero-mul}
+use native.Mathlib.Omega.{arith}
+use lib.Dec.{T, leb, leb→le}
+use Rattle.formula.specs.Fraction.{Fraction, over, dividedBy, whole, AtMost, Below}
+use Rattle.formula.specs.Formula.{factorial, low, up, WholePart, DecayEntry}
+use Rattle.formula.specs.FixedPoint.{entry}
+use Rattle.formula.proofs.Table.{allBelow, at-each}
+use Rattle.formula.proofs.SeriesLaws.{low-bottom-pos, low-at-least-one}
+use Rattle.formula.proofs.Decay.{NotAbove, NotBelow, not-above-by-up}
+use Rattle.formula.proofs.StepBounds.{entry-zero}
+
+-- the entry times Up(43) is at most 2^32
+abbrev fits : ℕ → ℕ → Bool
+unfolding low entry factorial
+fits d n = leb (entry n d * up (over n d) 43 .top) (2 ^ 32 * up (over n d) 43 .bottom)
+
+-- the computed test: every entry of a table with at most 22.2 as its last exponent
+abbrev Fits : ℕ → ℕ → Type 0
+Fits d n = entry n d * up (over n d) 43 .top ≤ 2 ^ 32 * up (over n d) 43 .bottom
+
+coarse-fits : (n : ℕ) → n < 355 → Fits 16 n
+unfolding low entry factorial
+coarse-fits n h = leb→le _ _ (at-each (fits 16) 355 tt n h)
+
+fine-fits : (m : ℕ) → m < 64 → Fits 1024 m
+unfolding low entry factorial
+fine-fits m h = leb→le _ _ (at-each (fits 1024) 64 tt m h)
+
+-- the next whole number is above 2^32 × e^(−n/d)
+entry-next : (n d : ℕ) → 0 < d → 2 ^ 32 * low (over n d) 43 .bottom < (entry n d + 1) * low (over n d) 43 .top
+unfolding entry
+entry-next n d pos =
+    let above : 0 < low (over n d) 43 .top = lt-of-lt-of-le (low-bottom-pos (over n d) pos 43) (low-at-least-one (over n d) 43) in
+    omega (arith, lt-div-mul-add {a = 2 ^ 32 * low (over n d) 43 .bottom} above)
+
+pub entry-not-below : (n d : ℕ) → 0 < d → NotBelow (entry n d + 1) (2 ^ 32) (over n d)
+entry-not-below n d pos = record { some-k = 43; holds = omega (arith, entry-next n d pos) }
+
+pub fine-entry-not-above : (m : ℕ) → m < 64 → NotAbove (entry m 1024) (2 ^ 32) (over m 1024)
+fine-entry-not-above m h = not-above-by-up (over m 1024) (omega arith) (entry m 1024) (2 ^ 32) 43 (omega arith) (fine-fits m h)
+
+-- v ≤ m / x and m / x < v, multiplied out
+module _ (v m : ℕ) (x : Fraction) where
+  at-most-quotient : v * x .top ≤ m * x .bottom → AtMost (whole v) (dividedBy (whole m) x)
+  at-most-quotient h = omega arith
+
+  product-at-most : AtMost (whole v) (dividedBy (whole m) x) → v * x .top ≤ m * x .bottom
+  product-at-most h = omega arith
+
+  quotient-below : m * x .bottom < v * x .top → Below (dividedBy (whole m) x) (whole v)
+  quotient-below h = omega arith
+
+-- The decay table's rule, for every n.
+pub whole-part : (n : ℕ) → DecayEntry n (entry n 16)
+whole-part n = ⊎-elim within beyond (eq-zero-or-pos (n - 354))
+  where
+    next : Below (dividedBy (whole (2 ^ 32)) (low (over n 16) 43)) (whole (entry n 16 + 1))
+    next = quotient-below _ _ (low (over n 16) 43) (entry-next n 16 (omega arith))
+
+    within : n - 354 ≡ 0 → DecayEntry n (entry n 16)
+    within e =
+        let inside : n < 355 = omega arith in
+        record {
+          k = 43;
+          admitted = omega arith;
+          at-most = at-most-quotient (entry n 16) (2 ^ 32) (up (over n 16) 43) (coarse-fits n inside);
+          j = 43;
+          next-above = next;
+        }
+
+    beyond : 0 < n - 354 → DecayEntry n (entry n 16)
+    beyond h =
+        let outside : 355 ≤ n = omega arith in
+        record {
+          k = n;
+          admitted = omega arith;
+          at-most = at-most-quotient (entry n 16) (2 ^ 32) (up (over n 16) n) (rw (entry-zero n outside) (rw zero-mul zero-le));
+          j = 43;
+          next-above = next;
+        }
+
+-- v × Up(k) ≤ 2^32 bounds every Low as well
+pub entry-not-above : (n : ℕ) → NotAbove (entry n 16) (2 ^ 32) (over n 16)
+entry-not-above n =
+    let w : DecayEntry n (entry n 16) = whole-part n in
+    not-above-by-up (over n 16) (omega arith) (entry n 16) (2 ^ 32) (w .k) (w .admitted)
+    (product-at-most (entry n 16) (2 ^ 32) (up (over n 16) (w .k)) (w .at-most))

@@ -1,0 +1,17 @@
+pub mod Table
+pub mod FractionLaws
+pub mod SeriesLaws
+pub mod Convolution
+pub mod Exponents
+pub mod EndLaws
+pub mod Decay
+pub mod Rest
+pub mod StepBounds
+pub mod Entries
+pub mod DecaySteps
+pub mod Share
+pub mod Eventually
+pub mod Ends
+pub mod Product
+pub mod Limits
+pub mod Theorems

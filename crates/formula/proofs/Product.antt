@@ -1,0 +1,50 @@
+-- productAbove is at least the product of the two factors' high ends, and at most 211 above the product of their low ends.
+-- Assumes nothing.
+use mathlib.Core.Logic.{⊎-elim}
+use mathlib.Core.Path.{_≡_, ap}
+use Prim.Native.Nat.{ℕ, zero, suc, _+_, _*_, _-_, _^_, _/_, min, _≤_, _<_}
+use native.Mathlib.Nat.{mul-le-mul, mul-le-mul-left, mul-le-mul-right, eq-zero-or-pos, min-le-left, min-le-right, min-eq-left, min-eq-right}
+use native.Mathlib.Omega.{arith}
+use Rattle.formula.specs.Fraction.{Fraction, over}
+use Rattle.formula.specs.FixedPoint.{decayBelow, decayAbove, shareAbove, productAbove}
+use Rattle.formula.proofs.SeriesLaws.{low-at-least-one}
+use Rattle.formula.proofs.Decay.{NotBelow}
+use Rattle.formula.proofs.StepBounds.{decay-below-at-most, share-above-at-most, product-above-at-most}
+use Rattle.formula.proofs.DecaySteps.{decay-not-below}
+
+-- e^(−q) is at most 1
+one-not-below : (s : ℕ) (q : Fraction) → NotBelow s s q
+one-not-below s q = record { some-k = 0; holds = mul-le-mul-left s (low-at-least-one q 0) }
+
+pub decay-above-not-below : (x : ℕ) → NotBelow (decayAbove x) (2 ^ 32) (over x (2 ^ 32))
+unfolding decayAbove
+decay-above-not-below x =
+    ⊎-elim
+    (λ e. rw (min-eq-left {n = decayBelow x + 10} {m = 2 ^ 32} (omega arith)) (decay-not-below x))
+    (λ l. rw (min-eq-right {n = 2 ^ 32} {m = decayBelow x + 10} (omega arith)) (one-not-below (2 ^ 32) (over x (2 ^ 32))))
+    (eq-zero-or-pos (decayBelow x + 10 - 2 ^ 32))
+
+-- P (s + 1) ≤ f h + 10 h + s + P, where f ≤ s, h and P are at most 2^27 and s = 2^32
+near : (f h P : ℕ) → f ≤ 2 ^ 32 → h ≤ 2 ^ 27 → P ≤ 2 ^ 27 → P * 2 ^ 32 ≤ (f + 10) * h + (2 ^ 32 - 1) → (P - 211) * suc (2 ^ 32) ≤ f * (h - 209)
+near f h P f-most h-most P-most e = ⊎-elim none some (eq-zero-or-pos (P - 211))
+  where
+    none : P - 211 ≡ 0 → (P - 211) * suc (2 ^ 32) ≤ f * (h - 209)
+    none z = rw z (omega arith)
+
+    some : 0 < P - 211 → (P - 211) * suc (2 ^ 32) ≤ f * (h - 209)
+    some l = core (P - 211) (h - 209) (omega arith) (omega (arith, mul-le-mul-right h f-most))
+      where
+        core : (Q i : ℕ) → Q + 211 ≡ P → i + 209 ≡ h → Q * suc (2 ^ 32) ≤ f * i
+        core Q i p q = omega (arith, ap (λ (t : ℕ). f * t) q)
+
+module _ (L x : ℕ) where
+  pub product-high : decayAbove L * shareAbove x ≤ productAbove L x * 2 ^ 32
+  unfolding productAbove
+  product-high = omega arith
+
+  rounded : productAbove L x * 2 ^ 32 ≤ (decayBelow L + 10) * shareAbove x + (2 ^ 32 - 1)
+  unfolding productAbove decayAbove
+  rounded = omega (arith, mul-le-mul-right (shareAbove x) (min-le-left (decayBelow L + 10) (2 ^ 32)))
+
+  pub product-low : (productAbove L x - 211) * suc (2 ^ 32) ≤ decayBelow L * (shareAbove x - 209)
+  product-low = near (decayBelow L) (shareAbove x) (productAbove L x) (decay-below-at-most L) (share-above-at-most x) (product-above-at-most L x) rounded

@@ -1,0 +1,195 @@
+-- Demand 3 of the raw weight: where K is at least 1, D is above K and A is below D, the number that the fixed-point steps arrive at passes
+-- and is at most 125,000. Assumes nothing.
+use mathlib.Core.Bool.{Bool, true, false}
+use mathlib.Core.Path.{_≡_, refl, subst}
+use Prim.Native.Nat.{ℕ, zero, suc, _+_, _*_, _-_, _^_, _/_, max, _≤_, _<_}
+use native.Mathlib.Nat.{mul-pos, mul-le-mul-left, mul-le-mul-right, mul-lt-mul-of-pos-left, zero-lt-suc, div-mul-le-self, lt-div-mul-add, lt-of-mul-lt-mul-right, le-of-suc-le-suc, ne-of-gt}
+use native.Mathlib.Omega.{arith}
+use borrow.Author.Tests.{le-leb, lt-leb, eq-eqb, ne-eqb}
+use Rattle.formula.specs.Fraction.{Fraction, over, plus, times, dividedBy, inverse, whole}
+use Rattle.formula.specs.Formula.{low, up, Difference, EndAtMost, EndAboveMinusTwo, Passes, WithinLimits, IsRawWeight}
+use Rattle.formula.specs.FixedPoint.{decayBelow, decayAbove, shareAbove, productAbove, units, formulaWeight, withinLimits, rawWeight}
+use Rattle.formula.specs.declared.RawWeight.{RawWeight}
+use Rattle.formula.specs.declared.RawWeight.the-variants.{Weight, NoThickness, OutsideLimits}
+use Rattle.formula.proofs.Limits.{limits-of-test, test-of-limits}
+use Rattle.formula.proofs.SeriesLaws.{low-top-pos, up-top-pos}
+use Rattle.formula.proofs.Decay.{NotAbove, NotBelow, not-above-smaller, not-below-larger}
+use Rattle.formula.proofs.DecaySteps.{decay-not-above}
+use Rattle.formula.proofs.Share.{share-high, share-low}
+use Rattle.formula.proofs.Ends.{GapAtMost, GapAtLeast, Gap, gap-at-some-k}
+use Rattle.formula.proofs.Product.{decay-above-not-below, product-high, product-low}
+use Rattle.formula.proofs.StepBounds.{product-above-at-most}
+
+-- 125,000 × (t + s × (1 / e − 1 / f)) / m, with s = b / 1,000,000
+abbrev endOf : ℕ → ℕ → ℕ → Fraction → Fraction → Difference
+endOf t m b e f = record {
+  gain = dividedBy (times (whole 125000) (plus (whole t) (times (over b 1000000) (inverse e)))) (whole m);
+  loss = dividedBy (times (whole 125000) (times (over b 1000000) (inverse f))) (whole m);
+}
+
+-- the two ends, with the products that the fractions' definitions make (the bottom of l / s and u / s is 1 × b)
+module _ (t m b v w P et eb ft fb : ℕ) where
+  multiplied-high : 2 ^ 27 * (1 * b) * (eb * ft) ≤ 2 ^ 27 * (1 * b) * (fb * et) + P * (v * 1000000) * (et * ft) → 125000 * (t * 2 ^ 27 + v * P) ≤ w * (m * 2 ^ 27) →
+      125000 * (t * (1000000 * (1 * et)) + b * (1 * eb) * 1) * 1 * (1 * (1 * (1000000 * (1 * ft)) * m)) ≤
+      (w * (1 * (1000000 * (1 * ft)) * m) + 125000 * (b * (1 * fb)) * 1 * 1) * (1 * (1 * (1000000 * (1 * et))) * m)
+  multiplied-high gap weight =
+      omega (arith, mul-le-mul-left (125000 * 1000000 * m) gap, mul-le-mul-left (1000000 * 1000000 * (et * ft) * m) weight)
+
+  multiplied-low : 0 < m → 0 < et → 0 < ft → P * (v * 1000000) * (et * ft) + 2 ^ 27 * (1 * b) * (fb * et) ≤ 2 ^ 27 * (1 * b) * (eb * ft) →
+      w * (m * 2 ^ 27) < 125000 * (t * 2 ^ 27 + v * P) + 2 * (m * 2 ^ 27) →
+      (w * (1 * (1000000 * (1 * ft)) * m) + 125000 * (b * (1 * fb)) * 1 * 1) * (1 * (1 * (1000000 * (1 * et))) * m * 1) <
+      (125000 * (t * (1000000 * (1 * et)) + b * (1 * eb) * 1) * 1 * 1 + 2 * (1 * (1 * (1000000 * (1 * et))) * m)) *
+      (1 * (1 * (1000000 * (1 * ft)) * m))
+  multiplied-low m-pos e-pos f-pos gap weight =
+      omega (
+        arith,
+        mul-le-mul-left (125000 * 1000000 * m) gap,
+        mul-lt-mul-of-pos-left weight (mul-pos (mul-pos e-pos f-pos) m-pos),
+      )
+
+-- from the gap between the two exponentials to the ends, for a tranche of thickness m, of which t lies below K and v above
+module _ (t m b v w P : ℕ) (e f : Fraction) where
+  end-at-most : GapAtMost (2 ^ 27) (1 * b) (v * 1000000) e f P → 125000 * (t * 2 ^ 27 + v * P) ≤ w * (m * 2 ^ 27) → EndAtMost (endOf t m b e f) w
+  end-at-most = multiplied-high t m b v w P (e .top) (e .bottom) (f .top) (f .bottom)
+
+  end-above : 0 < m → 0 < e .top → 0 < f .top → GapAtLeast (2 ^ 27) (1 * b) (v * 1000000) e f P →
+      w * (m * 2 ^ 27) < 125000 * (t * 2 ^ 27 + v * P) + 2 * (m * 2 ^ 27) → EndAboveMinusTwo (endOf t m b e f) w
+  end-above = multiplied-low t m b v w P (e .top) (e .bottom) (f .top) (f .bottom)
+
+-- a quotient rounded up, by adding the divisor less 1
+module _ (n d : ℕ) (d-pos : 0 < d) where
+  ceiling-at-least : n ≤ (n + (d - 1)) / d * d
+  ceiling-at-least = omega (arith, lt-div-mul-add {a = n + (d - 1)} d-pos)
+
+  ceiling-below : (n + (d - 1)) / d * d < n + d
+  ceiling-below = omega (arith, div-mul-le-self (n + (d - 1)) d)
+
+-- a quotient cut to whole units lies between itself and the next unit
+module _ (a b : ℕ) (b-pos : 0 < b) where
+  units-least : units a b * (1 * b) ≤ a * 2 ^ 32
+  unfolding units
+  units-least = omega (arith, div-mul-le-self (a * 2 ^ 32) b)
+
+  units-most : a * 2 ^ 32 < suc (units a b) * (1 * b)
+  unfolding units
+  units-most = omega (arith, lt-div-mul-add {a = a * 2 ^ 32} b-pos)
+
+module _ (A D K p : ℕ) (K-pos : 0 < K) (p-pos : 0 < p) (above : K < D) (thick : A < D) where
+  abbrev b : ℕ
+  b = p * K
+
+  abbrev v : ℕ
+  v = D - max A K
+
+  abbrev lower : ℕ
+  lower = (A - K) * 1000000
+
+  abbrev width : ℕ
+  width = v * 1000000
+
+  abbrev product : ℕ
+  product = productAbove (units lower b) (units width b)
+
+  abbrev w : ℕ
+  w = formulaWeight A D K p
+
+  b-pos : 0 < b
+  b-pos = mul-pos p-pos K-pos
+
+  bottom-pos : 0 < 1 * b
+  bottom-pos = omega (arith, b-pos)
+
+  upper-sum : lower + width ≡ (D - K) * 1000000
+  upper-sum = omega arith
+
+  thickness : (K - A) + v ≡ D - A
+  thickness = omega arith
+
+  gap : (k : ℕ) × Gap lower width (lower + width) (1 * b) product (product - 211) k
+  gap =
+      gap-at-some-k lower width (1 * b) bottom-pos product (product - 211) (omega arith)
+      (not-above-smaller (over lower (1 * b)) (over (suc (units lower b)) (2 ^ 32)) bottom-pos (omega arith) (omega (arith, units-most lower b b-pos)) (decay-not-above (units lower b)))
+      (not-below-larger (over (units lower b) (2 ^ 32)) (over lower (1 * b)) (omega arith) bottom-pos (units-least lower b b-pos) (decay-above-not-below (units lower b)))
+      (share-high width (1 * b) (omega arith) bottom-pos (units width b) (units-least width b b-pos) (units-most width b b-pos))
+      (share-low width (1 * b) (omega arith) bottom-pos (units width b) (units-least width b b-pos) (units-most width b b-pos))
+      (product-high (units lower b) (units width b))
+      (product-low (units lower b) (units width b))
+
+  -- the numerator of the weight, rounded up over the thickness
+  rounded-up : 125000 * ((K - A) * 2 ^ 27 + v * product) ≤ w * ((D - A) * 2 ^ 27)
+  unfolding formulaWeight
+  rounded-up = ceiling-at-least _ _ (omega arith)
+
+  rounded-close : w * ((D - A) * 2 ^ 27) < 125000 * ((K - A) * 2 ^ 27 + v * product) + (D - A) * 2 ^ 27
+  unfolding formulaWeight
+  rounded-close = ceiling-below _ _ (omega arith)
+
+  -- 211 × 125,000 is below 2^27
+  near : w * ((D - A) * 2 ^ 27) < 125000 * ((K - A) * 2 ^ 27 + v * (product - 211)) + 2 * ((D - A) * 2 ^ 27)
+  near = core product (product - 211) (D - A) (K - A) v (omega arith) (omega arith) rounded-close
+    where
+      core : (P Q m t v : ℕ) → P ≤ Q + 211 → t + v ≡ m → w * (m * 2 ^ 27) < 125000 * (t * 2 ^ 27 + v * P) + m * 2 ^ 27 →
+          w * (m * 2 ^ 27) < 125000 * (t * 2 ^ 27 + v * Q) + 2 * (m * 2 ^ 27)
+      core P Q m t v h e g = omega (arith, mul-le-mul-left v h)
+
+  upper-gap : Gap lower width ((D - K) * 1000000) (1 * b) product (product - 211) (gap .0)
+  upper-gap = subst (λ (u : ℕ). Gap lower width u (1 * b) product (product - 211) (gap .0)) upper-sum (gap .1)
+
+  -- The raw weight passes.
+  pub formula-passes : Passes A D K p w
+  formula-passes =
+      let k = gap .0 in
+      record {
+        k = k;
+        counts = record { lower = upper-gap .admitted-l; upper = upper-gap .admitted-u };
+        upper = end-at-most (K - A) (D - A) b v w product (low (over lower (1 * b)) k) (up (over ((D - K) * 1000000) (1 * b)) k) (upper-gap .high) rounded-up;
+        lower = end-above (K - A) (D - A) b v w (product - 211) (up (over lower (1 * b)) k) (low (over ((D - K) * 1000000) (1 * b)) k) (omega arith)
+            (up-top-pos (over lower (1 * b)) bottom-pos k) (low-top-pos (over ((D - K) * 1000000) (1 * b)) bottom-pos k) (upper-gap .least) near;
+      }
+
+  -- It is at most 125,000, since the product is at most 2^27.
+  pub formula-at-most : w ≤ 125000
+  formula-at-most = core (K - A) v (D - A) product thickness (omega arith) (product-above-at-most (units lower b) (units width b)) rounded-close
+    where
+      core : (t v m P : ℕ) → t + v ≡ m → 0 < m → P ≤ 2 ^ 27 → w * (m * 2 ^ 27) < 125000 * (t * 2 ^ 27 + v * P) + m * 2 ^ 27 → w ≤ 125000
+      core t v m P e m-pos P-most g =
+          le-of-suc-le-suc (lt-of-mul-lt-mul-right (m * 2 ^ 27) {m = w} {n = 125001} (omega (arith, mul-le-mul-left v P-most)))
+
+-- ---- the raw weight on all inputs
+
+module _ (A D K p : ℕ) where
+  outside-limits : (t : Bool) → withinLimits A D K p ≡ t → (WithinLimits A D K p → ⊥) → rawWeight A D K p ≡ OutsideLimits
+  unfolding rawWeight
+  outside-limits true e h = absurd (h (limits-of-test A D K p e))
+  outside-limits false e h = simp e
+
+  within-charge : WithinLimits A D K p → D ≤ K → rawWeight A D K p ≡ Weight 125000
+  unfolding rawWeight
+  within-charge l h = simp (test-of-limits A D K p l, le-leb D K h)
+
+  no-thickness : WithinLimits A D K p → K < D → D ≤ A → rawWeight A D K p ≡ NoThickness
+  unfolding rawWeight
+  no-thickness l h t = simp (test-of-limits A D K p l, lt-leb D K h, le-leb D A t)
+
+  no-charge : WithinLimits A D K p → K < D → A < D → K ≡ 0 → rawWeight A D K p ≡ Weight 0
+  unfolding rawWeight
+  no-charge l h t z = simp (test-of-limits A D K p l, lt-leb D K h, lt-leb D A t, eq-eqb K 0 z)
+
+  by-formula : WithinLimits A D K p → K < D → A < D → 1 ≤ K → rawWeight A D K p ≡ Weight (formulaWeight A D K p)
+  unfolding rawWeight
+  by-formula l h t one = simp (test-of-limits A D K p l, lt-leb D K h, lt-leb D A t, ne-eqb K 0 (ne-of-gt one))
+
+  -- rawWeight is the raw weight of 01, on all inputs; where 01 leaves it open it keeps demand 3.
+  pub raw-weight-is : IsRawWeight A D K p (rawWeight A D K p)
+  raw-weight-is = record {
+    outside = outside-limits (withinLimits A D K p) refl;
+    within-charge = within-charge;
+    no-thickness = no-thickness;
+    no-charge = no-charge;
+    formula = λ l h t one. record {
+      weight = formulaWeight A D K p;
+      answered = by-formula l h t one;
+      passes = formula-passes A D K p one (omega (arith, l .parameter-least)) h t;
+      at-most = formula-at-most A D K p one (omega (arith, l .parameter-least)) h t;
+    };
+  }

@@ -1,0 +1,38 @@
+-- `decay_entry`: the source's table agrees with the rule of the entries at each place, by one computed test, and past its end the rule
+-- gives 0. Assumes nothing.
+use borrow.Author.Needs.{needs}
+use borrow.Table.Row.{get}
+use mathlib.Core.Path.{_≡_, sym, subst}
+use Prim.Native.Nat.{ℕ}
+use Rattle.formula.specs.Formula.{low, factorial, DecayEntry}
+use Rattle.formula.specs.FixedPoint.{entry}
+use Rattle.formula.proofs.Table.{entry-is}
+use Rattle.formula.proofs.StepBounds.{entry-zero}
+use Rattle.formula.proofs.Entries.{whole-part}
+use Rattle.formula.proofs.decay_entry.Statement.{statement}
+use Rattle.formula.proofs.decay_entry.Tie as tie
+use Rattle.formula.proofs.decay_entry.Reads as reads
+use Rattle.formula.proofs.decay_entry.Lts as lts
+
+-- whatever equals the rule's entry is the whole part
+kept : (n r : ℕ) → r ≡ entry n 16 → (r ≡ entry n 16) × DecayEntry n r
+kept n r e = (e, subst (DecayEntry n) (sym e) (whole-part n))
+
+mul-result : tie.Need-mul-result
+mul-result c = search needs
+
+array-read-result : tie.Need-array-read-result
+array-read-result c = search needs
+
+-- the list is the source's own, as it stands in the function's local
+returns : tie.Need-returns
+unfolding low entry factorial
+returns c =
+    let table = get 4 (lts.T5 .locals) (lts.m3 reads.Pre reads.Post (c .before)) in
+    kept (c .before .args .n) _ (entry-is (λ i. entry i 16) table 355 tt (c .before .args .n) (c .if1 .taken))
+
+returns-2 : tie.Need-returns-2
+returns-2 c = kept (c .before .args .n) 0 (sym (entry-zero (c .before .args .n) (c .if1 .left)))
+
+pub decay-entry-spec : {M : Type 1} → statement M
+decay-entry-spec = tie.close (tie.spec mul-result array-read-result returns returns-2)

@@ -1,0 +1,79 @@
+-- `raw_weight`: each return by the tests that led there, and the formula is called within its limits. Assumes nothing.
+use mathlib.Core.Bool.{true}
+use mathlib.Core.Path.{_≡_, _∙_, subst, sym}
+use Prim.Native.Nat.{ℕ}
+use native.Mathlib.Omega.{arith}
+use borrow.Author.Needs.{needs}
+use borrow.Author.Tests.{not-true, not-false, le-leb, lt-leb, eq-eqb, ne-eqb}
+use Rattle.formula.specs.Formula.{IsRawWeight}
+use Rattle.formula.specs.FixedPoint.{withinLimits, rawWeight}
+use Rattle.formula.specs.declared.RawWeight.{RawWeight}
+use Rattle.formula.proofs.Limits.{limits-of-test}
+use Rattle.formula.proofs.Theorems.{raw-weight-is}
+use Rattle.formula.proofs.raw_weight.Statement.{statement}
+use Rattle.formula.proofs.raw_weight.Tie as tie
+
+-- whatever equals rawWeight is the raw weight
+kept : {A D K p : ℕ} {r : RawWeight} → r ≡ rawWeight A D K p → (r ≡ rawWeight A D K p) × IsRawWeight A D K p r
+kept {A} {D} {K} {p} e = (e, subst (IsRawWeight A D K p) (sym e) (raw-weight-is A D K p))
+
+-- behind the first test
+inside : (c : tie.Else1) →
+    let x = c .before .before .args in
+    withinLimits (x .a) (x .d) (x .k) (x .p) ≡ true
+inside c = sym (c .before .within-limits .ensures) ∙ not-false (c .before .within-limits .result) (c .if1 .left)
+
+within-limits-requires : tie.Need-within-limits-requires
+within-limits-requires c κs = search needs
+
+returns : tie.Need-returns
+unfolding rawWeight
+returns c = kept (simp (← c .before .within-limits .ensures, not-true (c .before .within-limits .result) (c .if1 .taken)))
+
+returns-2 : tie.Need-returns-2
+unfolding rawWeight
+returns-2 c = kept (simp (inside (c .before), le-leb _ _ (c .if2 .taken)))
+
+returns-3 : tie.Need-returns-3
+unfolding rawWeight
+returns-3 c = kept (simp (inside (c .before .before), lt-leb _ _ (c .before .if2 .left), le-leb _ _ (c .if3 .taken)))
+
+returns-4 : tie.Need-returns-4
+unfolding rawWeight
+returns-4 c =
+    kept
+    (simp (
+      inside (c .before .before .before),
+      lt-leb _ _ (c .before .before .if2 .left),
+      lt-leb _ _ (c .before .if3 .left),
+      eq-eqb _ _ (c .if4 .taken),
+    ))
+
+formula-weight-requires : tie.Need-formula-weight-requires
+formula-weight-requires c κs =
+    let x = c .before .before .before .before .before .args in
+    omega (arith, limits-of-test (x .a) (x .d) (x .k) (x .p) (inside (c .before .before .before)))
+
+returns-5 : tie.Need-returns-5
+unfolding rawWeight
+returns-5 c =
+    kept
+    (simp (
+      inside (c .before .before .before .before),
+      lt-leb _ _ (c .before .before .before .if2 .left),
+      lt-leb _ _ (c .before .before .if3 .left),
+      ne-eqb _ _ (c .before .if4 .left),
+      c .formula-weight .ensures,
+    ))
+
+pub raw-weight-spec : {M : Type 1} → statement M
+raw-weight-spec =
+    tie.close
+    (tie.spec
+    within-limits-requires
+    returns
+    returns-2
+    returns-3
+    returns-4
+    formula-weight-requires
+    returns-5)

@@ -1,0 +1,61 @@
+-- The steps by which the raw weight is computed in 64-bit words, as one function of A, D, K and p. Nobody needs to believe this file: the law
+-- `raw-weight-is` (proofs/Theorems.antt) says that rawWeight is a raw weight in the sense of Formula.antt, on all inputs.
+-- An exponent x or L is counted in units of 2^−32, cut to whole units.
+use mathlib.Core.Bool.{Bool, cond, _&&_}
+use Prim.Native.Nat.{ℕ, _+_, _*_, _-_, _/_, _%_, _^_, min, max}
+use lib.Dec.{leb, ltb, eqb}
+use Rattle.formula.specs.Fraction.{Fraction, over}
+use Rattle.formula.specs.Formula.{low}
+use Rattle.formula.specs.declared.RawWeight.{RawWeight}
+use Rattle.formula.specs.declared.RawWeight.the-variants.{Weight, NoThickness, OutsideLimits}
+
+-- the whole part of 2^32 / Low(43) of n / d: an entry of the decay table (d = 16) and of the fine table (d = 1024)
+unfoldable pub entry : ℕ → ℕ → ℕ
+entry n d = 2 ^ 32 * low (over n d) 43 .bottom / low (over n d) 43 .top
+
+-- the fine entry times 1 − r + r² / 2, with r = j / 2^32 below 2^−10, less 4 so that it stays below e^−((m / 1024) + r)
+unfoldable pub fineDecay : ℕ → ℕ → ℕ
+fineDecay m j = entry m 1024 - entry m 1024 * (j - j * j / 2 ^ 33) / 2 ^ 32 - 4
+
+-- at most 2^32 × e^(−x), and at most 10 below it
+unfoldable pub decayBelow : ℕ → ℕ
+decayBelow x = entry (x / 2 ^ 28) 16 * fineDecay (x % 2 ^ 28 / 2 ^ 22) (x % 2 ^ 28 % 2 ^ 22) / 2 ^ 32
+
+-- at least 2^32 × e^(−x)
+unfoldable pub decayAbove : ℕ → ℕ
+decayAbove x = min (decayBelow x + 10) (2 ^ 32)
+
+-- at least 2^27 × (1 − e^(−x)) / x, and at most 2^27
+unfoldable pub shareAbove : ℕ → ℕ
+shareAbove x =
+    min (2 ^ 27)
+    (cond (ltb x (2 ^ 23)) (2 ^ 27 + 171 - x / 64) ((2 ^ 32 + 1 - decayBelow x) * 2 ^ 27 / x + 1))
+
+-- the product of the two, at least 2^27 × e^(−L) × (1 − e^(−x)) / x, and at most 2^27
+unfoldable pub productAbove : ℕ → ℕ → ℕ
+productAbove L x = (decayAbove L * shareAbove x + (2 ^ 32 - 1)) / 2 ^ 32
+
+-- a quotient in units of 2^−32, cut to whole units
+unfoldable pub units : ℕ → ℕ → ℕ
+units a b = a * 2 ^ 32 / b
+
+-- 125,000 × (max(K − A, 0) + v × product) / (D − A), rounded up, where v = D − max(A, K) and the product is in units of 2^−27
+unfoldable pub formulaWeight : ℕ → ℕ → ℕ → ℕ → ℕ
+formulaWeight A D K p =
+    let v = D - max A K in
+    let product = productAbove (units ((A - K) * 1000000) (p * K)) (units (v * 1000000) (p * K)) in
+    (125000 * ((K - A) * 2 ^ 27 + v * product) + ((D - A) * 2 ^ 27 - 1)) / ((D - A) * 2 ^ 27)
+
+-- whether the inputs are within the limits of Formula.antt
+abbrev pub withinLimits : ℕ → ℕ → ℕ → ℕ → Bool
+withinLimits A D K p = leb A 1000000 && leb D 1000000 && leb K 1000000 && leb 300000 p && ltb p 5000000
+
+-- the raw weight, as one function of its four inputs
+unfoldable pub rawWeight : ℕ → ℕ → ℕ → ℕ → RawWeight
+rawWeight A D K p =
+    cond (withinLimits A D K p)
+    (cond (leb D K) (Weight 125000)
+    (cond (leb D A) NoThickness
+    (cond (eqb K 0) (Weight 0)
+    (Weight (formulaWeight A D K p)))))
+    OutsideLimits

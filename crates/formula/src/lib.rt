@@ -1,0 +1,188 @@
+ghost use mathlib.Core.Path.{_≡_};
+ghost use Prim.Native.Nat.{_+_, _*_, _-_, _^_, _/_, _≤_, _<_, min, max};
+ghost use Rattle.formula.specs.Formula.{DecayEntry, IsRawWeight};
+ghost use Rattle.formula.specs.FixedPoint.{entry, fineDecay, decayBelow, decayAbove, shareAbove, productAbove, units, formulaWeight, withinLimits, rawWeight};
+
+mod tables;
+
+use tables::DECAY;
+use tables::FINE_DECAY;
+
+// 1 in the units of exponents and decays, 2^−32.
+const ONE: u64 = 4294967296;
+
+// 1 in the units of shares, 2^−27.
+const SHARE_ONE: u64 = 134217728;
+
+// 1/16, the step of the decay table, in units of 2^−32.
+const STEP: u64 = 268435456;
+
+// 1/1024, the step of the fine table, in units of 2^−32.
+const FINE_STEP: u64 = 4194304;
+
+// 1/512 in units of 2^−32: an exponent below it is small.
+const SMALL: u64 = 8388608;
+
+// 1 in the units of the points, the charge and the parameter, millionths.
+const MILLION: u64 = 1000000;
+
+// The decay table's entry; 0 from 355 on.
+pub fn decay_entry(n: u64) -> u64
+    ensures { λ r. ⌜ r ≡ entry n 16 ⌝ }
+    ensures { λ r. ⌜ DecayEntry n r ⌝ }
+{
+    if n < 355 { DECAY[n as usize] } else { 0 }
+}
+
+// The fine table's entry. It serves exponents between two entries of the decay table.
+fn fine_entry(m: u64) -> u64
+    requires { ⌜ m < 64 ⌝ }
+    ensures { λ r. ⌜ r ≡ entry m 1024 ⌝ }
+{
+    FINE_DECAY[m as usize]
+}
+
+// e^−(m/1024 + r) from below, with r = j/2^32: the fine entry times 1 − r + r²/2, less 4 so that rounding never takes it above.
+fn fine_decay(m: u64, j: u64) -> u64
+    requires { ⌜ (m < 64) × (j < 2 ^ 22) ⌝ }
+    ensures { λ r. ⌜ r ≡ fineDecay m j ⌝ }
+{
+    let t = fine_entry(m);
+    t - t * (j - j * j / (2 * ONE)) / ONE - 4
+}
+
+// e^(−x) from below: x is cut into sixteenths, 1024ths and a rest, which pick an entry of each table and correct the fine one.
+fn decay_below(x: u64) -> u64
+    ensures { λ r. ⌜ r ≡ decayBelow x ⌝ }
+{
+    let rest = x % STEP;
+    let fine = fine_decay(rest / FINE_STEP, rest % FINE_STEP);
+    decay_entry(x / STEP) * fine / ONE
+}
+
+// The smaller of two numbers: it keeps a bound from above within 1.
+fn smaller(a: u64, b: u64) -> u64
+    ensures { λ r. ⌜ r ≡ min a b ⌝ }
+{
+    if a < b { a } else { b }
+}
+
+// The larger of two numbers: where a tranche's part above both its lower point and the charge starts.
+fn larger(a: u64, b: u64) -> u64
+    ensures { λ r. ⌜ r ≡ max a b ⌝ }
+{
+    if a < b { b } else { a }
+}
+
+// e^(−x) from above: decay_below with what it may be short of, 10, added back, and at most 1.
+fn decay_above(x: u64) -> u64
+    ensures { λ r. ⌜ r ≡ decayAbove x ⌝ }
+{
+    smaller(decay_below(x) + 10, ONE)
+}
+
+// (1 − e^(−x)) / x from above, at most 1, in units of 2^−27. For a small x, where the quotient is too coarse (or x is 0), it is 1 − x/2 and
+// a little more.
+fn share_above(x: u64) -> u64
+    ensures { λ r. ⌜ r ≡ shareAbove x ⌝ }
+{
+    if x < SMALL {
+        smaller(SHARE_ONE, SHARE_ONE + 171 - x / 64)
+    } else {
+        smaller(SHARE_ONE, (ONE + 1 - decay_below(x)) * SHARE_ONE / x + 1)
+    }
+}
+
+// a / b in units of 2^−32, cut to whole units. a × 2^32 may not fit, so it is a long division by two digits of 16 bits.
+fn units(a: u64, b: u64) -> u64
+    requires { ⌜ (a ≤ 1000000000000) × (300000 ≤ b) × (b ≤ 5000000000000) ⌝ }
+    ensures { λ r. ⌜ r ≡ units a b ⌝ }
+{
+    let high = a * 65536;
+    let rest = high % b;
+    high / b * 65536 + rest * 65536 / b
+}
+
+// e^(−l) × (1 − e^(−x)) / x from above, rounded up, in units of 2^−27.
+fn product_above(l: u64, x: u64) -> u64
+    ensures { λ r. ⌜ r ≡ productAbove l x ⌝ }
+{
+    (decay_above(l) * share_above(x) + (ONE - 1)) / ONE
+}
+
+// What a has above b: max(a − b, 0).
+fn excess(a: u64, b: u64) -> u64
+    ensures { λ r. ⌜ r ≡ a - b ⌝ }
+{
+    if a < b { 0 } else { a - b }
+}
+
+// x / y, rounded up, so that a weight is never too low.
+fn rounded_up(x: u64, y: u64) -> u64
+    requires { ⌜ (0 < y) × (x + y ≤ 2 ^ 64) ⌝ }
+    ensures { λ r. ⌜ r ≡ (x + (y - 1)) / y ⌝ }
+{
+    (x + (y - 1)) / y
+}
+
+// The formula's weight, 125,000 × (max(k − a, 0) + v × product) / (d − a), rounded up, where v is the tranche's part above both a and k.
+fn formula_weight(a: u64, d: u64, k: u64, p: u64) -> u64
+    requires { ⌜ (a < d) × (k < d) × (1 ≤ k) × (d ≤ 1000000) × (300000 ≤ p) × (p < 5000000) ⌝ }
+    ensures { λ r. ⌜ r ≡ formulaWeight a d k p ⌝ }
+{
+    let v = d - larger(a, k);
+    let s = p * k;
+    let l = units(excess(a, k) * MILLION, s);
+    let x = units(v * MILLION, s);
+    let product = product_above(l, x);
+    rounded_up(
+        125000 * (excess(k, a) * SHARE_ONE + v * product),
+        (d - a) * SHARE_ONE,
+    )
+}
+
+// Whether the points and the charge are at most 1, and the parameter is from 0.3 to below 5.
+fn within_limits(a: u64, d: u64, k: u64, p: u64) -> bool
+    ensures { λ r. ⌜ r ≡ withinLimits a d k p ⌝ }
+{
+    if a > MILLION {
+        return false;
+    }
+    if d > MILLION {
+        return false;
+    }
+    if k > MILLION {
+        return false;
+    }
+    if p < 300000 {
+        return false;
+    }
+    p < 5000000
+}
+
+// A raw weight, or why there is none.
+pub enum RawWeight {
+    Weight(u64),
+    NoThickness,
+    OutsideLimits,
+}
+
+// The raw weight of a tranche from a to d, for the pool charge k and the parameter p, all in millionths.
+pub fn raw_weight(a: u64, d: u64, k: u64, p: u64) -> RawWeight
+    ensures { λ r. ⌜ r ≡ rawWeight a d k p ⌝ }
+    ensures { λ r. ⌜ IsRawWeight a d k p r ⌝ }
+{
+    if !within_limits(a, d, k, p) {
+        return RawWeight::OutsideLimits;
+    }
+    if d <= k {
+        return RawWeight::Weight(125000);
+    }
+    if d <= a {
+        return RawWeight::NoThickness;
+    }
+    if k == 0 {
+        return RawWeight::Weight(0);
+    }
+    RawWeight::Weight(formula_weight(a, d, k, p))
+}
