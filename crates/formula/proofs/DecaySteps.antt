@@ -1,10 +1,10 @@
--- decayBelow x is at most 2^32 × e^(−x), also for an exponent up to one unit larger, and at most 10 below it. Assumes nothing.
+-- decayBelow x is at most 2^32 × e^(−x), also for an exponent up to one unit larger, and at most decayDistance below it. Assumes nothing.
 use mathlib.Core.Path.{_≡_, ap}
 use Prim.Native.Nat.{ℕ, zero, suc, _+_, _*_, _-_, _^_, _/_, _%_, _≤_, _<_}
 use native.Mathlib.Nat.{le-trans, mul-le-mul, mul-le-mul-left, mul-le-mul-right, mul-pos, div-add-mod', mod-lt, sub-add-cancel}
 use native.Mathlib.Omega.{arith}
 use Rattle.formula.specs.Fraction.{Fraction, over}
-use Rattle.formula.specs.FixedPoint.{entry, fineDecay, decayBelow}
+use Rattle.formula.specs.FixedPoint.{decayDistance, entry, fineDecay, decayBelow}
 use Rattle.formula.proofs.Decay.{NotAbove, NotBelow, not-above-weaker, not-below-weaker, not-above-smaller, not-below-larger, not-above-product, not-below-product}
 use Rattle.formula.proofs.Rest.{second-equation, second-not-below, third, third-equation, third-not-above}
 use Rattle.formula.proofs.Entries.{entry-not-above, entry-not-below, fine-entry-not-above}
@@ -132,11 +132,11 @@ module _ (x : ℕ) where
       (not-above-smaller (over (n * 2 ^ 28) (2 ^ 32)) (over n 16) (omega arith) (omega arith) (omega arith) (entry-not-above n))
       (fine-not-above m j m-below j-below)))
 
-  pub decay-not-below : NotBelow (decayBelow x + 10) (2 ^ 32) (over x (2 ^ 32))
+  pub decay-not-below : NotBelow (decayBelow x + decayDistance) (2 ^ 32) (over x (2 ^ 32))
   unfolding decayBelow
   decay-not-below =
       not-below-larger (over (n * 2 ^ 28 + (m * 2 ^ 22 + j)) (2 ^ 32)) (over x (2 ^ 32)) (omega arith) (omega arith) (omega arith)
-      (not-below-rescaled (decayBelow x + 10) (2 ^ 32) (2 ^ 32) (omega arith)
+      (not-below-rescaled (decayBelow x + decayDistance) (2 ^ 32) (2 ^ 32) (omega arith)
       (omega (arith, entry-at-most n 16, entry-at-most m 1024, fine-sum m j m-below j-below))
       (not-below-product (n * 2 ^ 28) (m * 2 ^ 22 + j) (2 ^ 32) (omega arith)
       (not-below-larger (over n 16) (over (n * 2 ^ 28) (2 ^ 32)) (omega arith) (omega arith) (omega arith) (entry-not-below n 16 (omega arith)))

@@ -1,4 +1,4 @@
--- productAbove is at least the product of the two factors' high ends, and at most 211 above the product of their low ends.
+-- productAbove is at least the product of the two factors' high ends, and at most productDistance above the product of their low ends.
 -- Assumes nothing.
 use mathlib.Core.Logic.{⊎-elim}
 use mathlib.Core.Path.{_≡_, ap}
@@ -6,7 +6,7 @@ use Prim.Native.Nat.{ℕ, zero, suc, _+_, _*_, _-_, _^_, _/_, min, _≤_, _<_}
 use native.Mathlib.Nat.{mul-le-mul, mul-le-mul-left, mul-le-mul-right, eq-zero-or-pos, min-le-left, min-le-right, min-eq-left, min-eq-right}
 use native.Mathlib.Omega.{arith}
 use Rattle.formula.specs.Fraction.{Fraction, over}
-use Rattle.formula.specs.FixedPoint.{decayBelow, decayAbove, shareAbove, productAbove}
+use Rattle.formula.specs.FixedPoint.{decayDistance, shareDistance, productDistance, decayBelow, decayAbove, shareAbove, productAbove}
 use Rattle.formula.proofs.SeriesLaws.{low-at-least-one}
 use Rattle.formula.proofs.Decay.{NotBelow}
 use Rattle.formula.proofs.StepBounds.{decay-below-at-most, share-above-at-most, product-above-at-most}
@@ -20,21 +20,21 @@ pub decay-above-not-below : (x : ℕ) → NotBelow (decayAbove x) (2 ^ 32) (over
 unfolding decayAbove
 decay-above-not-below x =
     ⊎-elim
-    (λ e. rw (min-eq-left {n = decayBelow x + 10} {m = 2 ^ 32} (omega arith)) (decay-not-below x))
-    (λ l. rw (min-eq-right {n = 2 ^ 32} {m = decayBelow x + 10} (omega arith)) (one-not-below (2 ^ 32) (over x (2 ^ 32))))
-    (eq-zero-or-pos (decayBelow x + 10 - 2 ^ 32))
+    (λ e. rw (min-eq-left {n = decayBelow x + decayDistance} {m = 2 ^ 32} (omega arith)) (decay-not-below x))
+    (λ l. rw (min-eq-right {n = 2 ^ 32} {m = decayBelow x + decayDistance} (omega arith)) (one-not-below (2 ^ 32) (over x (2 ^ 32))))
+    (eq-zero-or-pos (decayBelow x + decayDistance - 2 ^ 32))
 
--- P (s + 1) ≤ f h + 10 h + s + P, where f ≤ s, h and P are at most 2^27 and s = 2^32
-near : (f h P : ℕ) → f ≤ 2 ^ 32 → h ≤ 2 ^ 27 → P ≤ 2 ^ 27 → P * 2 ^ 32 ≤ (f + 10) * h + (2 ^ 32 - 1) → (P - 211) * suc (2 ^ 32) ≤ f * (h - 209)
-near f h P f-most h-most P-most e = ⊎-elim none some (eq-zero-or-pos (P - 211))
+-- P (s + 1) ≤ f h + decayDistance × h + s + P, where f ≤ s, h and P are at most 2^27 and s = 2^32
+near : (f h P : ℕ) → f ≤ 2 ^ 32 → h ≤ 2 ^ 27 → P ≤ 2 ^ 27 → P * 2 ^ 32 ≤ (f + decayDistance) * h + (2 ^ 32 - 1) → (P - productDistance) * suc (2 ^ 32) ≤ f * (h - shareDistance)
+near f h P f-most h-most P-most e = ⊎-elim none some (eq-zero-or-pos (P - productDistance))
   where
-    none : P - 211 ≡ 0 → (P - 211) * suc (2 ^ 32) ≤ f * (h - 209)
+    none : P - productDistance ≡ 0 → (P - productDistance) * suc (2 ^ 32) ≤ f * (h - shareDistance)
     none z = rw z (omega arith)
 
-    some : 0 < P - 211 → (P - 211) * suc (2 ^ 32) ≤ f * (h - 209)
-    some l = core (P - 211) (h - 209) (omega arith) (omega (arith, mul-le-mul-right h f-most))
+    some : 0 < P - productDistance → (P - productDistance) * suc (2 ^ 32) ≤ f * (h - shareDistance)
+    some l = core (P - productDistance) (h - shareDistance) (omega arith) (omega (arith, mul-le-mul-right h f-most))
       where
-        core : (Q i : ℕ) → Q + 211 ≡ P → i + 209 ≡ h → Q * suc (2 ^ 32) ≤ f * i
+        core : (Q i : ℕ) → Q + productDistance ≡ P → i + shareDistance ≡ h → Q * suc (2 ^ 32) ≤ f * i
         core Q i p q = omega (arith, ap (λ (t : ℕ). f * t) q)
 
 module _ (L x : ℕ) where
@@ -42,9 +42,9 @@ module _ (L x : ℕ) where
   unfolding productAbove
   product-high = omega arith
 
-  rounded : productAbove L x * 2 ^ 32 ≤ (decayBelow L + 10) * shareAbove x + (2 ^ 32 - 1)
+  rounded : productAbove L x * 2 ^ 32 ≤ (decayBelow L + decayDistance) * shareAbove x + (2 ^ 32 - 1)
   unfolding productAbove decayAbove
-  rounded = omega (arith, mul-le-mul-right (shareAbove x) (min-le-left (decayBelow L + 10) (2 ^ 32)))
+  rounded = omega (arith, mul-le-mul-right (shareAbove x) (min-le-left (decayBelow L + decayDistance) (2 ^ 32)))
 
-  pub product-low : (productAbove L x - 211) * suc (2 ^ 32) ≤ decayBelow L * (shareAbove x - 209)
+  pub product-low : (productAbove L x - productDistance) * suc (2 ^ 32) ≤ decayBelow L * (shareAbove x - shareDistance)
   product-low = near (decayBelow L) (shareAbove x) (productAbove L x) (decay-below-at-most L) (share-above-at-most x) (product-above-at-most L x) rounded

@@ -1,4 +1,4 @@
--- shareAbove x is at least 2^27 × (1 − e^(−x)) / x, and at most 209 above it. Assumes nothing.
+-- shareAbove x is at least 2^27 × (1 − e^(−x)) / x, and at most shareDistance above it. Assumes nothing.
 use mathlib.Core.Logic.{⊎-elim}
 use mathlib.Core.Path.{_≡_, ap, refl, sym, subst}
 use Prim.Native.Nat.{ℕ, zero, suc, _+_, _*_, _-_, _^_, _/_, _%_, min, _≤_, _<_}
@@ -8,7 +8,7 @@ use lib.Dec.{ltb}
 use borrow.Author.Tests.{lt-ltb, le-ltb}
 use Rattle.formula.specs.Fraction.{Fraction, over}
 use Rattle.formula.specs.Formula.{factorial, low}
-use Rattle.formula.specs.FixedPoint.{decayBelow, shareAbove}
+use Rattle.formula.specs.FixedPoint.{decayDistance, shareDistance, decayBelow, shareOfSmall, shareOfLarge, shareAbove}
 use Rattle.formula.proofs.Decay.{NotAbove, NotBelow, not-above-weaker, not-below-weaker, not-above-smaller, not-below-larger}
 use Rattle.formula.proofs.Rest.{second, second-equation, second-not-below, third, third-equation, third-not-above}
 use Rattle.formula.proofs.DecaySteps.{decay-not-above, decay-not-below}
@@ -72,19 +72,19 @@ module _ (a b X : ℕ) where
       2 ^ 32 * (h * a) + c * (2 ^ 27 * b) ≤ 2 ^ 32 * (2 ^ 27 * b)
   from-quotient c h most q = omega (arith, mul-le-mul-left {m = a * 2 ^ 32} {n = suc X * b} h (omega arith), mul-le-mul-right b q)
 
--- 209 covers the decay's distance and what the quotient by X in place of X + 1 adds
-under-quotient : (X c q h : ℕ) → 2 ^ 23 ≤ X → h ≤ 2 ^ 27 → h ≤ q + 1 → c + 11 ≤ 2 ^ 32 → q * X + c * 2 ^ 27 ≤ (2 ^ 32 + 1) * 2 ^ 27 →
-    (h - 209) * suc X + suc (c + 10) * 2 ^ 27 ≤ 2 ^ 32 * 2 ^ 27
-under-quotient X c q h large one l small e = ⊎-elim none some (eq-zero-or-pos (h - 209))
+-- shareDistance covers the decay's distance and what the quotient by X in place of X + 1 adds
+under-quotient : (X c q h : ℕ) → 2 ^ 23 ≤ X → h ≤ 2 ^ 27 → h ≤ q + 1 → suc (c + decayDistance) ≤ 2 ^ 32 → q * X + c * 2 ^ 27 ≤ (2 ^ 32 + 1) * 2 ^ 27 →
+    (h - shareDistance) * suc X + suc (c + decayDistance) * 2 ^ 27 ≤ 2 ^ 32 * 2 ^ 27
+under-quotient X c q h large one l small e = ⊎-elim none some (eq-zero-or-pos (h - shareDistance))
   where
-    none : h - 209 ≡ 0 → (h - 209) * suc X + suc (c + 10) * 2 ^ 27 ≤ 2 ^ 32 * 2 ^ 27
+    none : h - shareDistance ≡ 0 → (h - shareDistance) * suc X + suc (c + decayDistance) * 2 ^ 27 ≤ 2 ^ 32 * 2 ^ 27
     none z = rw z (omega arith)
 
-    core : (g : ℕ) → g + 209 ≡ h → g * suc X + suc (c + 10) * 2 ^ 27 ≤ 2 ^ 32 * 2 ^ 27
-    core g f = omega (arith, mul-le-mul-right {m = g + 208} {n = q} X (omega arith))
+    core : (g : ℕ) → g + shareDistance ≡ h → g * suc X + suc (c + decayDistance) * 2 ^ 27 ≤ 2 ^ 32 * 2 ^ 27
+    core g f = omega (arith, mul-le-mul-right {m = g + (shareDistance - 1)} {n = q} X (omega arith))
 
-    some : 0 < h - 209 → (h - 209) * suc X + suc (c + 10) * 2 ^ 27 ≤ 2 ^ 32 * 2 ^ 27
-    some p = core (h - 209) (omega arith)
+    some : 0 < h - shareDistance → (h - shareDistance) * suc X + suc (c + decayDistance) * 2 ^ 27 ≤ 2 ^ 32 * 2 ^ 27
+    some p = core (h - shareDistance) (omega arith)
 
 module _ (a b : ℕ) (a-pos : 0 < a) (b-pos : 0 < b) where
   -- (1 − e^(−x)) / x is at most 1
@@ -128,14 +128,15 @@ module _ (a b : ℕ) (a-pos : 0 < a) (b-pos : 0 < b) where
       slope-high : 2 ^ 26 * a < suc g * b
       slope-high = omega (arith, mul-le-mul-right {m = suc X} {n = 64 * suc g} b (omega arith))
 
-      small-high : ShareHigh a b (2 ^ 27 + 171 - g)
+      small-high : ShareHigh a b (shareOfSmall X)
+      unfolding shareOfSmall
       small-high = record {
         c = 2 ^ 27 * third a b;
         s = 2 ^ 27 * (6 * (b * (b * b)));
         bound = not-above-weaker (2 ^ 27 * third a b) (2 ^ 27 * (6 * (b * (b * b)))) (omega (arith, mul-pos b-pos (mul-pos b-pos b-pos)))
             (scale-up (2 ^ 27) (third a b) (6 * (b * (b * b)))) (third-not-above a b b-pos below);
-        holds = by-third a b (2 ^ 27) (2 ^ 27 + 171 - g) (third a b) a-pos
-            (small-third a b g (2 ^ 27 + 171 - g) b-pos ninth slope-low (omega arith)) (third-equation a b below);
+        holds = by-third a b (2 ^ 27) (shareOfSmall X) (third a b) a-pos
+            (small-third a b g (shareOfSmall X) b-pos ninth slope-low (omega arith)) (third-equation a b below);
       }
 
       small-low : ShareLow a b (2 ^ 27 - g - 1)
@@ -155,39 +156,38 @@ module _ (a b : ℕ) (a-pos : 0 < a) (b-pos : 0 < b) where
       abbrev c : ℕ
       c = decayBelow X
 
-      abbrev quotient : ℕ
-      quotient = (2 ^ 32 + 1 - c) * 2 ^ 27 / X
-
       -- c × (1 + x) ≤ 2^32, by Low(1)
       decay-small : c * (2 ^ 32 + suc X) ≤ 2 ^ 64
       unfolding low factorial
       decay-small =
           omega (arith, simp (pow-zero, pow-suc (suc X) 0, pow-suc (2 ^ 32) 0) at (decay-not-above X .every 1))
 
-      decay-room : c + 11 ≤ 2 ^ 32
+      decay-room : suc (c + decayDistance) ≤ 2 ^ 32
       decay-room = omega (arith, decay-small, mul-le-mul-left c large)
 
       X-pos : 0 < X
       X-pos = omega arith
 
-      large-high : ShareHigh a b (quotient + 1)
+      large-low : (h : ℕ) → h ≤ 2 ^ 27 → h ≤ shareOfLarge X → ShareLow a b (h - shareDistance)
+      unfolding shareOfLarge
+      large-low h one l = record {
+        c = c + decayDistance;
+        s = 2 ^ 32;
+        s-pos = omega arith;
+        bound = not-below-larger (over X (2 ^ 32)) (over a b) (omega arith) b-pos (omega arith) (decay-not-below X);
+        holds = from-quotient a b X (suc (c + decayDistance)) (h - shareDistance) most
+            (under-quotient X c ((2 ^ 32 + 1 - c) * 2 ^ 27 / X) h large one (omega arith) decay-room
+            (omega (arith, decay-room, div-mul-le-self ((2 ^ 32 + 1 - c) * 2 ^ 27) X)));
+      }
+
+      large-high : ShareHigh a b (shareOfLarge X)
+      unfolding shareOfLarge
       large-high = record {
         c = c;
         s = 2 ^ 32;
         bound = not-above-smaller (over a b) (over (suc X) (2 ^ 32)) b-pos (omega arith) (omega arith) (decay-not-above X);
-        holds = by-quotient a b X c (2 ^ 32 + 1 - c) (2 ^ 27) (quotient + 1) least
+        holds = by-quotient a b X c (2 ^ 32 + 1 - c) (2 ^ 27) (shareOfLarge X) least
             (omega (arith, decay-room)) (omega (arith, lt-div-mul-add {a = (2 ^ 32 + 1 - c) * 2 ^ 27} X-pos));
-      }
-
-      large-low : (h : ℕ) → h ≤ 2 ^ 27 → h ≤ quotient + 1 → ShareLow a b (h - 209)
-      large-low h one l = record {
-        c = c + 10;
-        s = 2 ^ 32;
-        s-pos = omega arith;
-        bound = not-below-larger (over X (2 ^ 32)) (over a b) (omega arith) b-pos (omega arith) (decay-not-below X);
-        holds = from-quotient a b X (suc (c + 10)) (h - 209) most
-            (under-quotient X c quotient h large one l decay-room
-            (omega (arith, decay-room, div-mul-le-self ((2 ^ 32 + 1 - c) * 2 ^ 27) X)));
       }
 
     -- ---- the two cases, and the cap at 1
@@ -207,8 +207,8 @@ module _ (a b : ℕ) (a-pos : 0 < a) (b-pos : 0 < b) where
         (λ e. let l : 2 ^ 23 ≤ X = omega arith in rw (le-ltb X (2 ^ 23) l) (share-high-at-min _ (large-high l)))
         (eq-zero-or-pos (suc X - 2 ^ 23))
 
-    pub share-low : ShareLow a b (shareAbove X - 209)
-    unfolding shareAbove
+    pub share-low : ShareLow a b (shareAbove X - shareDistance)
+    unfolding shareAbove shareOfSmall
     share-low =
         ⊎-elim
         (λ e. let l : X < 2 ^ 23 = omega arith in rw (lt-ltb X (2 ^ 23) l) (share-low-weaker _ (omega arith) (small-low l)))

@@ -8,7 +8,7 @@ use native.Mathlib.Omega.{arith}
 use borrow.Author.Tests.{le-leb, lt-leb, eq-eqb, ne-eqb}
 use Rattle.formula.specs.Fraction.{Fraction, over, plus, times, dividedBy, inverse, whole}
 use Rattle.formula.specs.Formula.{low, up, Difference, EndAtMost, EndAboveMinusTwo, Passes, WithinLimits, IsRawWeight}
-use Rattle.formula.specs.FixedPoint.{decayBelow, decayAbove, shareAbove, productAbove, units, formulaWeight, withinLimits, rawWeight}
+use Rattle.formula.specs.FixedPoint.{productDistance, productAbove, units, formulaWeight, withinLimits, rawWeight}
 use Rattle.formula.specs.declared.RawWeight.{RawWeight}
 use Rattle.formula.specs.declared.RawWeight.the-variants.{Weight, NoThickness, OutsideLimits}
 use Rattle.formula.proofs.Limits.{limits-of-test, test-of-limits}
@@ -105,9 +105,9 @@ module _ (A D K p : ℕ) (K-pos : 0 < K) (p-pos : 0 < p) (above : K < D) (thick 
   thickness : (K - A) + v ≡ D - A
   thickness = omega arith
 
-  gap : (k : ℕ) × Gap lower width (lower + width) (1 * b) product (product - 211) k
+  gap : (k : ℕ) × Gap lower width (lower + width) (1 * b) product (product - productDistance) k
   gap =
-      gap-at-some-k lower width (1 * b) bottom-pos product (product - 211) (omega arith)
+      gap-at-some-k lower width (1 * b) bottom-pos product (product - productDistance) (omega arith)
       (not-above-smaller (over lower (1 * b)) (over (suc (units lower b)) (2 ^ 32)) bottom-pos (omega arith) (omega (arith, units-most lower b b-pos)) (decay-not-above (units lower b)))
       (not-below-larger (over (units lower b) (2 ^ 32)) (over lower (1 * b)) (omega arith) bottom-pos (units-least lower b b-pos) (decay-above-not-below (units lower b)))
       (share-high width (1 * b) (omega arith) bottom-pos (units width b) (units-least width b b-pos) (units-most width b b-pos))
@@ -118,22 +118,22 @@ module _ (A D K p : ℕ) (K-pos : 0 < K) (p-pos : 0 < p) (above : K < D) (thick 
   -- the numerator of the weight, rounded up over the thickness
   rounded-up : 125000 * ((K - A) * 2 ^ 27 + v * product) ≤ w * ((D - A) * 2 ^ 27)
   unfolding formulaWeight
-  rounded-up = ceiling-at-least _ _ (omega arith)
+  rounded-up = omega (arith, ceiling-at-least (125000 * ((K - A) * 2 ^ 27 + v * product)) ((D - A) * 2 ^ 27) (omega arith))
 
   rounded-close : w * ((D - A) * 2 ^ 27) < 125000 * ((K - A) * 2 ^ 27 + v * product) + (D - A) * 2 ^ 27
   unfolding formulaWeight
-  rounded-close = ceiling-below _ _ (omega arith)
+  rounded-close = omega (arith, ceiling-below (125000 * ((K - A) * 2 ^ 27 + v * product)) ((D - A) * 2 ^ 27) (omega arith))
 
-  -- 211 × 125,000 is below 2^27
-  near : w * ((D - A) * 2 ^ 27) < 125000 * ((K - A) * 2 ^ 27 + v * (product - 211)) + 2 * ((D - A) * 2 ^ 27)
-  near = core product (product - 211) (D - A) (K - A) v (omega arith) (omega arith) rounded-close
+  -- productDistance × 125,000 is below 2^27
+  near : w * ((D - A) * 2 ^ 27) < 125000 * ((K - A) * 2 ^ 27 + v * (product - productDistance)) + 2 * ((D - A) * 2 ^ 27)
+  near = core product (product - productDistance) (D - A) (K - A) v (omega arith) (omega arith) rounded-close
     where
-      core : (P Q m t v : ℕ) → P ≤ Q + 211 → t + v ≡ m → w * (m * 2 ^ 27) < 125000 * (t * 2 ^ 27 + v * P) + m * 2 ^ 27 →
+      core : (P Q m t v : ℕ) → P ≤ Q + productDistance → t + v ≡ m → w * (m * 2 ^ 27) < 125000 * (t * 2 ^ 27 + v * P) + m * 2 ^ 27 →
           w * (m * 2 ^ 27) < 125000 * (t * 2 ^ 27 + v * Q) + 2 * (m * 2 ^ 27)
       core P Q m t v h e g = omega (arith, mul-le-mul-left v h)
 
-  upper-gap : Gap lower width ((D - K) * 1000000) (1 * b) product (product - 211) (gap .0)
-  upper-gap = subst (λ (u : ℕ). Gap lower width u (1 * b) product (product - 211) (gap .0)) upper-sum (gap .1)
+  upper-gap : Gap lower width ((D - K) * 1000000) (1 * b) product (product - productDistance) (gap .0)
+  upper-gap = subst (λ (u : ℕ). Gap lower width u (1 * b) product (product - productDistance) (gap .0)) upper-sum (gap .1)
 
   -- The raw weight passes.
   pub formula-passes : Passes A D K p w
@@ -143,7 +143,7 @@ module _ (A D K p : ℕ) (K-pos : 0 < K) (p-pos : 0 < p) (above : K < D) (thick 
         k = k;
         counts = record { lower = upper-gap .admitted-l; upper = upper-gap .admitted-u };
         upper = end-at-most (K - A) (D - A) b v w product (low (over lower (1 * b)) k) (up (over ((D - K) * 1000000) (1 * b)) k) (upper-gap .high) rounded-up;
-        lower = end-above (K - A) (D - A) b v w (product - 211) (up (over lower (1 * b)) k) (low (over ((D - K) * 1000000) (1 * b)) k) (omega arith)
+        lower = end-above (K - A) (D - A) b v w (product - productDistance) (up (over lower (1 * b)) k) (low (over ((D - K) * 1000000) (1 * b)) k) (omega arith)
             (up-top-pos (over lower (1 * b)) bottom-pos k) (low-top-pos (over ((D - K) * 1000000) (1 * b)) bottom-pos k) (upper-gap .least) near;
       }
 

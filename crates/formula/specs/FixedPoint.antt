@@ -9,6 +9,17 @@ use Rattle.formula.specs.Formula.{low}
 use Rattle.formula.specs.declared.RawWeight.{RawWeight}
 use Rattle.formula.specs.declared.RawWeight.the-variants.{Weight, NoThickness, OutsideLimits}
 
+-- How far each number may lie from the exact one: a decay in units of 2^−32, a share and the product in units of 2^−27. The last makes a raw
+-- weight's high end at most 125,000 × 211 / 2^27, about a fifth of a unit, too high.
+abbrev pub decayDistance : ℕ
+decayDistance = 10
+
+abbrev pub shareDistance : ℕ
+shareDistance = 209
+
+abbrev pub productDistance : ℕ
+productDistance = 211
+
 -- the whole part of 2^32 / Low(43) of n / d: an entry of the decay table (d = 16) and of the fine table (d = 1024)
 unfoldable pub entry : ℕ → ℕ → ℕ
 entry n d = 2 ^ 32 * low (over n d) 43 .bottom / low (over n d) 43 .top
@@ -17,21 +28,27 @@ entry n d = 2 ^ 32 * low (over n d) 43 .bottom / low (over n d) 43 .top
 unfoldable pub fineDecay : ℕ → ℕ → ℕ
 fineDecay m j = entry m 1024 - entry m 1024 * (j - j * j / 2 ^ 33) / 2 ^ 32 - 4
 
--- at most 2^32 × e^(−x), and at most 10 below it
+-- at most 2^32 × e^(−x), and at most decayDistance below it
 unfoldable pub decayBelow : ℕ → ℕ
 decayBelow x = entry (x / 2 ^ 28) 16 * fineDecay (x % 2 ^ 28 / 2 ^ 22) (x % 2 ^ 28 % 2 ^ 22) / 2 ^ 32
 
 -- at least 2^32 × e^(−x)
 unfoldable pub decayAbove : ℕ → ℕ
-decayAbove x = min (decayBelow x + 10) (2 ^ 32)
+decayAbove x = min (decayBelow x + decayDistance) (2 ^ 32)
 
--- at least 2^27 × (1 − e^(−x)) / x, and at most 2^27
+-- 2^27 × (1 − x / 2 + x² / 3), at least 2^27 × (1 − e^(−x)) / x where x is below 2^−9, so that 2^27 × x² / 3 is below 171
+unfoldable pub shareOfSmall : ℕ → ℕ
+shareOfSmall x = 2 ^ 27 + 171 - x / 64
+
+-- 2^27 × (1 − e^(−x)) / x, rounded up: the decay is taken from below, and x is at most the exponent
+unfoldable pub shareOfLarge : ℕ → ℕ
+shareOfLarge x = (2 ^ 32 + 1 - decayBelow x) * 2 ^ 27 / x + 1
+
+-- at least 2^27 × (1 − e^(−x)) / x, at most shareDistance above it, and at most 2^27
 unfoldable pub shareAbove : ℕ → ℕ
-shareAbove x =
-    min (2 ^ 27)
-    (cond (ltb x (2 ^ 23)) (2 ^ 27 + 171 - x / 64) ((2 ^ 32 + 1 - decayBelow x) * 2 ^ 27 / x + 1))
+shareAbove x = min (2 ^ 27) (cond (ltb x (2 ^ 23)) (shareOfSmall x) (shareOfLarge x))
 
--- the product of the two, at least 2^27 × e^(−L) × (1 − e^(−x)) / x, and at most 2^27
+-- the product of the two, at least 2^27 × e^(−L) × (1 − e^(−x)) / x, at most productDistance above it, and at most 2^27
 unfoldable pub productAbove : ℕ → ℕ → ℕ
 productAbove L x = (decayAbove L * shareAbove x + (2 ^ 32 - 1)) / 2 ^ 32
 

@@ -20,6 +20,9 @@ const STEP: u64 = 268435456;
 // 1/1024, the step of the fine table, in units of 2^−32.
 const FINE_STEP: u64 = 4194304;
 
+// How far decay_below may lie below, in units of 2^−32.
+const DECAY_DISTANCE: u64 = 10;
+
 // 1/512 in units of 2^−32: an exponent below it is small.
 const SMALL: u64 = 8388608;
 
@@ -74,11 +77,11 @@ fn larger(a: u64, b: u64) -> u64
     if a < b { b } else { a }
 }
 
-// e^(−x) from above: decay_below with what it may be short of, 10, added back, and at most 1.
+// e^(−x) from above: decay_below with what it may be short of added back, and at most 1.
 fn decay_above(x: u64) -> u64
     ensures { λ r. ⌜ r ≡ decayAbove x ⌝ }
 {
-    smaller(decay_below(x) + 10, ONE)
+    smaller(decay_below(x) + DECAY_DISTANCE, ONE)
 }
 
 // (1 − e^(−x)) / x from above, at most 1, in units of 2^−27. For a small x, where the quotient is too coarse (or x is 0), it is 1 − x/2 and

@@ -1,5 +1,6 @@
 -- `decay_entry`: the source's table agrees with the rule of the entries at each place, by one computed test, and past its end the rule
 -- gives 0. Assumes nothing.
+use native.Mathlib.Omega.{arith}
 use borrow.Author.Needs.{needs}
 use borrow.Table.Row.{get}
 use mathlib.Core.Path.{_≡_, sym, subst}
@@ -29,10 +30,10 @@ returns : tie.Need-returns
 unfolding low entry factorial
 returns c =
     let table = get 4 (lts.T5 .locals) (lts.m3 reads.Pre reads.Post (c .before)) in
-    kept (c .before .args .n) _ (entry-is (λ i. entry i 16) table 355 tt (c .before .args .n) (c .if1 .taken))
+    kept (c .before .args .n) _ (entry-is (λ i. entry i 16) table 355 tt (c .before .args .n) (omega arith))
 
 returns-2 : tie.Need-returns-2
-returns-2 c = kept (c .before .args .n) 0 (sym (entry-zero (c .before .args .n) (c .if1 .left)))
+returns-2 c = kept (c .before .args .n) 0 (sym (entry-zero (c .before .args .n) (omega arith)))
 
 pub decay-entry-spec : {M : Type 1} → statement M
 decay-entry-spec = tie.close (tie.spec mul-result array-read-result returns returns-2)

@@ -32,21 +32,26 @@ returns c = kept (simp (← c .before .within-limits .ensures, not-true (c .befo
 
 returns-2 : tie.Need-returns-2
 unfolding rawWeight
-returns-2 c = kept (simp (inside (c .before), le-leb _ _ (c .if2 .taken)))
+returns-2 c =
+    let x = c .before .before .before .args in
+    kept (simp (inside (c .before), le-leb (x .d) (x .k) (omega arith)))
 
 returns-3 : tie.Need-returns-3
 unfolding rawWeight
-returns-3 c = kept (simp (inside (c .before .before), lt-leb _ _ (c .before .if2 .left), le-leb _ _ (c .if3 .taken)))
+returns-3 c =
+    let x = c .before .before .before .before .args in
+    kept (simp (inside (c .before .before), lt-leb (x .d) (x .k) (omega arith), le-leb (x .d) (x .a) (omega arith)))
 
 returns-4 : tie.Need-returns-4
 unfolding rawWeight
 returns-4 c =
+    let x = c .before .before .before .before .before .args in
     kept
     (simp (
       inside (c .before .before .before),
-      lt-leb _ _ (c .before .before .if2 .left),
-      lt-leb _ _ (c .before .if3 .left),
-      eq-eqb _ _ (c .if4 .taken),
+      lt-leb (x .d) (x .k) (omega arith),
+      lt-leb (x .d) (x .a) (omega arith),
+      eq-eqb (x .k) 0 (omega arith),
     ))
 
 formula-weight-requires : tie.Need-formula-weight-requires
@@ -57,12 +62,13 @@ formula-weight-requires c κs =
 returns-5 : tie.Need-returns-5
 unfolding rawWeight
 returns-5 c =
+    let x = c .before .before .before .before .before .before .args in
     kept
     (simp (
       inside (c .before .before .before .before),
-      lt-leb _ _ (c .before .before .before .if2 .left),
-      lt-leb _ _ (c .before .before .if3 .left),
-      ne-eqb _ _ (c .before .if4 .left),
+      lt-leb (x .d) (x .k) (omega arith),
+      lt-leb (x .d) (x .a) (omega arith),
+      ne-eqb (x .k) 0 (c .before .if4 .left),
       c .formula-weight .ensures,
     ))
 

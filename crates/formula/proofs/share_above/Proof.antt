@@ -5,7 +5,7 @@ use native.Mathlib.Nat.{div-le-self}
 use native.Mathlib.Omega.{arith}
 use borrow.Author.Needs.{needs}
 use borrow.Author.Tests.{lt-ltb, le-ltb}
-use Rattle.formula.specs.FixedPoint.{shareAbove}
+use Rattle.formula.specs.FixedPoint.{shareOfSmall, shareOfLarge, shareAbove}
 use Rattle.formula.proofs.StepBounds.{decay-below-at-most}
 use Rattle.formula.proofs.share_above.Statement.{statement}
 use Rattle.formula.proofs.share_above.Tie as tie
@@ -42,11 +42,11 @@ smaller-requires-2 : tie.Need-smaller-requires-2
 smaller-requires-2 c κs = search needs
 
 returns : tie.Need-returns
-unfolding shareAbove
+unfolding shareAbove shareOfSmall shareOfLarge
 returns c = simp (c .smaller .ensures, lt-ltb _ _ (c .before .if1 .taken))
 
 returns-2 : tie.Need-returns-2
-unfolding shareAbove
+unfolding shareAbove shareOfSmall shareOfLarge
 returns-2 c =
     simp (c .smaller2 .ensures, c .before .decay-below .ensures, le-ltb _ _ (c .before .before .if1 .left))
 
