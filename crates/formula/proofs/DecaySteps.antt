@@ -1,11 +1,11 @@
 -- decayBelow x is at most 2^32 × e^(−x), also for an exponent up to one unit larger, and at most decayDistance below it. Assumes nothing.
 use mathlib.Core.Path.{_≡_, ap}
-use Prim.Native.Nat.{ℕ, zero, suc, _+_, _*_, _-_, _^_, _/_, _%_, _≤_, _<_}
-use native.Mathlib.Nat.{le-trans, mul-le-mul, mul-le-mul-left, mul-le-mul-right, mul-pos, div-add-mod', mod-lt, sub-add-cancel}
+use Prim.Native.Nat.{ℕ, suc, _+_, _*_, _-_, _^_, _/_, _%_, _≤_, _<_}
+use native.Mathlib.Nat.{mul-le-mul, mul-le-mul-left, mul-le-mul-right}
 use native.Mathlib.Omega.{arith}
 use Rattle.formula.specs.Fraction.{Fraction, over}
 use Rattle.formula.specs.FixedPoint.{decayDistance, entry, fineDecay, decayBelow}
-use Rattle.formula.proofs.Decay.{NotAbove, NotBelow, not-above-weaker, not-below-weaker, not-above-smaller, not-below-larger, not-above-product, not-below-product}
+use Rattle.formula.proofs.DecayBounds.{NotAbove, NotBelow, not-above-weaker, not-below-weaker, not-above-smaller, not-below-larger, not-above-product, not-below-product}
 use Rattle.formula.proofs.Rest.{second-equation, second-not-below, third, third-equation, third-not-above}
 use Rattle.formula.proofs.Entries.{entry-not-above, entry-not-below, fine-entry-not-above}
 use Rattle.formula.proofs.StepBounds.{entry-at-most, fine-entry-at-least}

@@ -1,17 +1,17 @@
 -- No lower end passes an upper end, so two whole numbers that pass differ by at most 1. Assumes nothing.
+use mathlib.Core.Path.{_≡_}
 use Prim.Native.Nat.{ℕ, suc, _+_, _*_, _-_, _≤_, _<_}
 use native.Mathlib.Nat.{le-refl, mul-pos, mul-le-mul-right, mul-lt-mul-of-pos-right, lt-of-mul-lt-mul-right, zero-lt-suc}
 use native.Mathlib.Omega.{arith}
-use Rattle.formula.specs.Fraction.{Fraction, plus, whole, AtMost}
-use Rattle.formula.specs.Formula.{Admitted, scale, lowerExponent, upperExponent, Difference, perThickness, weightWith, upperEnd, lowerEnd, EndAtMost, EndAboveMinusTwo, Passes}
+use Rattle.formula.specs.Fraction.{Fraction, inverse, whole, AtMost}
+use Rattle.formula.specs.Formula.{low, up, scale, lowerExponent, upperExponent, Difference, perThickness, weightWith, upperEnd, lowerEnd, EndAtMost, EndAboveMinusTwo, DifferenceAtMost, Counts, Passes}
 use Rattle.formula.proofs.FractionLaws.{plus-at-most-plus, times-at-most-times, divided-at-most-divided, inverse-at-most-inverse}
 use Rattle.formula.proofs.SeriesLaws.{low-top-pos, up-top-pos, low-at-most-up}
 
 -- ---- differences
 
--- x ≤ y: gain − loss of x is at most gain − loss of y
-abbrev pub DifferenceAtMost : Difference → Difference → Type 0
-DifferenceAtMost x y = AtMost (plus (x .gain) (y .loss)) (plus (y .gain) (x .loss))
+abbrev pub BottomsAboveZero : Difference → Type 0
+BottomsAboveZero x = (0 < x .gain .bottom) × (0 < x .loss .bottom)
 
 -- w′ − 2 < x ≤ y ≤ w gives w′ < w + 2
 below-plus-two : (x y : Difference) (w w′ : ℕ) → 0 < y .gain .bottom → 0 < y .loss .bottom → DifferenceAtMost x y → EndAtMost y w → EndAboveMinusTwo x w′ → w′ < w + 2
@@ -37,33 +37,43 @@ module _ (A D K p : ℕ) (K-pos : 0 < K) (p-pos : 0 < p) where
   exponent-bottom-pos : 0 < 1 * (p * K)
   exponent-bottom-pos = mul-pos (zero-lt-suc 0) (mul-pos p-pos K-pos)
 
-  -- the lower end at k is at most the upper end at k′: 1 / Up(k) ≤ 1 / Low(k′) at l/s, and 1 / Up(k′) ≤ 1 / Low(k) at u/s
-  pub ends-apart : (k k′ : ℕ) → Admitted (lowerExponent A K p) k → Admitted (upperExponent D K p) k′ → DifferenceAtMost (lowerEnd A D K p k) (upperEnd A D K p k′)
-  ends-apart k k′ h l =
+  -- No lower end of any counted k passes an upper end of any counted k′: 1 / Up(k) ≤ 1 / Low(k′) at l/s, and 1 / Up(k′) ≤ 1 / Low(k) at u/s.
+  pub ends-apart : (k k′ : ℕ) → Counts A D K p k → Counts A D K p k′ → DifferenceAtMost (lowerEnd A D K p k) (upperEnd A D K p k′)
+  ends-apart k k′ h h′ =
       weight-grows A D K p _ _ _ _
-      (inverse-at-most-inverse _ _ (low-at-most-up (lowerExponent A K p) exponent-bottom-pos k′ k h))
-      (inverse-at-most-inverse _ _ (low-at-most-up (upperExponent D K p) exponent-bottom-pos k k′ l))
+      (inverse-at-most-inverse _ _ (low-at-most-up (lowerExponent A K p) exponent-bottom-pos k′ k (h .lower)))
+      (inverse-at-most-inverse _ _ (low-at-most-up (upperExponent D K p) exponent-bottom-pos k k′ (h′ .upper)))
 
   module _ (thick : A < D) where
-    thickness-pos : 0 < D - A
-    thickness-pos = omega arith
+    weight-bottoms : (e f : Fraction) → 0 < e .bottom → 0 < f .bottom → BottomsAboveZero (weightWith A D K p e f)
+    weight-bottoms e f e-pos f-pos =
+        let thickness : 0 < D - A = omega arith in
+        (omega (arith, mul-pos e-pos thickness), omega (arith, mul-pos f-pos thickness))
 
-    upper-gain-pos : (k : ℕ) → 0 < upperEnd A D K p k .gain .bottom
-    upper-gain-pos k = omega (arith, mul-pos (low-top-pos (lowerExponent A K p) exponent-bottom-pos k) thickness-pos)
+    -- The fractions that the ends compare are fractions: no bottom is 0.
+    pub upper-bottoms : (k : ℕ) → BottomsAboveZero (upperEnd A D K p k)
+    upper-bottoms k =
+        weight-bottoms (inverse (low (lowerExponent A K p) k)) (inverse (up (upperExponent D K p) k))
+        (omega (arith, low-top-pos (lowerExponent A K p) exponent-bottom-pos k))
+        (omega (arith, up-top-pos (upperExponent D K p) exponent-bottom-pos k))
 
-    upper-loss-pos : (k : ℕ) → 0 < upperEnd A D K p k .loss .bottom
-    upper-loss-pos k = omega (arith, mul-pos (up-top-pos (upperExponent D K p) exponent-bottom-pos k) thickness-pos)
+    pub lower-bottoms : (k : ℕ) → BottomsAboveZero (lowerEnd A D K p k)
+    lower-bottoms k =
+        weight-bottoms (inverse (up (lowerExponent A K p) k)) (inverse (low (upperExponent D K p) k))
+        (omega (arith, up-top-pos (lowerExponent A K p) exponent-bottom-pos k))
+        (omega (arith, low-top-pos (upperExponent D K p) exponent-bottom-pos k))
 
-    -- two numbers that pass differ by at most 1
+    -- Two numbers that pass differ by at most 1.
     pub passing-close : (w w′ : ℕ) → Passes A D K p w → Passes A D K p w′ → w′ ≤ suc w
     passing-close w w′ h h′ =
-        let apart = ends-apart (h′ .k) (h .k) (h′ .counts .lower) (h .counts .upper) in
-        omega (arith, below-plus-two _ _ w w′ (upper-gain-pos (h .k)) (upper-loss-pos (h .k)) apart (h .upper) (h′ .lower))
+        let bottoms = upper-bottoms (h .k) in
+        let apart = ends-apart (h′ .k) (h .k) (h′ .counts) (h .counts) in
+        omega (arith, below-plus-two _ _ w w′ (bottoms .0) (bottoms .1) apart (h .upper) (h′ .lower))
 
-    -- no three numbers pass: the outer two would differ by 2
+    -- So no three numbers pass: the outer two would differ by 2,
     pub no-three-pass : (v w x : ℕ) → v < w → w < x → Passes A D K p v → Passes A D K p x → ⊥
     no-three-pass v w x h l first last = omega (arith, passing-close v x first last)
 
-    -- where 125000 passes, no number below 124999 does
-    pub only-top-passes : (w : ℕ) → Passes A D K p 125000 → Passes A D K p w → 124999 ≤ w
-    only-top-passes w top h = omega (arith, passing-close w 125000 h top)
+    -- and where 125,001 would pass, 125,000 is the one raw weight that does.
+    pub one-below-the-top : (w : ℕ) → w ≤ 125000 → Passes A D K p 125001 → Passes A D K p w → w ≡ 125000
+    one-below-the-top w most top h = omega (arith, passing-close w 125001 h top)

@@ -1,17 +1,19 @@
 -- The entries of the decay table (d = 16) and of the fine table (d = 1024) are whole parts of 2^32 × e^(−n/d). Assumes nothing.
 use mathlib.Core.Bool.{Bool}
 use mathlib.Core.Logic.{⊎-elim}
-use mathlib.Core.Path.{_≡_, refl, subst, sym}
-use Prim.Native.Nat.{ℕ, zero, suc, _+_, _*_, _^_, _/_, _-_, _≤_, _<_, zero-le}
-use native.Mathlib.Nat.{lt-div-mul-add, lt-of-lt-of-le, eq-zero-or-pos, zero-mul}
+use mathlib.Core.Path.{_≡_}
+use Prim.Native.Nat.{ℕ, suc, _+_, _*_, _^_, _≤_, _<_, zero-le}
+use native.Mathlib.Nat.{le-antisymm, le-of-suc-le-suc, lt-of-mul-lt-mul-right, mul-le-mul-left, mul-le-mul-right, mul-lt-mul-of-pos-right, lt-div-mul-add, lt-of-lt-of-le, zero-mul}
+use native.Mathlib.Numerals.{add-one}
 use native.Mathlib.Omega.{arith}
-use lib.Dec.{T, leb, leb→le}
+use lib.Dec.{leb, leb→le}
 use Rattle.formula.specs.Fraction.{Fraction, over, dividedBy, whole, AtMost, Below}
 use Rattle.formula.specs.Formula.{factorial, low, up, WholePart, DecayEntry}
 use Rattle.formula.specs.FixedPoint.{entry}
-use Rattle.formula.proofs.Table.{allBelow, at-each}
-use Rattle.formula.proofs.SeriesLaws.{low-bottom-pos, low-at-least-one}
-use Rattle.formula.proofs.Decay.{NotAbove, NotBelow, not-above-by-up}
+use Rattle.formula.proofs.Numbers.{le-or-lt}
+use Rattle.formula.proofs.Table.{at-each}
+use Rattle.formula.proofs.SeriesLaws.{low-bottom-pos, low-at-least-one, up-bottom-pos, low-at-most-up}
+use Rattle.formula.proofs.DecayBounds.{NotAbove, NotBelow, not-above-by-up}
 use Rattle.formula.proofs.StepBounds.{entry-zero}
 
 -- the entry times Up(43) is at most 2^32
@@ -52,34 +54,35 @@ module _ (v m : ℕ) (x : Fraction) where
   product-at-most : AtMost (whole v) (dividedBy (whole m) x) → v * x .top ≤ m * x .bottom
   product-at-most h = omega arith
 
+  product-above : Below (dividedBy (whole m) x) (whole v) → m * x .bottom < v * x .top
+  product-above h = omega arith
+
   quotient-below : m * x .bottom < v * x .top → Below (dividedBy (whole m) x) (whole v)
   quotient-below h = omega arith
 
 -- The decay table's rule, for every n.
 pub whole-part : (n : ℕ) → DecayEntry n (entry n 16)
-whole-part n = ⊎-elim within beyond (eq-zero-or-pos (n - 354))
+whole-part n = ⊎-elim beyond within (le-or-lt 355 n)
   where
     next : Below (dividedBy (whole (2 ^ 32)) (low (over n 16) 43)) (whole (entry n 16 + 1))
     next = quotient-below _ _ (low (over n 16) 43) (entry-next n 16 (omega arith))
 
-    within : n - 354 ≡ 0 → DecayEntry n (entry n 16)
-    within e =
-        let inside : n < 355 = omega arith in
+    within : n < 355 → DecayEntry n (entry n 16)
+    within l =
         record {
           k = 43;
           admitted = omega arith;
-          at-most = at-most-quotient (entry n 16) (2 ^ 32) (up (over n 16) 43) (coarse-fits n inside);
+          at-most = at-most-quotient (entry n 16) (2 ^ 32) (up (over n 16) 43) (coarse-fits n l);
           j = 43;
           next-above = next;
         }
 
-    beyond : 0 < n - 354 → DecayEntry n (entry n 16)
-    beyond h =
-        let outside : 355 ≤ n = omega arith in
+    beyond : 355 ≤ n → DecayEntry n (entry n 16)
+    beyond l =
         record {
           k = n;
           admitted = omega arith;
-          at-most = at-most-quotient (entry n 16) (2 ^ 32) (up (over n 16) n) (rw (entry-zero n outside) (rw zero-mul zero-le));
+          at-most = at-most-quotient (entry n 16) (2 ^ 32) (up (over n 16) n) (rw (entry-zero n l) (rw zero-mul zero-le));
           j = 43;
           next-above = next;
         }
@@ -90,3 +93,21 @@ entry-not-above n =
     let w : DecayEntry n (entry n 16) = whole-part n in
     not-above-by-up (over n 16) (omega arith) (entry n 16) (2 ^ 32) (w .k) (w .admitted)
     (product-at-most (entry n 16) (2 ^ 32) (up (over n 16) (w .k)) (w .at-most))
+
+-- v × u ≤ m < v′ × l and l ≤ u
+chained : (v v′ m : ℕ) (u l : Fraction) → 0 < u .bottom → v * u .top ≤ m * u .bottom → m * l .bottom < suc v′ * l .top → AtMost l u →
+    v * (u .top * l .bottom) < suc v′ * (u .top * l .bottom)
+chained v v′ m u l pos h g k =
+    omega (arith, mul-le-mul-right (l .bottom) h, mul-lt-mul-of-pos-right g pos, mul-le-mul-left (suc v′) k)
+
+-- The rule leaves one number: v ≤ m / Up(k) ≤ m / Low(j) < v′ + 1.
+pub whole-part-unique : (m : ℕ) (q : Fraction) (v v′ : ℕ) → 0 < q .bottom → WholePart m q v → WholePart m q v′ → v ≡ v′
+whole-part-unique m q v v′ pos h h′ = le-antisymm (at-most v v′ h h′) (at-most v′ v h′ h)
+  where
+    at-most : (v v′ : ℕ) → WholePart m q v → WholePart m q v′ → v ≤ v′
+    at-most v v′ h h′ =
+        let u = up q (h .k) in
+        let l = low q (h′ .j) in
+        le-of-suc-le-suc
+        (lt-of-mul-lt-mul-right (u .top * l .bottom)
+        (chained v v′ m u l (up-bottom-pos q pos (h .k)) (product-at-most v m u (h .at-most)) (product-above (suc v′) m l (rw add-one at (h′ .next-above))) (low-at-most-up q pos (h′ .j) (h .k) (h .admitted))))

@@ -1,14 +1,14 @@
 -- What holds from some k on, and the four facts about Low(k) and Up(k) of l, of x and of l + x that the ends of a raw weight rest on.
 -- Assumes nothing.
-use mathlib.Core.Path.{_≡_, subst, sym, _∙_, ap}
-use Prim.Native.Nat.{ℕ, zero, suc, _+_, _*_, _^_, _≤_, _<_}
-use native.Mathlib.Nat.{add-assoc, add-comm, mul-pos, mul-le-mul, mul-le-mul-left, mul-le-mul-right, le-of-mul-le-mul-right}
+use mathlib.Core.Path.{subst}
+use Prim.Native.Nat.{ℕ, suc, _+_, _*_, _^_, _≤_, _<_}
+use native.Mathlib.Nat.{add-assoc, add-comm, mul-le-mul-left, mul-le-mul-right, le-of-mul-le-mul-right}
 use native.Mathlib.Omega.{arith}
-use Rattle.formula.specs.Fraction.{Fraction, over, times, AtMost}
+use Rattle.formula.specs.Fraction.{Fraction, over, AtMost}
 use Rattle.formula.specs.Formula.{factorial, low, up, term, Admitted}
 use Rattle.formula.proofs.SeriesLaws.{low-bottom-pos, up-bottom-pos, low-at-least-one, low-rises, up-falls, closes-in}
 use Rattle.formula.proofs.Exponents.{low-of-sum-at-most, low-of-sum-at-least}
-use Rattle.formula.proofs.Decay.{NotAbove, NotBelow}
+use Rattle.formula.proofs.DecayBounds.{NotAbove, NotBelow}
 
 pub record Eventually (P : ℕ → Type 0) : Type 0 where
   pub from : ℕ

@@ -1,5 +1,5 @@
 -- The order of fractions: plus, times and a fixed division keep it, an inverse turns it round. Assumes nothing.
-use Prim.Native.Nat.{ℕ, _+_, _*_, _≤_, _<_}
+use Prim.Native.Nat.{_*_, _<_}
 use native.Mathlib.Nat.{mul-le-mul-right, le-of-mul-le-mul-right}
 use native.Mathlib.Omega.{arith}
 use Rattle.formula.specs.Fraction.{Fraction, plus, times, dividedBy, inverse, AtMost}

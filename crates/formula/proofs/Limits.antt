@@ -1,5 +1,5 @@
 -- The test of the limits says what the limits say. Assumes nothing.
-use mathlib.Core.Bool.{Bool, true, false, _&&_}
+use mathlib.Core.Bool.{true, _&&_}
 use mathlib.Core.Path.{_≡_, subst, sym}
 use Prim.Native.Nat.{ℕ}
 use lib.Dec.{T, leb, ltb, leb→le, ltb→lt}

@@ -2,13 +2,14 @@
 -- Assumes nothing.
 use mathlib.Core.Logic.{⊎-elim}
 use mathlib.Core.Path.{_≡_, ap}
-use Prim.Native.Nat.{ℕ, zero, suc, _+_, _*_, _-_, _^_, _/_, min, _≤_, _<_}
-use native.Mathlib.Nat.{mul-le-mul, mul-le-mul-left, mul-le-mul-right, eq-zero-or-pos, min-le-left, min-le-right, min-eq-left, min-eq-right}
+use Prim.Native.Nat.{ℕ, suc, _+_, _*_, _-_, _^_, _≤_}
+use native.Mathlib.Nat.{mul-le-mul-left, mul-le-mul-right, min-le-left}
 use native.Mathlib.Omega.{arith}
 use Rattle.formula.specs.Fraction.{Fraction, over}
 use Rattle.formula.specs.FixedPoint.{decayDistance, shareDistance, productDistance, decayBelow, decayAbove, shareAbove, productAbove}
+use Rattle.formula.proofs.Numbers.{le-or-lt, at-min, at-difference}
 use Rattle.formula.proofs.SeriesLaws.{low-at-least-one}
-use Rattle.formula.proofs.Decay.{NotBelow}
+use Rattle.formula.proofs.DecayBounds.{NotBelow}
 use Rattle.formula.proofs.StepBounds.{decay-below-at-most, share-above-at-most, product-above-at-most}
 use Rattle.formula.proofs.DecaySteps.{decay-not-below}
 
@@ -19,23 +20,22 @@ one-not-below s q = record { some-k = 0; holds = mul-le-mul-left s (low-at-least
 pub decay-above-not-below : (x : ℕ) → NotBelow (decayAbove x) (2 ^ 32) (over x (2 ^ 32))
 unfolding decayAbove
 decay-above-not-below x =
-    ⊎-elim
-    (λ e. rw (min-eq-left {n = decayBelow x + decayDistance} {m = 2 ^ 32} (omega arith)) (decay-not-below x))
-    (λ l. rw (min-eq-right {n = 2 ^ 32} {m = decayBelow x + decayDistance} (omega arith)) (one-not-below (2 ^ 32) (over x (2 ^ 32))))
-    (eq-zero-or-pos (decayBelow x + decayDistance - 2 ^ 32))
+    at-min (λ c. NotBelow c (2 ^ 32) (over x (2 ^ 32))) _ _ (decay-not-below x) (one-not-below (2 ^ 32) (over x (2 ^ 32)))
 
 -- P (s + 1) ≤ f h + decayDistance × h + s + P, where f ≤ s, h and P are at most 2^27 and s = 2^32
-near : (f h P : ℕ) → f ≤ 2 ^ 32 → h ≤ 2 ^ 27 → P ≤ 2 ^ 27 → P * 2 ^ 32 ≤ (f + decayDistance) * h + (2 ^ 32 - 1) → (P - productDistance) * suc (2 ^ 32) ≤ f * (h - shareDistance)
-near f h P f-most h-most P-most e = ⊎-elim none some (eq-zero-or-pos (P - productDistance))
+near : (f h P : ℕ) → f ≤ 2 ^ 32 → h ≤ 2 ^ 27 → P ≤ 2 ^ 27 → P * 2 ^ 32 ≤ (f + decayDistance) * h + (2 ^ 32 - 1) →
+    (P - productDistance) * suc (2 ^ 32) ≤ f * (h - shareDistance)
+near f h P f-most h-most P-most e = at-difference (λ Q. Q * suc (2 ^ 32) ≤ f * (h - shareDistance)) P productDistance (omega arith) some
   where
-    none : P - productDistance ≡ 0 → (P - productDistance) * suc (2 ^ 32) ≤ f * (h - shareDistance)
-    none z = rw z (omega arith)
+    core : (Q i : ℕ) → Q + productDistance ≡ P → i + shareDistance ≡ h → Q * suc (2 ^ 32) ≤ f * i
+    core Q i p q = omega (arith, ap (λ (t : ℕ). f * t) q)
 
-    some : 0 < P - productDistance → (P - productDistance) * suc (2 ^ 32) ≤ f * (h - shareDistance)
-    some l = core (P - productDistance) (h - shareDistance) (omega arith) (omega (arith, mul-le-mul-right h f-most))
-      where
-        core : (Q i : ℕ) → Q + productDistance ≡ P → i + shareDistance ≡ h → Q * suc (2 ^ 32) ≤ f * i
-        core Q i p q = omega (arith, ap (λ (t : ℕ). f * t) q)
+    some : (Q : ℕ) → Q + productDistance ≡ P → Q * suc (2 ^ 32) ≤ f * (h - shareDistance)
+    some Q p =
+        ⊎-elim
+        (λ l. core Q (h - shareDistance) p (omega arith))
+        (λ l. omega (arith, mul-le-mul-right h f-most))
+        (le-or-lt shareDistance h)
 
 module _ (L x : ℕ) where
   pub product-high : decayAbove L * shareAbove x ≤ productAbove L x * 2 ^ 32

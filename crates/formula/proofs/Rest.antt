@@ -1,14 +1,12 @@
 -- e^(−x) against 1 − x + x² / 2 and 1 − x + x² / 2 − x³ / 3, by Low(2) and Up(2), for x = a / b. Assumes nothing.
 use mathlib.Core.Path.{_≡_, ap}
-use Prim.Native.Nat.{ℕ, zero, suc, _+_, _*_, _-_, _^_, _≤_, _<_}
+use Prim.Native.Nat.{ℕ, _+_, _*_, _-_, _≤_, _<_}
 use native.Mathlib.Nat.{pow-zero, pow-suc, mul-le-mul-left, mul-le-mul-right, sub-add-cancel}
 use native.Mathlib.Omega.{arith}
-use Rattle.formula.specs.Fraction.{Fraction, over}
-use Rattle.formula.specs.Formula.{factorial, low, up, Admitted}
-use Rattle.formula.proofs.Decay.{NotAbove, NotBelow, not-above-by-up}
-
-difference-of-squares : (c w z : ℕ) → c + z ≡ w → c * (w + z) + z * z ≡ w * w
-difference-of-squares c w z e = omega (arith, ap (λ (t : ℕ). t * w) e, ap (λ (t : ℕ). t * z) e)
+use Rattle.formula.specs.Fraction.{over}
+use Rattle.formula.specs.Formula.{factorial, low, up}
+use Rattle.formula.proofs.Numbers.{difference-of-squares}
+use Rattle.formula.proofs.DecayBounds.{NotAbove, NotBelow, not-above-by-up}
 
 module _ (a b : ℕ) where
   low-two-top : low (over a b) 2 .top ≡ b * (2 * (b * b) + 2 * (a * b) + a * a)

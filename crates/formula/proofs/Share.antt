@@ -1,15 +1,15 @@
 -- shareAbove x is at least 2^27 × (1 − e^(−x)) / x, and at most shareDistance above it. Assumes nothing.
 use mathlib.Core.Logic.{⊎-elim}
-use mathlib.Core.Path.{_≡_, ap, refl, sym, subst}
-use Prim.Native.Nat.{ℕ, zero, suc, _+_, _*_, _-_, _^_, _/_, _%_, min, _≤_, _<_}
-use native.Mathlib.Nat.{le-trans, mul-le-mul, mul-le-mul-left, mul-le-mul-right, mul-pos, eq-zero-or-pos, le-mul-of-pos-right, le-of-mul-le-mul-right, min-le-left, min-le-right, min-eq-left, min-eq-right, div-mul-le-self, pow-zero, pow-suc, lt-div-mul-add, zero-lt-suc}
+use mathlib.Core.Path.{_≡_, ap}
+use Prim.Native.Nat.{ℕ, suc, _+_, _*_, _-_, _^_, _/_, min, _≤_, _<_}
+use native.Mathlib.Nat.{mul-le-mul, mul-le-mul-left, mul-le-mul-right, mul-pos, le-mul-of-pos-right, div-mul-le-self, pow-zero, pow-suc, lt-div-mul-add}
 use native.Mathlib.Omega.{arith}
-use lib.Dec.{ltb}
 use borrow.Author.Tests.{lt-ltb, le-ltb}
-use Rattle.formula.specs.Fraction.{Fraction, over}
+use Rattle.formula.specs.Fraction.{over}
 use Rattle.formula.specs.Formula.{factorial, low}
 use Rattle.formula.specs.FixedPoint.{decayDistance, shareDistance, decayBelow, shareOfSmall, shareOfLarge, shareAbove}
-use Rattle.formula.proofs.Decay.{NotAbove, NotBelow, not-above-weaker, not-below-weaker, not-above-smaller, not-below-larger}
+use Rattle.formula.proofs.Numbers.{le-or-lt, at-min, at-difference}
+use Rattle.formula.proofs.DecayBounds.{NotAbove, NotBelow, not-above-weaker, not-below-weaker, not-above-smaller, not-below-larger}
 use Rattle.formula.proofs.Rest.{second, second-equation, second-not-below, third, third-equation, third-not-above}
 use Rattle.formula.proofs.DecaySteps.{decay-not-above, decay-not-below}
 
@@ -75,29 +75,23 @@ module _ (a b X : ℕ) where
 -- shareDistance covers the decay's distance and what the quotient by X in place of X + 1 adds
 under-quotient : (X c q h : ℕ) → 2 ^ 23 ≤ X → h ≤ 2 ^ 27 → h ≤ q + 1 → suc (c + decayDistance) ≤ 2 ^ 32 → q * X + c * 2 ^ 27 ≤ (2 ^ 32 + 1) * 2 ^ 27 →
     (h - shareDistance) * suc X + suc (c + decayDistance) * 2 ^ 27 ≤ 2 ^ 32 * 2 ^ 27
-under-quotient X c q h large one l small e = ⊎-elim none some (eq-zero-or-pos (h - shareDistance))
-  where
-    none : h - shareDistance ≡ 0 → (h - shareDistance) * suc X + suc (c + decayDistance) * 2 ^ 27 ≤ 2 ^ 32 * 2 ^ 27
-    none z = rw z (omega arith)
-
-    core : (g : ℕ) → g + shareDistance ≡ h → g * suc X + suc (c + decayDistance) * 2 ^ 27 ≤ 2 ^ 32 * 2 ^ 27
-    core g f = omega (arith, mul-le-mul-right {m = g + (shareDistance - 1)} {n = q} X (omega arith))
-
-    some : 0 < h - shareDistance → (h - shareDistance) * suc X + suc (c + decayDistance) * 2 ^ 27 ≤ 2 ^ 32 * 2 ^ 27
-    some p = core (h - shareDistance) (omega arith)
+under-quotient X c q h large one l small e =
+    at-difference (λ g. g * suc X + suc (c + decayDistance) * 2 ^ 27 ≤ 2 ^ 32 * 2 ^ 27) h shareDistance
+    (omega arith)
+    (λ g f. omega (arith, mul-le-mul-right {m = g + (shareDistance - 1)} {n = q} X (omega arith)))
 
 module _ (a b : ℕ) (a-pos : 0 < a) (b-pos : 0 < b) where
   -- (1 − e^(−x)) / x is at most 1
   share-high-one : ShareHigh a b (2 ^ 27)
-  share-high-one = ⊎-elim large small (eq-zero-or-pos (b - a))
+  share-high-one = ⊎-elim large small (le-or-lt b a)
     where
-      large : b - a ≡ 0 → ShareHigh a b (2 ^ 27)
+      large : b ≤ a → ShareHigh a b (2 ^ 27)
       large e = record { c = 0; s = 0; bound = record { every = λ k. omega arith }; holds = omega arith }
 
       squares : b ≤ a * a * (b * b)
       squares = omega (arith, mul-le-mul (mul-pos a-pos a-pos) (le-mul-of-pos-right b b-pos))
 
-      small : 0 < b - a → ShareHigh a b (2 ^ 27)
+      small : a < b → ShareHigh a b (2 ^ 27)
       small h =
           let below : a ≤ b = omega arith in
           record {
@@ -193,24 +187,20 @@ module _ (a b : ℕ) (a-pos : 0 < a) (b-pos : 0 < b) where
     -- ---- the two cases, and the cap at 1
 
     share-high-at-min : (h : ℕ) → ShareHigh a b h → ShareHigh a b (min (2 ^ 27) h)
-    share-high-at-min h w =
-        ⊎-elim
-        (λ e. rw (min-eq-left {n = 2 ^ 27} {m = h} (omega arith)) share-high-one)
-        (λ l. rw (min-eq-right {n = h} {m = 2 ^ 27} (omega arith)) w)
-        (eq-zero-or-pos (2 ^ 27 - h))
+    share-high-at-min h w = at-min (ShareHigh a b) (2 ^ 27) h share-high-one w
 
     pub share-high : ShareHigh a b (shareAbove X)
     unfolding shareAbove
     share-high =
         ⊎-elim
-        (λ e. let l : X < 2 ^ 23 = omega arith in rw (lt-ltb X (2 ^ 23) l) (share-high-at-min _ (small-high l)))
-        (λ e. let l : 2 ^ 23 ≤ X = omega arith in rw (le-ltb X (2 ^ 23) l) (share-high-at-min _ (large-high l)))
-        (eq-zero-or-pos (suc X - 2 ^ 23))
+        (λ l. rw (le-ltb X (2 ^ 23) l) (share-high-at-min _ (large-high l)))
+        (λ l. rw (lt-ltb X (2 ^ 23) l) (share-high-at-min _ (small-high l)))
+        (le-or-lt (2 ^ 23) X)
 
     pub share-low : ShareLow a b (shareAbove X - shareDistance)
     unfolding shareAbove shareOfSmall
     share-low =
         ⊎-elim
-        (λ e. let l : X < 2 ^ 23 = omega arith in rw (lt-ltb X (2 ^ 23) l) (share-low-weaker _ (omega arith) (small-low l)))
-        (λ e. let l : 2 ^ 23 ≤ X = omega arith in rw (le-ltb X (2 ^ 23) l) (large-low l _ (omega arith) (omega arith)))
-        (eq-zero-or-pos (suc X - 2 ^ 23))
+        (λ l. rw (le-ltb X (2 ^ 23) l) (large-low l _ (omega arith) (omega arith)))
+        (λ l. rw (lt-ltb X (2 ^ 23) l) (share-low-weaker _ (omega arith) (small-low l)))
+        (le-or-lt (2 ^ 23) X)

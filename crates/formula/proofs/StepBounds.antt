@@ -1,14 +1,13 @@
 -- Laws of the steps of FixedPoint.antt that the code rests on: none of them leaves 64 bits, the table ends at 355, and a long quotient is
 -- computed in two digits. Assumes nothing.
-use mathlib.Core.Bool.{true}
-use mathlib.Core.Path.{_≡_, _∙_, ap, subst, sym}
+use mathlib.Core.Path.{_≡_}
 use Prim.Native.Nat.{ℕ, _+_, _*_, _-_, _^_, _/_, _%_, _≤_, _<_, max}
-use native.Mathlib.Nat.{zero-lt-suc, le-of-lt, le-trans, mul-le-mul, mul-le-mul-left, mul-le-mul-right, mul-lt-mul-of-pos-right, lt-of-mul-lt-mul-right, div-le-of-le-mul, div-mul-le-self, div-eq-of-lt, div-add-mod', mul-add-div-right, min-le-left}
+use native.Mathlib.Nat.{zero-lt-suc, le-of-lt, mul-le-mul, mul-le-mul-left, mul-le-mul-right, mul-lt-mul-of-pos-right, lt-of-mul-lt-mul-right, div-le-of-le-mul, div-eq-of-lt, min-le-left}
 use native.Mathlib.Omega.{arith}
-use lib.Dec.{T, leb, leb→le, ltb→lt}
+use lib.Dec.{leb, leb→le, ltb→lt}
 use Rattle.formula.specs.Fraction.{Fraction, over, AtMost}
 use Rattle.formula.specs.Formula.{low, factorial}
-use Rattle.formula.specs.FixedPoint.{entry, fineDecay, decayBelow, decayAbove, shareAbove, productAbove, withinLimits}
+use Rattle.formula.specs.FixedPoint.{entry, fineDecay, decayBelow, decayAbove, shareAbove, productAbove}
 use Rattle.formula.proofs.SeriesLaws.{low-at-least-one, low-bottom-pos, low-grows}
 use Rattle.formula.proofs.Table.{at-each}
 
@@ -81,18 +80,6 @@ decay-and-share-at-most l x = mul-le-mul {n₂ = 2 ^ 32} {m₂ = 2 ^ 27} (decay-
 pub product-above-at-most : (l x : ℕ) → productAbove l x ≤ 2 ^ 27
 unfolding productAbove
 product-above-at-most l x = omega (arith, decay-and-share-at-most l x)
-
--- ---- long division
-
--- a × s × s over b, by a digit to the base s and then by one of the rest
-pub long-division : (a b s : ℕ) → 0 < b → a * s / b * s + a * s % b * s / b ≡ a * (s * s) / b
-long-division a b s pos =
-    sym (mul-add-div-right pos (a * s / b * s) (a * s % b * s)) ∙
-    ap (λ (x : ℕ). x / b) (omega (arith, ap (λ (x : ℕ). x * s) (div-add-mod' (a * s) b)))
-
--- a quotient is small where the divisor is large
-pub quotient-at-most : (n b c : ℕ) → c ≤ b → n / b * c ≤ n
-quotient-at-most n b c h = le-trans (mul-le-mul-left (n / b) h) (div-mul-le-self n b)
 
 -- ---- the formula
 

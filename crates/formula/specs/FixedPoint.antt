@@ -1,10 +1,10 @@
 -- The steps by which the raw weight is computed in 64-bit words, as one function of A, D, K and p. Nobody needs to believe this file: the law
--- `raw-weight-is` (proofs/Theorems.antt) says that rawWeight is a raw weight in the sense of Formula.antt, on all inputs.
+-- `raw-weight-is` (proofs/RawWeightLaw.antt) says that rawWeight is a raw weight in the sense of Formula.antt, on all inputs.
 -- An exponent x or L is counted in units of 2^−32, cut to whole units.
 use mathlib.Core.Bool.{Bool, cond, _&&_}
 use Prim.Native.Nat.{ℕ, _+_, _*_, _-_, _/_, _%_, _^_, min, max}
 use lib.Dec.{leb, ltb, eqb}
-use Rattle.formula.specs.Fraction.{Fraction, over}
+use Rattle.formula.specs.Fraction.{over}
 use Rattle.formula.specs.Formula.{low}
 use Rattle.formula.specs.declared.RawWeight.{RawWeight}
 use Rattle.formula.specs.declared.RawWeight.the-variants.{Weight, NoThickness, OutsideLimits}

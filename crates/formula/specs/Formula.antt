@@ -76,6 +76,10 @@ EndAtMost e w = AtMost (e .gain) (plus (whole w) (e .loss))
 abbrev pub EndAboveMinusTwo : Difference → ℕ → Type 0
 EndAboveMinusTwo e w = Below (plus (whole w) (e .loss)) (plus (e .gain) (whole 2))
 
+-- one end at most another
+abbrev pub DifferenceAtMost : Difference → Difference → Type 0
+DifferenceAtMost x y = AtMost (plus (x .gain) (y .loss)) (plus (y .gain) (x .loss))
+
 -- "A k counts only where it is admitted for both."
 pub record Counts (A D K p k : ℕ) : Type 0 where
   pub lower : Admitted (lowerExponent A K p) k

@@ -9,7 +9,7 @@ use Rattle.formula.specs.Formula.{IsRawWeight}
 use Rattle.formula.specs.FixedPoint.{withinLimits, rawWeight}
 use Rattle.formula.specs.declared.RawWeight.{RawWeight}
 use Rattle.formula.proofs.Limits.{limits-of-test}
-use Rattle.formula.proofs.Theorems.{raw-weight-is}
+use Rattle.formula.proofs.RawWeightLaw.{raw-weight-is}
 use Rattle.formula.proofs.raw_weight.Statement.{statement}
 use Rattle.formula.proofs.raw_weight.Tie as tie
 

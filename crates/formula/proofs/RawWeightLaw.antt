@@ -2,21 +2,21 @@
 -- and is at most 125,000. Assumes nothing.
 use mathlib.Core.Bool.{Bool, true, false}
 use mathlib.Core.Path.{_≡_, refl, subst}
-use Prim.Native.Nat.{ℕ, zero, suc, _+_, _*_, _-_, _^_, _/_, max, _≤_, _<_}
-use native.Mathlib.Nat.{mul-pos, mul-le-mul-left, mul-le-mul-right, mul-lt-mul-of-pos-left, zero-lt-suc, div-mul-le-self, lt-div-mul-add, lt-of-mul-lt-mul-right, le-of-suc-le-suc, ne-of-gt}
+use Prim.Native.Nat.{ℕ, suc, _+_, _*_, _-_, _^_, max, _≤_, _<_}
+use native.Mathlib.Nat.{mul-pos, mul-le-mul-left, mul-lt-mul-of-pos-left, div-mul-le-self, lt-div-mul-add, lt-of-mul-lt-mul-right, le-of-suc-le-suc, ne-of-gt}
 use native.Mathlib.Omega.{arith}
 use borrow.Author.Tests.{le-leb, lt-leb, eq-eqb, ne-eqb}
 use Rattle.formula.specs.Fraction.{Fraction, over, plus, times, dividedBy, inverse, whole}
 use Rattle.formula.specs.Formula.{low, up, Difference, EndAtMost, EndAboveMinusTwo, Passes, WithinLimits, IsRawWeight}
 use Rattle.formula.specs.FixedPoint.{productDistance, productAbove, units, formulaWeight, withinLimits, rawWeight}
-use Rattle.formula.specs.declared.RawWeight.{RawWeight}
 use Rattle.formula.specs.declared.RawWeight.the-variants.{Weight, NoThickness, OutsideLimits}
+use Rattle.formula.proofs.Numbers.{ceiling-at-least, ceiling-below}
 use Rattle.formula.proofs.Limits.{limits-of-test, test-of-limits}
 use Rattle.formula.proofs.SeriesLaws.{low-top-pos, up-top-pos}
-use Rattle.formula.proofs.Decay.{NotAbove, NotBelow, not-above-smaller, not-below-larger}
+use Rattle.formula.proofs.DecayBounds.{not-above-smaller, not-below-larger}
 use Rattle.formula.proofs.DecaySteps.{decay-not-above}
 use Rattle.formula.proofs.Share.{share-high, share-low}
-use Rattle.formula.proofs.Ends.{GapAtMost, GapAtLeast, Gap, gap-at-some-k}
+use Rattle.formula.proofs.Gap.{GapAtMost, GapAtLeast, Gap, gap-at-some-k}
 use Rattle.formula.proofs.Product.{decay-above-not-below, product-high, product-low}
 use Rattle.formula.proofs.StepBounds.{product-above-at-most}
 
@@ -55,14 +55,6 @@ module _ (t m b v w P : ℕ) (e f : Fraction) where
   end-above : 0 < m → 0 < e .top → 0 < f .top → GapAtLeast (2 ^ 27) (1 * b) (v * 1000000) e f P →
       w * (m * 2 ^ 27) < 125000 * (t * 2 ^ 27 + v * P) + 2 * (m * 2 ^ 27) → EndAboveMinusTwo (endOf t m b e f) w
   end-above = multiplied-low t m b v w P (e .top) (e .bottom) (f .top) (f .bottom)
-
--- a quotient rounded up, by adding the divisor less 1
-module _ (n d : ℕ) (d-pos : 0 < d) where
-  ceiling-at-least : n ≤ (n + (d - 1)) / d * d
-  ceiling-at-least = omega (arith, lt-div-mul-add {a = n + (d - 1)} d-pos)
-
-  ceiling-below : (n + (d - 1)) / d * d < n + d
-  ceiling-below = omega (arith, div-mul-le-self (n + (d - 1)) d)
 
 -- a quotient cut to whole units lies between itself and the next unit
 module _ (a b : ℕ) (b-pos : 0 < b) where

@@ -1,9 +1,9 @@
 -- What it means that a fraction c / s lies on one side of e^(−q), in terms of the series alone, and how such facts are combined.
 -- Assumes nothing.
-use Prim.Native.Nat.{ℕ, zero, suc, _+_, _*_, _^_, _/_, _≤_, _<_}
+use Prim.Native.Nat.{ℕ, _+_, _*_, _≤_, _<_}
 use native.Mathlib.Nat.{mul-le-mul, mul-le-mul-left, mul-le-mul-right, le-of-mul-le-mul-right, mul-pos}
 use native.Mathlib.Omega.{arith}
-use Rattle.formula.specs.Fraction.{Fraction, over, times, AtMost}
+use Rattle.formula.specs.Fraction.{Fraction, over, AtMost}
 use Rattle.formula.specs.Formula.{low, up, Admitted}
 use Rattle.formula.proofs.SeriesLaws.{low-bottom-pos, up-bottom-pos, low-at-most-up, low-grows}
 use Rattle.formula.proofs.Exponents.{low-of-sum-at-most, low-of-sum-at-least}

@@ -1,11 +1,10 @@
 -- From bounds for e^(−l) and for (1 − e^(−x)) / x to bounds for e^(−l) − e^(−(l + x)), at one k. Assumes nothing.
-use mathlib.Core.Path.{_≡_, ap}
-use Prim.Native.Nat.{ℕ, zero, suc, _+_, _*_, _^_, _≤_, _<_}
-use native.Mathlib.Nat.{mul-pos, mul-le-mul, mul-le-mul-left, mul-le-mul-right, le-of-mul-le-mul-right, zero-lt-suc}
+use Prim.Native.Nat.{ℕ, suc, _+_, _*_, _^_, _≤_, _<_}
+use native.Mathlib.Nat.{mul-le-mul-left, le-of-mul-le-mul-right, zero-lt-suc}
 use native.Mathlib.Omega.{arith}
 use Rattle.formula.specs.Fraction.{Fraction, over}
 use Rattle.formula.specs.Formula.{low, up, Admitted}
-use Rattle.formula.proofs.Decay.{NotAbove, NotBelow}
+use Rattle.formula.proofs.DecayBounds.{NotAbove, NotBelow}
 use Rattle.formula.proofs.Share.{ShareHigh, ShareLow}
 use Rattle.formula.proofs.Eventually.{Eventually, both-eventually, map-eventually, at-some-k, up-bounded, low-bounded, admitted-eventually, over-eventually, under-eventually}
 
