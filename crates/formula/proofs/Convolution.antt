@@ -1,4 +1,5 @@
--- Sequences of whole numbers: partial sums, the convolution (the coefficients of a product of two series), and sequences that run as the terms of an exponential series. Assumes nothing.
+-- Sequences of whole numbers: partial sums, the convolution (the coefficients of a product of two series), and sequences that run as the
+-- terms of an exponential series. No axioms.
 use mathlib.Core.Path.{_≡_, refl, ap}
 use Prim.Native.Nat.{ℕ, zero, suc, _+_, _*_, _≤_, _<_, suc-le-suc}
 use native.Mathlib.Nat.{zero-add, suc-add, le-refl, le-of-lt, le-add-right, mul-le-mul-left, zero-lt-suc}

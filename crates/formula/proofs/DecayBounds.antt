@@ -1,5 +1,5 @@
 -- What it means that a fraction c / s lies on one side of e^(−q), in terms of the series alone, and how such facts are combined.
--- Assumes nothing.
+-- No axioms.
 use Prim.Native.Nat.{ℕ, _+_, _*_, _≤_, _<_}
 use native.Mathlib.Nat.{mul-le-mul, mul-le-mul-left, mul-le-mul-right, le-of-mul-le-mul-right, mul-pos}
 use native.Mathlib.Omega.{arith}

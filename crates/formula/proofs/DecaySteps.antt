@@ -1,4 +1,4 @@
--- decayBelow x is at most 2^32 × e^(−x), also for an exponent up to one unit larger, and at most decayDistance below it. Assumes nothing.
+-- decayBelow x is at most 2^32 × e^(−x), also for an exponent up to one unit larger, and at most decayDistance below it. No axioms.
 use mathlib.Core.Path.{_≡_, ap}
 use Prim.Native.Nat.{ℕ, suc, _+_, _*_, _-_, _^_, _/_, _%_, _≤_, _<_}
 use native.Mathlib.Nat.{mul-le-mul, mul-le-mul-left, mul-le-mul-right}

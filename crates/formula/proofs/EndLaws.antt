@@ -1,4 +1,4 @@
--- No lower end passes an upper end, so two whole numbers that pass differ by at most 1. Assumes nothing.
+-- No lower end of a counted k passes an upper end of a counted k, so two whole numbers that pass differ by at most 1. No axioms.
 use mathlib.Core.Path.{_≡_}
 use Prim.Native.Nat.{ℕ, suc, _+_, _*_, _-_, _≤_, _<_}
 use native.Mathlib.Nat.{le-refl, mul-pos, mul-le-mul-right, mul-lt-mul-of-pos-right, lt-of-mul-lt-mul-right, zero-lt-suc}
@@ -11,14 +11,15 @@ use Rattle.formula.proofs.SeriesLaws.{low-top-pos, up-top-pos, low-at-m
 -- ---- differences
 
 abbrev pub BottomsAboveZero : Difference → Type 0
-BottomsAboveZero x = (0 < x .gain .bottom) × (0 < x .loss .bottom)
+BottomsAboveZero x = (0 < x .minuend .bottom) × (0 < x .subtrahend .bottom)
 
 -- w′ − 2 < x ≤ y ≤ w gives w′ < w + 2
-below-plus-two : (x y : Difference) (w w′ : ℕ) → 0 < y .gain .bottom → 0 < y .loss .bottom → DifferenceAtMost x y → EndAtMost y w → EndAboveMinusTwo x w′ → w′ < w + 2
-below-plus-two x y w w′ gain-pos loss-pos between at-most above =
-    let bottoms = x .gain .bottom * x .loss .bottom in
-    lt-of-mul-lt-mul-right (bottoms * (y .gain .bottom * y .loss .bottom))
-    (omega (arith, mul-le-mul-right bottoms at-most, mul-lt-mul-of-pos-right above (mul-pos gain-pos loss-pos)))
+below-plus-two : (x y : Difference) (w w′ : ℕ) → BottomsAboveZero y → DifferenceAtMost x y → EndAtMost y w → EndAboveMinusTwo x w′ →
+    w′ < w + 2
+below-plus-two x y w w′ bottoms-pos between at-most above =
+    let bottoms = x .minuend .bottom * x .subtrahend .bottom in
+    lt-of-mul-lt-mul-right (bottoms * (y .minuend .bottom * y .subtrahend .bottom))
+    (omega (arith, mul-le-mul-right bottoms at-most, mul-lt-mul-of-pos-right above (mul-pos (bottoms-pos .0) (bottoms-pos .1))))
 
 per-thickness-grows : (A D : ℕ) (x y : Fraction) → AtMost x y → AtMost (perThickness A D x) (perThickness A D y)
 per-thickness-grows A D x y h = divided-at-most-divided _ _ (whole (D - A)) (times-at-most-times x y (whole 125000) h)
@@ -32,48 +33,46 @@ weight-grows A D K p e e′ f f′ h l =
 
 -- ---- the ends
 
-module _ (A D K p : ℕ) (K-pos : 0 < K) (p-pos : 0 < p) where
+module _ (A D K p : ℕ) (K-pos : 0 < K) (p-pos : 0 < p) (thick : A < D) where
   -- the bottom of l/s and of u/s
   exponent-bottom-pos : 0 < 1 * (p * K)
   exponent-bottom-pos = mul-pos (zero-lt-suc 0) (mul-pos p-pos K-pos)
 
+  weight-bottoms : (e f : Fraction) → 0 < e .bottom → 0 < f .bottom → BottomsAboveZero (weightWith A D K p e f)
+  weight-bottoms e f e-pos f-pos =
+      let thickness : 0 < D - A = omega arith in
+      (omega (arith, mul-pos e-pos thickness), omega (arith, mul-pos f-pos thickness))
+
+  -- The fractions that the ends compare are fractions: no bottom is 0.
+  pub upper-bottoms : (k : ℕ) → BottomsAboveZero (upperEnd A D K p k)
+  upper-bottoms k =
+      weight-bottoms (inverse (low (lowerExponent A K p) k)) (inverse (up (upperExponent D K p) k))
+      (omega (arith, low-top-pos (lowerExponent A K p) exponent-bottom-pos k))
+      (omega (arith, up-top-pos (upperExponent D K p) exponent-bottom-pos k))
+
+  pub lower-bottoms : (k : ℕ) → BottomsAboveZero (lowerEnd A D K p k)
+  lower-bottoms k =
+      weight-bottoms (inverse (up (lowerExponent A K p) k)) (inverse (low (upperExponent D K p) k))
+      (omega (arith, up-top-pos (lowerExponent A K p) exponent-bottom-pos k))
+      (omega (arith, low-top-pos (upperExponent D K p) exponent-bottom-pos k))
+
   -- No lower end of any counted k passes an upper end of any counted k′: 1 / Up(k) ≤ 1 / Low(k′) at l/s, and 1 / Up(k′) ≤ 1 / Low(k) at u/s.
-  pub ends-apart : (k k′ : ℕ) → Counts A D K p k → Counts A D K p k′ → DifferenceAtMost (lowerEnd A D K p k) (upperEnd A D K p k′)
-  ends-apart k k′ h h′ =
+  pub lower-at-most-upper : (k k′ : ℕ) → Counts A D K p k → Counts A D K p k′ → DifferenceAtMost (lowerEnd A D K p k) (upperEnd A D K p k′)
+  lower-at-most-upper k k′ h h′ =
       weight-grows A D K p _ _ _ _
-      (inverse-at-most-inverse _ _ (low-at-most-up (lowerExponent A K p) exponent-bottom-pos k′ k (h .lower)))
-      (inverse-at-most-inverse _ _ (low-at-most-up (upperExponent D K p) exponent-bottom-pos k k′ (h′ .upper)))
+      (inverse-at-most-inverse _ _ (low-at-most-up (lowerExponent A K p) exponent-bottom-pos k′ k (h .at-l)))
+      (inverse-at-most-inverse _ _ (low-at-most-up (upperExponent D K p) exponent-bottom-pos k k′ (h′ .at-u)))
 
-  module _ (thick : A < D) where
-    weight-bottoms : (e f : Fraction) → 0 < e .bottom → 0 < f .bottom → BottomsAboveZero (weightWith A D K p e f)
-    weight-bottoms e f e-pos f-pos =
-        let thickness : 0 < D - A = omega arith in
-        (omega (arith, mul-pos e-pos thickness), omega (arith, mul-pos f-pos thickness))
+  -- Two numbers that pass differ by at most 1.
+  pub passing-close : (w w′ : ℕ) → Passes A D K p w → Passes A D K p w′ → w′ ≤ suc w
+  passing-close w w′ h h′ =
+      let apart = lower-at-most-upper (h′ .k) (h .k) (h′ .counts) (h .counts) in
+      omega (arith, below-plus-two _ _ w w′ (upper-bottoms (h .k)) apart (h .upper) (h′ .lower))
 
-    -- The fractions that the ends compare are fractions: no bottom is 0.
-    pub upper-bottoms : (k : ℕ) → BottomsAboveZero (upperEnd A D K p k)
-    upper-bottoms k =
-        weight-bottoms (inverse (low (lowerExponent A K p) k)) (inverse (up (upperExponent D K p) k))
-        (omega (arith, low-top-pos (lowerExponent A K p) exponent-bottom-pos k))
-        (omega (arith, up-top-pos (upperExponent D K p) exponent-bottom-pos k))
+  -- So no three numbers pass: the outer two would differ by at least 2,
+  pub no-three-pass : (v w x : ℕ) → v < w → w < x → Passes A D K p v → Passes A D K p x → ⊥
+  no-three-pass v w x h l first last = omega (arith, passing-close v x first last)
 
-    pub lower-bottoms : (k : ℕ) → BottomsAboveZero (lowerEnd A D K p k)
-    lower-bottoms k =
-        weight-bottoms (inverse (up (lowerExponent A K p) k)) (inverse (low (upperExponent D K p) k))
-        (omega (arith, up-top-pos (lowerExponent A K p) exponent-bottom-pos k))
-        (omega (arith, low-top-pos (upperExponent D K p) exponent-bottom-pos k))
-
-    -- Two numbers that pass differ by at most 1.
-    pub passing-close : (w w′ : ℕ) → Passes A D K p w → Passes A D K p w′ → w′ ≤ suc w
-    passing-close w w′ h h′ =
-        let bottoms = upper-bottoms (h .k) in
-        let apart = ends-apart (h′ .k) (h .k) (h′ .counts) (h .counts) in
-        omega (arith, below-plus-two _ _ w w′ (bottoms .0) (bottoms .1) apart (h .upper) (h′ .lower))
-
-    -- So no three numbers pass: the outer two would differ by 2,
-    pub no-three-pass : (v w x : ℕ) → v < w → w < x → Passes A D K p v → Passes A D K p x → ⊥
-    no-three-pass v w x h l first last = omega (arith, passing-close v x first last)
-
-    -- and where 125,001 would pass, 125,000 is the one raw weight that does.
-    pub one-below-the-top : (w : ℕ) → w ≤ 125000 → Passes A D K p 125001 → Passes A D K p w → w ≡ 125000
-    one-below-the-top w most top h = omega (arith, passing-close w 125001 h top)
+  -- and where 125,001 passes, 125,000 is the only raw weight that can.
+  pub only-125000 : (w : ℕ) → w ≤ 125000 → Passes A D K p 125001 → Passes A D K p w → w ≡ 125000
+  only-125000 w most top h = omega (arith, passing-close w 125001 h top)

@@ -1,9 +1,9 @@
--- The entries of the decay table (d = 16) and of the fine table (d = 1024) are whole parts of 2^32 × e^(−n/d). Assumes nothing.
+-- The entries of the decay table (d = 16) and of the fine table (d = 1024) are whole parts of 2^32 × e^(−n/d). No axioms.
 use mathlib.Core.Bool.{Bool}
 use mathlib.Core.Logic.{⊎-elim}
 use mathlib.Core.Path.{_≡_}
 use Prim.Native.Nat.{ℕ, suc, _+_, _*_, _^_, _≤_, _<_, zero-le}
-use native.Mathlib.Nat.{le-antisymm, le-of-suc-le-suc, lt-of-mul-lt-mul-right, mul-le-mul-left, mul-le-mul-right, mul-lt-mul-of-pos-right, lt-div-mul-add, lt-of-lt-of-le, zero-mul}
+use native.Mathlib.Nat.{le-antisymm, le-of-suc-le-suc, lt-of-mul-lt-mul-right, mul-le-mul-left, mul-le-mul-right, mul-lt-mul-of-pos-right, lt-div-mul-add, zero-mul}
 use native.Mathlib.Numerals.{add-one}
 use native.Mathlib.Omega.{arith}
 use lib.Dec.{leb, leb→le}
@@ -12,16 +12,16 @@ use Rattle.formula.specs.Formula.{factorial, low, up, WholePart, DecayEn
 use Rattle.formula.specs.FixedPoint.{entry}
 use Rattle.formula.proofs.Numbers.{le-or-lt}
 use Rattle.formula.proofs.Table.{at-each}
-use Rattle.formula.proofs.SeriesLaws.{low-bottom-pos, low-at-least-one, up-bottom-pos, low-at-most-up}
+use Rattle.formula.proofs.SeriesLaws.{low-top-pos, up-bottom-pos, low-at-most-up}
 use Rattle.formula.proofs.DecayBounds.{NotAbove, NotBelow, not-above-by-up}
 use Rattle.formula.proofs.StepBounds.{entry-zero}
 
--- the entry times Up(43) is at most 2^32
+-- the computed test: the entry times Up(43) is at most 2^32
 abbrev fits : ℕ → ℕ → Bool
 unfolding low entry factorial
 fits d n = leb (entry n d * up (over n d) 43 .top) (2 ^ 32 * up (over n d) 43 .bottom)
 
--- the computed test: every entry of a table with at most 22.2 as its last exponent
+-- what it says
 abbrev Fits : ℕ → ℕ → Type 0
 Fits d n = entry n d * up (over n d) 43 .top ≤ 2 ^ 32 * up (over n d) 43 .bottom
 
@@ -36,9 +36,7 @@ fine-fits m h = leb→le _ _ (at-each (fits 1024) 64 tt m h)
 -- the next whole number is above 2^32 × e^(−n/d)
 entry-next : (n d : ℕ) → 0 < d → 2 ^ 32 * low (over n d) 43 .bottom < (entry n d + 1) * low (over n d) 43 .top
 unfolding entry
-entry-next n d pos =
-    let above : 0 < low (over n d) 43 .top = lt-of-lt-of-le (low-bottom-pos (over n d) pos 43) (low-at-least-one (over n d) 43) in
-    omega (arith, lt-div-mul-add {a = 2 ^ 32 * low (over n d) 43 .bottom} above)
+entry-next n d pos = omega (arith, lt-div-mul-add {a = 2 ^ 32 * low (over n d) 43 .bottom} (low-top-pos (over n d) pos 43))
 
 pub entry-not-below : (n d : ℕ) → 0 < d → NotBelow (entry n d + 1) (2 ^ 32) (over n d)
 entry-not-below n d pos = record { some-k = 43; holds = omega (arith, entry-next n d pos) }
@@ -87,6 +85,10 @@ whole-part n = ⊎-elim beyond within (le-or-lt 355 n)
           next-above = next;
         }
 
+-- From 355 on it is 0.
+pub whole-part-zero : (n : ℕ) → 355 ≤ n → DecayEntry n 0
+whole-part-zero n h = rw (entry-zero n h) at (whole-part n)
+
 -- v × Up(k) ≤ 2^32 bounds every Low as well
 pub entry-not-above : (n : ℕ) → NotAbove (entry n 16) (2 ^ 32) (over n 16)
 entry-not-above n =
@@ -94,7 +96,7 @@ entry-not-above n =
     not-above-by-up (over n 16) (omega arith) (entry n 16) (2 ^ 32) (w .k) (w .admitted)
     (product-at-most (entry n 16) (2 ^ 32) (up (over n 16) (w .k)) (w .at-most))
 
--- v × u ≤ m < v′ × l and l ≤ u
+-- v × u ≤ m < (v′ + 1) × l and l ≤ u give v < v′ + 1, times the positive u × l
 chained : (v v′ m : ℕ) (u l : Fraction) → 0 < u .bottom → v * u .top ≤ m * u .bottom → m * l .bottom < suc v′ * l .top → AtMost l u →
     v * (u .top * l .bottom) < suc v′ * (u .top * l .bottom)
 chained v v′ m u l pos h g k =
@@ -110,4 +112,7 @@ whole-part-unique m q v v′ pos h h′ = le-antisymm (at-most v v′ h h′) (a
         let l = low q (h′ .j) in
         le-of-suc-le-suc
         (lt-of-mul-lt-mul-right (u .top * l .bottom)
-        (chained v v′ m u l (up-bottom-pos q pos (h .k)) (product-at-most v m u (h .at-most)) (product-above (suc v′) m l (rw add-one at (h′ .next-above))) (low-at-most-up q pos (h′ .j) (h .k) (h .admitted))))
+        (chained v v′ m u l (up-bottom-pos q pos (h .k))
+        (product-at-most v m u (h .at-most))
+        (product-above (suc v′) m l (rw add-one at (h′ .next-above)))
+        (low-at-most-up q pos (h′ .j) (h .k) (h .admitted))))

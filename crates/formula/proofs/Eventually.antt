@@ -1,12 +1,12 @@
 -- What holds from some k on, and the four facts about Low(k) and Up(k) of l, of x and of l + x that the ends of a raw weight rest on.
--- Assumes nothing.
+-- No axioms.
 use mathlib.Core.Path.{subst}
 use Prim.Native.Nat.{ℕ, suc, _+_, _*_, _^_, _≤_, _<_}
 use native.Mathlib.Nat.{add-assoc, add-comm, mul-le-mul-left, mul-le-mul-right, le-of-mul-le-mul-right}
 use native.Mathlib.Omega.{arith}
 use Rattle.formula.specs.Fraction.{Fraction, over, AtMost}
 use Rattle.formula.specs.Formula.{factorial, low, up, term, Admitted}
-use Rattle.formula.proofs.SeriesLaws.{low-bottom-pos, up-bottom-pos, low-at-least-one, low-rises, up-falls, closes-in}
+use Rattle.formula.proofs.SeriesLaws.{low-bottom-pos, up-bottom-pos, low-at-least-one, low-rises, up-falls, bounds-converge}
 use Rattle.formula.proofs.Exponents.{low-of-sum-at-most, low-of-sum-at-least}
 use Rattle.formula.proofs.DecayBounds.{NotAbove, NotBelow}
 
@@ -52,7 +52,7 @@ module _ (b : ℕ) (b-pos : 0 < b) where
   -- c / s is at most e^(−q): from some k on c × Up(k) ≤ s + 1
   pub up-bounded : {c s : ℕ} (a : ℕ) → NotAbove c s (over a b) → Eventually (λ k. c * up (over a b) k .top ≤ suc s * up (over a b) k .bottom)
   up-bounded {c} {s} a n =
-      let closed = closes-in (over a b) b-pos c in
+      let closed = bounds-converge (over a b) b-pos c in
       record {
         from = closed .0;
         at = λ d.
@@ -77,7 +77,7 @@ module _ (b : ℕ) (b-pos : 0 < b) where
   -- both exponents are admitted from some k on
   pub admitted-eventually : (a : ℕ) → Eventually (Admitted (over a b))
   admitted-eventually a =
-      let closed = closes-in (over a b) b-pos 0 in
+      let closed = bounds-converge (over a b) b-pos 0 in
       record { from = closed .0; at = λ d. closed .1 d .0 }
 
   module _ (a x : ℕ) {c s : ℕ} where
@@ -88,7 +88,7 @@ module _ (b : ℕ) (b-pos : 0 < b) where
         c * up (over (a + x) b) k .top * low (over a b) k .bottom ≤
         suc s * low (over a b) k .top * up (over (a + x) b) k .bottom)
     over-eventually n =
-        let closed = closes-in (over (a + x) b) b-pos c in
+        let closed = bounds-converge (over (a + x) b) b-pos c in
         record {
           from = closed .0;
           at = λ d.
@@ -122,8 +122,9 @@ module _ (b : ℕ) (b-pos : 0 < b) where
         j : ℕ
         j = n .some-k
 
-        closed : (k₀ : ℕ) × ((d : ℕ) → Admitted (over a b) (d + k₀) × (s * (2 * a ^ suc (d + k₀)) ≤ b ^ suc (d + k₀) * factorial (suc (d + k₀))))
-        closed = closes-in (over a b) b-pos s
+        closed : (k₀ : ℕ) × ((d : ℕ) → Admitted (over a b) (d + k₀) ×
+            (s * (2 * term (over a b) (suc (d + k₀)) .top) ≤ term (over a b) (suc (d + k₀)) .bottom))
+        closed = bounds-converge (over a b) b-pos s
 
         lows : (i : ℕ) → s * low (over a b) i .top * low (over (a + x) b) (i + j) .bottom ≤ c * low (over (a + x) b) (i + j) .top * low (over a b) i .bottom
         lows i =

@@ -1,5 +1,6 @@
--- Low(k) of x + y against the product of the series of x and of y: Low(k) of the sum is at most Low(k) × Low(k), and Low(j) × Low(k) is at most Low(j + k) of the sum, for x = a/b and y = c/b. Assumes nothing.
--- All terms up to some m are brought to one bottom, so that the series become sums of whole numbers, of which Convolution.antt knows the laws.
+-- The law of exponents for the series, x = a/b and y = c/b: Low(k) of x + y is at most the product of the two Low(k), and Low(j) of x times
+-- Low(k) of y is at most Low(j + k) of x + y. No axioms.
+-- All terms up to some m are brought to one bottom, so that the series become sums of whole numbers, whose laws are in Convolution.antt.
 use mathlib.Core.Path.{_≡_, ap}
 use Prim.Native.Nat.{ℕ, zero, suc, _+_, _*_, _^_, _≤_, _<_, suc-le-suc}
 use native.Mathlib.Nat.{pow-zero, pow-suc, mul-pos, mul-le-mul-right, le-of-mul-le-mul-right, le-refl, le-add-left, le-add-right, le-of-lt, zero-lt-suc}

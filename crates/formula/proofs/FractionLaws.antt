@@ -1,4 +1,4 @@
--- The order of fractions: plus, times and a fixed division keep it, an inverse turns it round. Assumes nothing.
+-- The order of fractions: plus, times and a fixed division keep it, an inverse turns it round. No axioms.
 use Prim.Native.Nat.{_*_, _<_}
 use native.Mathlib.Nat.{mul-le-mul-right, le-of-mul-le-mul-right}
 use native.Mathlib.Omega.{arith}

@@ -1,11 +1,11 @@
--- From bounds for e^(−l) and for (1 − e^(−x)) / x to bounds for e^(−l) − e^(−(l + x)), at one k. Assumes nothing.
+-- From bounds for e^(−l) and for (1 − e^(−x)) / x to bounds for e^(−l) − e^(−(l + x)), at one k. No axioms.
 use Prim.Native.Nat.{ℕ, suc, _+_, _*_, _^_, _≤_, _<_}
 use native.Mathlib.Nat.{mul-le-mul-left, le-of-mul-le-mul-right, zero-lt-suc}
 use native.Mathlib.Omega.{arith}
 use Rattle.formula.specs.Fraction.{Fraction, over}
 use Rattle.formula.specs.Formula.{low, up, Admitted}
 use Rattle.formula.proofs.DecayBounds.{NotAbove, NotBelow}
-use Rattle.formula.proofs.Share.{ShareHigh, ShareLow}
+use Rattle.formula.proofs.MeanDecay.{MeanDecayHigh, MeanDecayLow}
 use Rattle.formula.proofs.Eventually.{Eventually, both-eventually, map-eventually, at-some-k, up-bounded, low-bounded, admitted-eventually, over-eventually, under-eventually}
 
 module _ (M b x : ℕ) (u v : Fraction) where
@@ -20,12 +20,12 @@ module _ (M b x : ℕ) (u v : Fraction) where
   -- with s × 1 / v at least c × 1 / u, and 1 / u at most g / t
   gap-high : (s c g t h P : ℕ) → 0 < s → 0 < t → c * v .top * u .bottom ≤ s * u .top * v .bottom →
       s * (M * b) ≤ s * (h * x) + c * (M * b) → t * u .bottom ≤ g * u .top → g * h ≤ P * t → GapAtMost P
-  gap-high s c g t h P s-pos t-pos bound share low-u product = omega (arith, first, mul-le-mul-left (x * v .top) second)
+  gap-high s c g t h P s-pos t-pos bound mean low-u product = omega (arith, first, mul-le-mul-left (x * v .top) second)
     where
       first : M * b * (u .bottom * v .top) ≤ M * b * (v .bottom * u .top) + h * x * (u .bottom * v .top)
       first =
           le-of-mul-le-mul-right {k = s}
-          (omega (arith, mul-le-mul-left (M * b) bound, mul-le-mul-left (u .bottom * v .top) share))
+          (omega (arith, mul-le-mul-left (M * b) bound, mul-le-mul-left (u .bottom * v .top) mean))
           s-pos
 
       second : h * u .bottom ≤ P * u .top
@@ -37,12 +37,12 @@ module _ (M b x : ℕ) (u v : Fraction) where
   -- with s × 1 / v at most c × 1 / u, and 1 / u at least f / t
   gap-low : (s c f t h P : ℕ) → 0 < s → 0 < t → s * u .top * v .bottom ≤ c * v .top * u .bottom →
       s * (h * x) + c * (M * b) ≤ s * (M * b) → f * u .top ≤ t * u .bottom → P * t ≤ f * h → GapAtLeast P
-  gap-low s c f t h P s-pos t-pos bound share up-u product = omega (arith, first, mul-le-mul-left (x * v .top) second)
+  gap-low s c f t h P s-pos t-pos bound mean up-u product = omega (arith, first, mul-le-mul-left (x * v .top) second)
     where
       first : h * x * (u .bottom * v .top) + M * b * (v .bottom * u .top) ≤ M * b * (u .bottom * v .top)
       first =
           le-of-mul-le-mul-right {k = s}
-          (omega (arith, mul-le-mul-left (M * b) bound, mul-le-mul-left (u .bottom * v .top) share))
+          (omega (arith, mul-le-mul-left (M * b) bound, mul-le-mul-left (u .bottom * v .top) mean))
           s-pos
 
       second : P * u .top ≤ h * u .bottom
@@ -59,7 +59,7 @@ pub record Gap (l x u b P Q k : ℕ) : Type 0 where
   pub least : GapAtLeast (2 ^ 27) b x (up (over l b) k) (low (over u b) k) Q
 
 module _ (l x b : ℕ) (b-pos : 0 < b) where
-  pub gap-at-some-k : {f g h h′ s : ℕ} (P Q : ℕ) → 0 < s → NotAbove f s (over l b) → NotBelow g s (over l b) → ShareHigh x b h → ShareLow x b h′ →
+  pub gap-at-some-k : {f g h h′ s : ℕ} (P Q : ℕ) → 0 < s → NotAbove f s (over l b) → NotBelow g s (over l b) → MeanDecayHigh x b h → MeanDecayLow x b h′ →
       g * h ≤ P * s → Q * suc s ≤ f * h′ → (k : ℕ) × Gap l x (l + x) b P Q k
   gap-at-some-k {f} {g} {h} {h′} {s} P Q s-pos above below hi lo product-high product-low = at-some-k eventually
     where

@@ -10,9 +10,10 @@ pub mod Rest
 pub mod StepBounds
 pub mod Entries
 pub mod DecaySteps
-pub mod Share
+pub mod MeanDecay
 pub mod Product
 pub mod Eventually
 pub mod Gap
+pub mod GapToEnds
 pub mod Limits
 pub mod RawWeightLaw

@@ -1,4 +1,4 @@
--- The test of the limits says what the limits say. Assumes nothing.
+-- The test of the limits says what the limits say. No axioms.
 use mathlib.Core.Bool.{true, _&&_}
 use mathlib.Core.Path.{_≡_, subst, sym}
 use Prim.Native.Nat.{ℕ}

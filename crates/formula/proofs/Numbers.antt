@@ -1,4 +1,4 @@
--- Laws of whole numbers that several steps share: cases, least values, truncated differences, and quotients. Assumes nothing.
+-- Laws of whole numbers that several steps share: cases, least values, truncated differences, and quotients. No axioms.
 use mathlib.Core.Logic.{_⊎_, inl, inr, ⊎-elim}
 use mathlib.Core.Path.{_≡_, _∙_, ap, sym}
 use Prim.Native.Nat.{ℕ, _+_, _*_, _-_, _/_, _%_, min, _≤_, _<_}

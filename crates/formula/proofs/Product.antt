@@ -1,16 +1,16 @@
 -- productAbove is at least the product of the two factors' high ends, and at most productDistance above the product of their low ends.
--- Assumes nothing.
+-- No axioms.
 use mathlib.Core.Logic.{⊎-elim}
 use mathlib.Core.Path.{_≡_, ap}
 use Prim.Native.Nat.{ℕ, suc, _+_, _*_, _-_, _^_, _≤_}
 use native.Mathlib.Nat.{mul-le-mul-left, mul-le-mul-right, min-le-left}
 use native.Mathlib.Omega.{arith}
 use Rattle.formula.specs.Fraction.{Fraction, over}
-use Rattle.formula.specs.FixedPoint.{decayDistance, shareDistance, productDistance, decayBelow, decayAbove, shareAbove, productAbove}
+use Rattle.formula.specs.FixedPoint.{decayDistance, meanDecayDistance, productDistance, decayBelow, decayAbove, meanDecayAbove, productAbove}
 use Rattle.formula.proofs.Numbers.{le-or-lt, at-min, at-difference}
 use Rattle.formula.proofs.SeriesLaws.{low-at-least-one}
 use Rattle.formula.proofs.DecayBounds.{NotBelow}
-use Rattle.formula.proofs.StepBounds.{decay-below-at-most, share-above-at-most, product-above-at-most}
+use Rattle.formula.proofs.StepBounds.{decay-below-at-most, mean-decay-above-at-most, product-above-at-most}
 use Rattle.formula.proofs.DecaySteps.{decay-not-below}
 
 -- e^(−q) is at most 1
@@ -24,27 +24,27 @@ decay-above-not-below x =
 
 -- P (s + 1) ≤ f h + decayDistance × h + s + P, where f ≤ s, h and P are at most 2^27 and s = 2^32
 near : (f h P : ℕ) → f ≤ 2 ^ 32 → h ≤ 2 ^ 27 → P ≤ 2 ^ 27 → P * 2 ^ 32 ≤ (f + decayDistance) * h + (2 ^ 32 - 1) →
-    (P - productDistance) * suc (2 ^ 32) ≤ f * (h - shareDistance)
-near f h P f-most h-most P-most e = at-difference (λ Q. Q * suc (2 ^ 32) ≤ f * (h - shareDistance)) P productDistance (omega arith) some
+    (P - productDistance) * suc (2 ^ 32) ≤ f * (h - meanDecayDistance)
+near f h P f-most h-most P-most e = at-difference (λ Q. Q * suc (2 ^ 32) ≤ f * (h - meanDecayDistance)) P productDistance (omega arith) some
   where
-    core : (Q i : ℕ) → Q + productDistance ≡ P → i + shareDistance ≡ h → Q * suc (2 ^ 32) ≤ f * i
+    core : (Q i : ℕ) → Q + productDistance ≡ P → i + meanDecayDistance ≡ h → Q * suc (2 ^ 32) ≤ f * i
     core Q i p q = omega (arith, ap (λ (t : ℕ). f * t) q)
 
-    some : (Q : ℕ) → Q + productDistance ≡ P → Q * suc (2 ^ 32) ≤ f * (h - shareDistance)
+    some : (Q : ℕ) → Q + productDistance ≡ P → Q * suc (2 ^ 32) ≤ f * (h - meanDecayDistance)
     some Q p =
         ⊎-elim
-        (λ l. core Q (h - shareDistance) p (omega arith))
+        (λ l. core Q (h - meanDecayDistance) p (omega arith))
         (λ l. omega (arith, mul-le-mul-right h f-most))
-        (le-or-lt shareDistance h)
+        (le-or-lt meanDecayDistance h)
 
 module _ (L x : ℕ) where
-  pub product-high : decayAbove L * shareAbove x ≤ productAbove L x * 2 ^ 32
+  pub product-high : decayAbove L * meanDecayAbove x ≤ productAbove L x * 2 ^ 32
   unfolding productAbove
   product-high = omega arith
 
-  rounded : productAbove L x * 2 ^ 32 ≤ (decayBelow L + decayDistance) * shareAbove x + (2 ^ 32 - 1)
+  rounded : productAbove L x * 2 ^ 32 ≤ (decayBelow L + decayDistance) * meanDecayAbove x + (2 ^ 32 - 1)
   unfolding productAbove decayAbove
-  rounded = omega (arith, mul-le-mul-right (shareAbove x) (min-le-left (decayBelow L + decayDistance) (2 ^ 32)))
+  rounded = omega (arith, mul-le-mul-right (meanDecayAbove x) (min-le-left (decayBelow L + decayDistance) (2 ^ 32)))
 
-  pub product-low : (productAbove L x - productDistance) * suc (2 ^ 32) ≤ decayBelow L * (shareAbove x - shareDistance)
-  product-low = near (decayBelow L) (shareAbove x) (productAbove L x) (decay-below-at-most L) (share-above-at-most x) (product-above-at-most L x) rounded
+  pub product-low : (productAbove L x - productDistance) * suc (2 ^ 32) ≤ decayBelow L * (meanDecayAbove x - meanDecayDistance)
+  product-low = near (decayBelow L) (meanDecayAbove x) (productAbove L x) (decay-below-at-most L) (mean-decay-above-at-most x) (product-above-at-most L x) rounded

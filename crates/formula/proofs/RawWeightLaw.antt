@@ -1,13 +1,13 @@
--- Demand 3 of the raw weight: where K is at least 1, D is above K and A is below D, the number that the fixed-point steps arrive at passes
--- and is at most 125,000. Assumes nothing.
+-- Demand 3 of the raw weight: where K and p are at least 1, D is above K and A is below D, the number that the fixed-point steps compute passes
+-- and is at most 125,000. No axioms.
 use mathlib.Core.Bool.{Bool, true, false}
 use mathlib.Core.Path.{_≡_, refl, subst}
 use Prim.Native.Nat.{ℕ, suc, _+_, _*_, _-_, _^_, max, _≤_, _<_}
-use native.Mathlib.Nat.{mul-pos, mul-le-mul-left, mul-lt-mul-of-pos-left, div-mul-le-self, lt-div-mul-add, lt-of-mul-lt-mul-right, le-of-suc-le-suc, ne-of-gt}
+use native.Mathlib.Nat.{mul-pos, mul-le-mul-left, div-mul-le-self, lt-div-mul-add, lt-of-mul-lt-mul-right, le-of-suc-le-suc, ne-of-gt}
 use native.Mathlib.Omega.{arith}
 use borrow.Author.Tests.{le-leb, lt-leb, eq-eqb, ne-eqb}
-use Rattle.formula.specs.Fraction.{Fraction, over, plus, times, dividedBy, inverse, whole}
-use Rattle.formula.specs.Formula.{low, up, Difference, EndAtMost, EndAboveMinusTwo, Passes, WithinLimits, IsRawWeight}
+use Rattle.formula.specs.Fraction.{Fraction, over}
+use Rattle.formula.specs.Formula.{low, up, Passes, WithinLimits, IsRawWeight}
 use Rattle.formula.specs.FixedPoint.{productDistance, productAbove, units, formulaWeight, withinLimits, rawWeight}
 use Rattle.formula.specs.declared.RawWeight.the-variants.{Weight, NoThickness, OutsideLimits}
 use Rattle.formula.proofs.Numbers.{ceiling-at-least, ceiling-below}
@@ -15,48 +15,13 @@ use Rattle.formula.proofs.Limits.{limits-of-test, test-of-limits}
 use Rattle.formula.proofs.SeriesLaws.{low-top-pos, up-top-pos}
 use Rattle.formula.proofs.DecayBounds.{not-above-smaller, not-below-larger}
 use Rattle.formula.proofs.DecaySteps.{decay-not-above}
-use Rattle.formula.proofs.Share.{share-high, share-low}
-use Rattle.formula.proofs.Gap.{GapAtMost, GapAtLeast, Gap, gap-at-some-k}
+use Rattle.formula.proofs.MeanDecay.{mean-decay-high, mean-decay-low}
+use Rattle.formula.proofs.Gap.{Gap, gap-at-some-k}
+use Rattle.formula.proofs.GapToEnds.{end-at-most, end-above}
 use Rattle.formula.proofs.Product.{decay-above-not-below, product-high, product-low}
 use Rattle.formula.proofs.StepBounds.{product-above-at-most}
 
--- 125,000 × (t + s × (1 / e − 1 / f)) / m, with s = b / 1,000,000
-abbrev endOf : ℕ → ℕ → ℕ → Fraction → Fraction → Difference
-endOf t m b e f = record {
-  gain = dividedBy (times (whole 125000) (plus (whole t) (times (over b 1000000) (inverse e)))) (whole m);
-  loss = dividedBy (times (whole 125000) (times (over b 1000000) (inverse f))) (whole m);
-}
-
--- the two ends, with the products that the fractions' definitions make (the bottom of l / s and u / s is 1 × b)
-module _ (t m b v w P et eb ft fb : ℕ) where
-  multiplied-high : 2 ^ 27 * (1 * b) * (eb * ft) ≤ 2 ^ 27 * (1 * b) * (fb * et) + P * (v * 1000000) * (et * ft) → 125000 * (t * 2 ^ 27 + v * P) ≤ w * (m * 2 ^ 27) →
-      125000 * (t * (1000000 * (1 * et)) + b * (1 * eb) * 1) * 1 * (1 * (1 * (1000000 * (1 * ft)) * m)) ≤
-      (w * (1 * (1000000 * (1 * ft)) * m) + 125000 * (b * (1 * fb)) * 1 * 1) * (1 * (1 * (1000000 * (1 * et))) * m)
-  multiplied-high gap weight =
-      omega (arith, mul-le-mul-left (125000 * 1000000 * m) gap, mul-le-mul-left (1000000 * 1000000 * (et * ft) * m) weight)
-
-  multiplied-low : 0 < m → 0 < et → 0 < ft → P * (v * 1000000) * (et * ft) + 2 ^ 27 * (1 * b) * (fb * et) ≤ 2 ^ 27 * (1 * b) * (eb * ft) →
-      w * (m * 2 ^ 27) < 125000 * (t * 2 ^ 27 + v * P) + 2 * (m * 2 ^ 27) →
-      (w * (1 * (1000000 * (1 * ft)) * m) + 125000 * (b * (1 * fb)) * 1 * 1) * (1 * (1 * (1000000 * (1 * et))) * m * 1) <
-      (125000 * (t * (1000000 * (1 * et)) + b * (1 * eb) * 1) * 1 * 1 + 2 * (1 * (1 * (1000000 * (1 * et))) * m)) *
-      (1 * (1 * (1000000 * (1 * ft)) * m))
-  multiplied-low m-pos e-pos f-pos gap weight =
-      omega (
-        arith,
-        mul-le-mul-left (125000 * 1000000 * m) gap,
-        mul-lt-mul-of-pos-left weight (mul-pos (mul-pos e-pos f-pos) m-pos),
-      )
-
--- from the gap between the two exponentials to the ends, for a tranche of thickness m, of which t lies below K and v above
-module _ (t m b v w P : ℕ) (e f : Fraction) where
-  end-at-most : GapAtMost (2 ^ 27) (1 * b) (v * 1000000) e f P → 125000 * (t * 2 ^ 27 + v * P) ≤ w * (m * 2 ^ 27) → EndAtMost (endOf t m b e f) w
-  end-at-most = multiplied-high t m b v w P (e .top) (e .bottom) (f .top) (f .bottom)
-
-  end-above : 0 < m → 0 < e .top → 0 < f .top → GapAtLeast (2 ^ 27) (1 * b) (v * 1000000) e f P →
-      w * (m * 2 ^ 27) < 125000 * (t * 2 ^ 27 + v * P) + 2 * (m * 2 ^ 27) → EndAboveMinusTwo (endOf t m b e f) w
-  end-above = multiplied-low t m b v w P (e .top) (e .bottom) (f .top) (f .bottom)
-
--- a quotient cut to whole units lies between itself and the next unit
+-- a quotient is at least its whole units and less than one unit more
 module _ (a b : ℕ) (b-pos : 0 < b) where
   units-least : units a b * (1 * b) ≤ a * 2 ^ 32
   unfolding units
@@ -79,6 +44,13 @@ module _ (A D K p : ℕ) (K-pos : 0 < K) (p-pos : 0 < p) (above : K < D) (thick 
   abbrev width : ℕ
   width = v * 1000000
 
+  -- l / s and u / s
+  abbrev lowerFraction : Fraction
+  lowerFraction = over lower (1 * b)
+
+  abbrev upperFraction : Fraction
+  upperFraction = over ((D - K) * 1000000) (1 * b)
+
   abbrev product : ℕ
   product = productAbove (units lower b) (units width b)
 
@@ -100,10 +72,12 @@ module _ (A D K p : ℕ) (K-pos : 0 < K) (p-pos : 0 < p) (above : K < D) (thick 
   gap : (k : ℕ) × Gap lower width (lower + width) (1 * b) product (product - productDistance) k
   gap =
       gap-at-some-k lower width (1 * b) bottom-pos product (product - productDistance) (omega arith)
-      (not-above-smaller (over lower (1 * b)) (over (suc (units lower b)) (2 ^ 32)) bottom-pos (omega arith) (omega (arith, units-most lower b b-pos)) (decay-not-above (units lower b)))
-      (not-below-larger (over (units lower b) (2 ^ 32)) (over lower (1 * b)) (omega arith) bottom-pos (units-least lower b b-pos) (decay-above-not-below (units lower b)))
-      (share-high width (1 * b) (omega arith) bottom-pos (units width b) (units-least width b b-pos) (units-most width b b-pos))
-      (share-low width (1 * b) (omega arith) bottom-pos (units width b) (units-least width b b-pos) (units-most width b b-pos))
+      (not-above-smaller lowerFraction (over (suc (units lower b)) (2 ^ 32)) bottom-pos (omega arith)
+      (omega (arith, units-most lower b b-pos)) (decay-not-above (units lower b)))
+      (not-below-larger (over (units lower b) (2 ^ 32)) lowerFraction (omega arith) bottom-pos
+      (units-least lower b b-pos) (decay-above-not-below (units lower b)))
+      (mean-decay-high width (1 * b) (omega arith) bottom-pos (units width b) (units-least width b b-pos) (units-most width b b-pos))
+      (mean-decay-low width (1 * b) (omega arith) bottom-pos (units width b) (units-least width b b-pos) (units-most width b b-pos))
       (product-high (units lower b) (units width b))
       (product-low (units lower b) (units width b))
 
@@ -133,10 +107,10 @@ module _ (A D K p : ℕ) (K-pos : 0 < K) (p-pos : 0 < p) (above : K < D) (thick 
       let k = gap .0 in
       record {
         k = k;
-        counts = record { lower = upper-gap .admitted-l; upper = upper-gap .admitted-u };
-        upper = end-at-most (K - A) (D - A) b v w product (low (over lower (1 * b)) k) (up (over ((D - K) * 1000000) (1 * b)) k) (upper-gap .high) rounded-up;
-        lower = end-above (K - A) (D - A) b v w (product - productDistance) (up (over lower (1 * b)) k) (low (over ((D - K) * 1000000) (1 * b)) k) (omega arith)
-            (up-top-pos (over lower (1 * b)) bottom-pos k) (low-top-pos (over ((D - K) * 1000000) (1 * b)) bottom-pos k) (upper-gap .least) near;
+        counts = record { at-l = upper-gap .admitted-l; at-u = upper-gap .admitted-u };
+        upper = end-at-most (K - A) (D - A) b v w product (low lowerFraction k) (up upperFraction k) (upper-gap .high) rounded-up;
+        lower = end-above (K - A) (D - A) b v w (product - productDistance) (up lowerFraction k) (low upperFraction k) (omega arith)
+            (up-top-pos lowerFraction bottom-pos k) (low-top-pos upperFraction bottom-pos k) (upper-gap .least) near;
       }
 
   -- It is at most 125,000, since the product is at most 2^27.
@@ -159,28 +133,28 @@ module _ (A D K p : ℕ) where
   unfolding rawWeight
   within-charge l h = simp (test-of-limits A D K p l, le-leb D K h)
 
-  no-thickness : WithinLimits A D K p → K < D → D ≤ A → rawWeight A D K p ≡ NoThickness
+  charge-zero : WithinLimits A D K p → K < D → K ≡ 0 → rawWeight A D K p ≡ Weight 0
   unfolding rawWeight
-  no-thickness l h t = simp (test-of-limits A D K p l, lt-leb D K h, le-leb D A t)
+  charge-zero l h z = simp (test-of-limits A D K p l, lt-leb D K h, eq-eqb K 0 z)
 
-  no-charge : WithinLimits A D K p → K < D → A < D → K ≡ 0 → rawWeight A D K p ≡ Weight 0
+  no-thickness : WithinLimits A D K p → K < D → 1 ≤ K → D ≤ A → rawWeight A D K p ≡ NoThickness
   unfolding rawWeight
-  no-charge l h t z = simp (test-of-limits A D K p l, lt-leb D K h, lt-leb D A t, eq-eqb K 0 z)
+  no-thickness l h one t = simp (test-of-limits A D K p l, lt-leb D K h, ne-eqb K 0 (ne-of-gt one), le-leb D A t)
 
-  by-formula : WithinLimits A D K p → K < D → A < D → 1 ≤ K → rawWeight A D K p ≡ Weight (formulaWeight A D K p)
+  by-formula : WithinLimits A D K p → K < D → 1 ≤ K → A < D → rawWeight A D K p ≡ Weight (formulaWeight A D K p)
   unfolding rawWeight
-  by-formula l h t one = simp (test-of-limits A D K p l, lt-leb D K h, lt-leb D A t, ne-eqb K 0 (ne-of-gt one))
+  by-formula l h one t = simp (test-of-limits A D K p l, lt-leb D K h, ne-eqb K 0 (ne-of-gt one), lt-leb D A t)
 
-  -- rawWeight is the raw weight of 01, on all inputs; where 01 leaves it open it keeps demand 3.
+  -- rawWeight keeps IsRawWeight on all inputs.
   pub raw-weight-is : IsRawWeight A D K p (rawWeight A D K p)
   raw-weight-is = record {
     outside = outside-limits (withinLimits A D K p) refl;
     within-charge = within-charge;
+    charge-zero = charge-zero;
     no-thickness = no-thickness;
-    no-charge = no-charge;
-    formula = λ l h t one. record {
+    formula = λ l h one t. record {
       weight = formulaWeight A D K p;
-      answered = by-formula l h t one;
+      answered = by-formula l h one t;
       passes = formula-passes A D K p one (omega (arith, l .parameter-least)) h t;
       at-most = formula-at-most A D K p one (omega (arith, l .parameter-least)) h t;
     };

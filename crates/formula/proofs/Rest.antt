@@ -1,4 +1,4 @@
--- e^(−x) against 1 − x + x² / 2 and 1 − x + x² / 2 − x³ / 3, by Low(2) and Up(2), for x = a / b. Assumes nothing.
+-- e^(−x) against 1 − x + x² / 2 and 1 − x + x² / 2 − x³ / 3, by Low(2) and Up(2), for x = a / b. No axioms.
 use mathlib.Core.Path.{_≡_, ap}
 use Prim.Native.Nat.{ℕ, _+_, _*_, _-_, _≤_, _<_}
 use native.Mathlib.Nat.{pow-zero, pow-suc, mul-le-mul-left, mul-le-mul-right, sub-add-cancel}

@@ -1,4 +1,5 @@
--- The laws of the series: Low rises and is at least 1, Up falls where k is admitted, every Low is at most every admitted Up, a larger fraction has a larger Low, and the bounds close in. Assumes nothing.
+-- The laws of the series: Low rises and is at least 1, Up falls where k is admitted, every Low is at most every admitted Up, a larger
+-- fraction has a larger Low, and the bounds converge. No axioms.
 use mathlib.Core.Path.{_≡_}
 use Prim.Native.Nat.{ℕ, zero, suc, _+_, _*_, _^_, _≤_, _<_}
 use native.Mathlib.Nat.{add-zero, suc-add, zero-add, add-assoc, add-comm, pow-zero, pow-suc, le-refl, le-trans, mul-pos, mul-le-mul-right, le-of-mul-le-mul-right, one-le-pow, zero-lt-suc, pow-le-pow-left, le-add-left, le-mul-of-pos-right}
@@ -53,7 +54,7 @@ pub low-at-least-one : (q : Fraction) (k : ℕ) → low q k .bottom ≤ low q k 
 unfolding low factorial
 low-at-least-one q k = omega (arith, simp (add-zero, pow-zero) at (low-rises q k zero))
 
--- admission passes on
+-- every k after an admitted one is admitted
 pub admitted-later : (q : Fraction) (d k : ℕ) → Admitted q k → Admitted q (d + k)
 admitted-later q d k h = omega arith
 
@@ -97,7 +98,7 @@ unfolding low
 low-grows q r h zero = term-grows q r h zero
 low-grows q r h (suc k) = plus-at-most-plus (low q k) (low r k) (term q (suc k)) (term r (suc k)) (low-grows q r h k) (term-grows q r h (suc k))
 
--- ---- the bounds close in
+-- ---- the bounds converge
 
 le-two-pow : (n : ℕ) → n ≤ 2 ^ n
 le-two-pow zero = omega arith
@@ -107,7 +108,11 @@ le-two-pow (suc n) = omega (arith, pow-suc 2 n, le-two-pow n, one-le-pow n 2 (ze
 terms-vanish : (q : Fraction) → 0 < q .bottom → (d k : ℕ) → Admitted q k → AtMost (times (whole (2 ^ d)) (term q (suc (d + k)))) (term q (suc k))
 terms-vanish q p zero k h = rw (zero-add, pow-zero) (omega arith)
 terms-vanish q p (suc d) k h =
-    rw (suc-add, pow-suc 2 d) (at-most-trans (times (whole (2 ^ d * 2)) next) this (term q (suc k)) (mul-pos (zero-lt-suc 0) (term-bottom-pos q p (suc (d + k)))) once (terms-vanish q p d k h))
+    rw (suc-add, pow-suc 2 d)
+    (at-most-trans (times (whole (2 ^ d * 2)) next) this (term q (suc k))
+    (mul-pos (zero-lt-suc 0) (term-bottom-pos q p (suc (d + k))))
+    once
+    (terms-vanish q p d k h))
   where
     this : Fraction
     this = times (whole (2 ^ d)) (term q (suc (d + k)))
@@ -124,8 +129,9 @@ small c w x y p h l =
     le-of-mul-le-mul-right {k = suc (y .top)} (omega (arith, mul-le-mul-right (x .top) h, le-mul-of-pos-right (w * x .top) p)) (zero-lt-suc (y .top))
 
 -- for every c there is a place from which on every k is admitted and c × 2 × q^(k+1) / (k+1)! is at most 1
-pub closes-in : (q : Fraction) → 0 < q .bottom → (c : ℕ) → (k₀ : ℕ) × ((d : ℕ) → Admitted q (d + k₀) × (c * (2 * q .top ^ suc (d + k₀)) ≤ q .bottom ^ suc (d + k₀) * factorial (suc (d + k₀))))
-closes-in q p c = (n + m, λ d. rw (← add-assoc) (admitted-later q (d + n) m admitted, omega (arith, past (d + n) (le-add-left n d))))
+pub bounds-converge : (q : Fraction) → 0 < q .bottom → (c : ℕ) →
+    (k₀ : ℕ) × ((d : ℕ) → Admitted q (d + k₀) × (c * (2 * term q (suc (d + k₀)) .top) ≤ term q (suc (d + k₀)) .bottom))
+bounds-converge q p c = (n + m, λ d. rw (← add-assoc) (admitted-later q (d + n) m admitted, omega (arith, past (d + n) (le-add-left n d))))
   where
     m : ℕ
     m = 2 * q .top
@@ -137,4 +143,7 @@ closes-in q p c = (n + m, λ d. rw (← add-assoc) (admitted-later q (d + n) m a
     admitted = omega (arith, le-mul-of-pos-right m p)
 
     past : (e : ℕ) → n ≤ e → c * 2 * term q (suc (e + m)) .top ≤ term q (suc (e + m)) .bottom
-    past e l = small (c * 2) (2 ^ e) (term q (suc (e + m))) (term q (suc m)) (term-bottom-pos q p (suc m)) (le-trans l (le-two-pow e)) (terms-vanish q p e m admitted)
+    past e l =
+        small (c * 2) (2 ^ e) (term q (suc (e + m))) (term q (suc m)) (term-bottom-pos q p (suc m))
+        (le-trans l (le-two-pow e))
+        (terms-vanish q p e m admitted)

@@ -1,5 +1,5 @@
 -- Laws of the steps of FixedPoint.antt that the code rests on: none of them leaves 64 bits, the table ends at 355, and a long quotient is
--- computed in two digits. Assumes nothing.
+-- computed in two digits. No axioms.
 use mathlib.Core.Path.{_≡_}
 use Prim.Native.Nat.{ℕ, _+_, _*_, _-_, _^_, _/_, _%_, _≤_, _<_, max}
 use native.Mathlib.Nat.{zero-lt-suc, le-of-lt, mul-le-mul, mul-le-mul-left, mul-le-mul-right, mul-lt-mul-of-pos-right, lt-of-mul-lt-mul-right, div-le-of-le-mul, div-eq-of-lt, min-le-left}
@@ -7,7 +7,7 @@ use native.Mathlib.Omega.{arith}
 use lib.Dec.{leb, leb→le, ltb→lt}
 use Rattle.formula.specs.Fraction.{Fraction, over, AtMost}
 use Rattle.formula.specs.Formula.{low, factorial}
-use Rattle.formula.specs.FixedPoint.{entry, fineDecay, decayBelow, decayAbove, shareAbove, productAbove}
+use Rattle.formula.specs.FixedPoint.{entry, fineDecay, decayBelow, decayAbove, meanDecayAbove, productAbove}
 use Rattle.formula.proofs.SeriesLaws.{low-at-least-one, low-bottom-pos, low-grows}
 use Rattle.formula.proofs.Table.{at-each}
 
@@ -67,19 +67,19 @@ pub decay-above-at-most : (x : ℕ) → decayAbove x ≤ 2 ^ 32
 unfolding decayAbove
 decay-above-at-most x = omega arith
 
--- ---- shares and products
+-- ---- mean decays and products
 
-pub share-above-at-most : (x : ℕ) → shareAbove x ≤ 2 ^ 27
-unfolding shareAbove
-share-above-at-most x = min-le-left (2 ^ 27) _
+pub mean-decay-above-at-most : (x : ℕ) → meanDecayAbove x ≤ 2 ^ 27
+unfolding meanDecayAbove
+mean-decay-above-at-most x = min-le-left (2 ^ 27) _
 
 -- a product, before the division by 2^32
-pub decay-and-share-at-most : (l x : ℕ) → decayAbove l * shareAbove x ≤ 2 ^ 59
-decay-and-share-at-most l x = mul-le-mul {n₂ = 2 ^ 32} {m₂ = 2 ^ 27} (decay-above-at-most l) (share-above-at-most x)
+pub decay-and-mean-at-most : (l x : ℕ) → decayAbove l * meanDecayAbove x ≤ 2 ^ 59
+decay-and-mean-at-most l x = mul-le-mul {n₂ = 2 ^ 32} {m₂ = 2 ^ 27} (decay-above-at-most l) (mean-decay-above-at-most x)
 
 pub product-above-at-most : (l x : ℕ) → productAbove l x ≤ 2 ^ 27
 unfolding productAbove
-product-above-at-most l x = omega (arith, decay-and-share-at-most l x)
+product-above-at-most l x = omega (arith, decay-and-mean-at-most l x)
 
 -- ---- the formula
 

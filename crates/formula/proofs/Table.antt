@@ -1,5 +1,5 @@
 -- A test that antt computes at every number below a limit, and the rule that follows at each; and the same for the entries of a list.
--- Assumes nothing.
+-- No axioms.
 use mathlib.Core.Bool.{Bool, true, false, _&&_}
 use mathlib.Core.List.{List}
 use mathlib.Core.Logic.{⊎-elim}

@@ -1,6 +1,6 @@
--- The steps by which the raw weight is computed in 64-bit words, as one function of A, D, K and p. Nobody needs to believe this file: the law
--- `raw-weight-is` (proofs/RawWeightLaw.antt) says that rawWeight is a raw weight in the sense of Formula.antt, on all inputs.
--- An exponent x or L is counted in units of 2^−32, cut to whole units.
+-- The steps by which the raw weight is computed in 64-bit words, as one function of A, D, K and p. No reader has to trust this file: the law
+-- `raw-weight-is` (proofs/RawWeightLaw.antt) says that rawWeight keeps IsRawWeight of Formula.antt on all inputs. It only settles which of the
+-- numbers that pass is given. Exponents x and L are counted in units of 2^−32, rounded down.
 use mathlib.Core.Bool.{Bool, cond, _&&_}
 use Prim.Native.Nat.{ℕ, _+_, _*_, _-_, _/_, _%_, _^_, min, max}
 use lib.Dec.{leb, ltb, eqb}
@@ -9,13 +9,13 @@ use Rattle.formula.specs.Formula.{low}
 use Rattle.formula.specs.declared.RawWeight.{RawWeight}
 use Rattle.formula.specs.declared.RawWeight.the-variants.{Weight, NoThickness, OutsideLimits}
 
--- How far each number may lie from the exact one: a decay in units of 2^−32, a share and the product in units of 2^−27. The last makes a raw
--- weight's high end at most 125,000 × 211 / 2^27, about a fifth of a unit, too high.
+-- How far each number may lie from the exact one: a decay in units of 2^−32, a mean decay and the product in units of 2^−27. By the last the
+-- weight before rounding up is at most 125,000 × 211 / 2^27, about 0.2, above the exact one.
 abbrev pub decayDistance : ℕ
 decayDistance = 10
 
-abbrev pub shareDistance : ℕ
-shareDistance = 209
+abbrev pub meanDecayDistance : ℕ
+meanDecayDistance = 209
 
 abbrev pub productDistance : ℕ
 productDistance = 211
@@ -24,7 +24,7 @@ productDistance = 211
 unfoldable pub entry : ℕ → ℕ → ℕ
 entry n d = 2 ^ 32 * low (over n d) 43 .bottom / low (over n d) 43 .top
 
--- the fine entry times 1 − r + r² / 2, with r = j / 2^32 below 2^−10, less 4 so that it stays below e^−((m / 1024) + r)
+-- the fine entry times 1 − r + r² / 2, with r = j / 2^32 below 2^−10, less 4, so that it stays below 2^32 × e^−(m / 1024 + r)
 unfoldable pub fineDecay : ℕ → ℕ → ℕ
 fineDecay m j = entry m 1024 - entry m 1024 * (j - j * j / 2 ^ 33) / 2 ^ 32 - 4
 
@@ -36,23 +36,24 @@ decayBelow x = entry (x / 2 ^ 28) 16 * fineDecay (x % 2 ^ 28 / 2 ^ 22) (x % 2 ^ 
 unfoldable pub decayAbove : ℕ → ℕ
 decayAbove x = min (decayBelow x + decayDistance) (2 ^ 32)
 
--- 2^27 × (1 − x / 2 + x² / 3), at least 2^27 × (1 − e^(−x)) / x where x is below 2^−9, so that 2^27 × x² / 3 is below 171
-unfoldable pub shareOfSmall : ℕ → ℕ
-shareOfSmall x = 2 ^ 27 + 171 - x / 64
+-- The mean decay of an exponent x is (1 − e^(−x)) / x, the mean of e^(−t) for t from 0 to x. Where x is below 2^−9: 2^27 × (1 − x / 2) + 171,
+-- since the mean decay is at most 1 − x / 2 + x² / 3 and 2^27 × x² / 3 is below 171.
+unfoldable pub meanDecayOfSmall : ℕ → ℕ
+meanDecayOfSmall x = 2 ^ 27 + 171 - x / 64
 
--- 2^27 × (1 − e^(−x)) / x, rounded up: the decay is taken from below, and x is at most the exponent
-unfoldable pub shareOfLarge : ℕ → ℕ
-shareOfLarge x = (2 ^ 32 + 1 - decayBelow x) * 2 ^ 27 / x + 1
+-- elsewhere the quotient, an upper bound: the decay is taken from below, x is rounded down, and 1 is added for the quotient's rounding
+unfoldable pub meanDecayOfLarge : ℕ → ℕ
+meanDecayOfLarge x = (2 ^ 32 + 1 - decayBelow x) * 2 ^ 27 / x + 1
 
--- at least 2^27 × (1 − e^(−x)) / x, at most shareDistance above it, and at most 2^27
-unfoldable pub shareAbove : ℕ → ℕ
-shareAbove x = min (2 ^ 27) (cond (ltb x (2 ^ 23)) (shareOfSmall x) (shareOfLarge x))
+-- at least 2^27 × the mean decay of x, at most meanDecayDistance above it, and at most 2^27
+unfoldable pub meanDecayAbove : ℕ → ℕ
+meanDecayAbove x = min (2 ^ 27) (cond (ltb x (2 ^ 23)) (meanDecayOfSmall x) (meanDecayOfLarge x))
 
--- the product of the two, at least 2^27 × e^(−L) × (1 − e^(−x)) / x, at most productDistance above it, and at most 2^27
+-- decayAbove × meanDecayAbove, rounded up: at least 2^27 × e^(−L) × the mean decay of x, at most productDistance above it, at most 2^27
 unfoldable pub productAbove : ℕ → ℕ → ℕ
-productAbove L x = (decayAbove L * shareAbove x + (2 ^ 32 - 1)) / 2 ^ 32
+productAbove L x = (decayAbove L * meanDecayAbove x + (2 ^ 32 - 1)) / 2 ^ 32
 
--- a quotient in units of 2^−32, cut to whole units
+-- a / b in units of 2^−32, rounded down
 unfoldable pub units : ℕ → ℕ → ℕ
 units a b = a * 2 ^ 32 / b
 
@@ -72,7 +73,7 @@ unfoldable pub rawWeight : ℕ → ℕ → ℕ → ℕ → RawWeight
 rawWeight A D K p =
     cond (withinLimits A D K p)
     (cond (leb D K) (Weight 125000)
-    (cond (leb D A) NoThickness
     (cond (eqb K 0) (Weight 0)
+    (cond (leb D A) NoThickness
     (Weight (formulaWeight A D K p)))))
     OutsideLimits

@@ -30,7 +30,7 @@ up q k = plus (low q k) (times (whole 2) (term q (suc k)))
 abbrev pub Admitted : Fraction → ℕ → Type 0
 Admitted q k = 2 * q .top ≤ (k + 2) * q .bottom
 
--- ---- the ends of the raw weight, where K is at least 1, D is above K and A is below D
+-- ---- the ends of the raw weight, where K and p are at least 1, D is above K and A is below D
 
 -- "s = p × K" (the product of two numbers in millionths, as a number of millionths)
 abbrev pub scale : ℕ → ℕ → Fraction
@@ -44,10 +44,10 @@ lowerExponent A K p = dividedBy (whole (A - K)) (scale K p)
 abbrev pub upperExponent : ℕ → ℕ → ℕ → Fraction
 upperExponent D K p = dividedBy (whole (D - K)) (scale K p)
 
--- The difference gain − loss of two fractions, kept apart: it may be below 0.
+-- The difference minuend − subtrahend of two fractions, kept apart: it may be below 0.
 pub record Difference : Type 0 where
-  pub gain : Fraction
-  pub loss : Fraction
+  pub minuend : Fraction
+  pub subtrahend : Fraction
 
 -- 125,000 × x / (D − A)
 abbrev pub perThickness : ℕ → ℕ → Fraction → Fraction
@@ -56,8 +56,8 @@ perThickness A D x = dividedBy (times (whole 125000) x) (whole (D - A))
 -- "125,000 × (max(K − A, 0) + s × (e^(−l/s) − e^(−u/s))) / (D − A)", with e for e^(−l/s) and f for e^(−u/s)
 abbrev pub weightWith : ℕ → ℕ → ℕ → ℕ → Fraction → Fraction → Difference
 weightWith A D K p e f = record {
-  gain = perThickness A D (plus (whole (K - A)) (times (scale K p) e));
-  loss = perThickness A D (times (scale K p) f);
+  minuend = perThickness A D (plus (whole (K - A)) (times (scale K p) e));
+  subtrahend = perThickness A D (times (scale K p) f);
 }
 
 -- "e^(−q) lies between 1/Up and 1/Low. The raw weight's upper end for k takes the larger bound for e^(−l/s) and the smaller for e^(−u/s);
@@ -68,22 +68,22 @@ upperEnd A D K p k = weightWith A D K p (inverse (low (lowerExponent A K p) k)) 
 abbrev pub lowerEnd : ℕ → ℕ → ℕ → ℕ → ℕ → Difference
 lowerEnd A D K p k = weightWith A D K p (inverse (up (lowerExponent A K p) k)) (inverse (low (upperExponent D K p) k))
 
--- an end at most the whole number w: gain ≤ w + loss
+-- an end at most the whole number w: minuend ≤ w + subtrahend
 abbrev pub EndAtMost : Difference → ℕ → Type 0
-EndAtMost e w = AtMost (e .gain) (plus (whole w) (e .loss))
+EndAtMost e w = AtMost (e .minuend) (plus (whole w) (e .subtrahend))
 
--- an end more than the whole number w minus 2: w + loss < gain + 2
+-- an end more than the whole number w minus 2: w + subtrahend < minuend + 2
 abbrev pub EndAboveMinusTwo : Difference → ℕ → Type 0
-EndAboveMinusTwo e w = Below (plus (whole w) (e .loss)) (plus (e .gain) (whole 2))
+EndAboveMinusTwo e w = Below (plus (whole w) (e .subtrahend)) (plus (e .minuend) (whole 2))
 
 -- one end at most another
 abbrev pub DifferenceAtMost : Difference → Difference → Type 0
-DifferenceAtMost x y = AtMost (plus (x .gain) (y .loss)) (plus (y .gain) (x .loss))
+DifferenceAtMost x y = AtMost (plus (x .minuend) (y .subtrahend)) (plus (y .minuend) (x .subtrahend))
 
 -- "A k counts only where it is admitted for both."
 pub record Counts (A D K p k : ℕ) : Type 0 where
-  pub lower : Admitted (lowerExponent A K p) k
-  pub upper : Admitted (upperExponent D K p) k
+  pub at-l : Admitted (lowerExponent A K p) k
+  pub at-u : Admitted (upperExponent D K p) k
 
 -- w passes: "some k has its upper end at most that raw weight and its lower end more than that raw weight minus 2."
 pub record Passes (A D K p w : ℕ) : Type 0 where
@@ -94,7 +94,8 @@ pub record Passes (A D K p w : ℕ) : Type 0 where
 
 -- ---- the raw weight, on all inputs
 
--- what the product uses: points and charge at most 1,000,000, the parameter from 300,000 to below 5,000,000
+-- the inputs for which the computation in 64-bit words is shown: 01 has points and charge of at most 1,000,000 and the parameter 1,000,000 or
+-- 1,500,000; a parameter from 300,000 to below 5,000,000 is taken
 pub record WithinLimits (A D K p : ℕ) : Type 0 where
   pub attachment : A ≤ 1000000
   pub detachment : D ≤ 1000000
@@ -102,20 +103,21 @@ pub record WithinLimits (A D K p : ℕ) : Type 0 where
   pub parameter-least : 300000 ≤ p
   pub parameter-most : p < 5000000
 
--- a whole number that the formula leaves open, within demand 3: it passes, "and never above 125,000"
-pub record FormulaWeight (A D K p : ℕ) (r : RawWeight) : Type 0 where
+-- r is a whole number that passes (demand 3), "and never above 125,000"
+pub record PassingWeight (A D K p : ℕ) (r : RawWeight) : Type 0 where
   pub weight : ℕ
   pub answered : r ≡ Weight weight
   pub passes : Passes A D K p weight
   pub at-most : weight ≤ 125000
 
--- "the raw weight is 125,000 if D ≤ K; 0 if K = 0; else" the formula. A tranche with D above K whose A is not below D has no raw weight.
+-- "the raw weight is 125,000 if D ≤ K; 0 if K = 0; else" the formula, which needs A below D: where K is at least 1, D above K and A not below D
+-- (at A = D the condition of refusal 13) there is no number. Nor is there one outside the limits.
 pub record IsRawWeight (A D K p : ℕ) (r : RawWeight) : Type 0 where
   pub outside : (WithinLimits A D K p → ⊥) → r ≡ OutsideLimits
   pub within-charge : WithinLimits A D K p → D ≤ K → r ≡ Weight 125000
-  pub no-thickness : WithinLimits A D K p → K < D → D ≤ A → r ≡ NoThickness
-  pub no-charge : WithinLimits A D K p → K < D → A < D → K ≡ 0 → r ≡ Weight 0
-  pub formula : WithinLimits A D K p → K < D → A < D → 1 ≤ K → FormulaWeight A D K p r
+  pub charge-zero : WithinLimits A D K p → K < D → K ≡ 0 → r ≡ Weight 0
+  pub no-thickness : WithinLimits A D K p → K < D → 1 ≤ K → D ≤ A → r ≡ NoThickness
+  pub formula : WithinLimits A D K p → K < D → 1 ≤ K → A < D → PassingWeight A D K p r
 
 -- ---- the decay table: "for n from 0 to 354 the whole part of 2^32 × e^(−n/16). From n = 355 on it would be 0."
 

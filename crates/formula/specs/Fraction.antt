@@ -1,4 +1,5 @@
--- Fractions of whole numbers, compared by multiplying out. Every bottom that this crate makes is above 0.
+-- Fractions of whole numbers, compared by multiplying out. A comparison has its meaning where both bottoms are above 0; proofs/EndLaws.antt
+-- (upper-bottoms, lower-bottoms) shows that of the ends of a raw weight.
 use Prim.Native.Nat.{ℕ, _+_, _*_, _≤_, _<_}
 
 pub record Fraction : Type 0 where

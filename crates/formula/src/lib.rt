@@ -1,7 +1,7 @@
 ghost use mathlib.Core.Path.{_≡_};
 ghost use Prim.Native.Nat.{_+_, _*_, _-_, _^_, _/_, _≤_, _<_, min, max};
 ghost use Rattle.formula.specs.Formula.{DecayEntry, IsRawWeight};
-ghost use Rattle.formula.specs.FixedPoint.{entry, fineDecay, decayBelow, decayAbove, shareAbove, productAbove, units, formulaWeight, withinLimits, rawWeight};
+ghost use Rattle.formula.specs.FixedPoint.{entry, fineDecay, decayBelow, decayAbove, meanDecayAbove, productAbove, units, formulaWeight, withinLimits, rawWeight};
 
 mod tables;
 
@@ -11,8 +11,8 @@ use tables::FINE_DECAY;
 // 1 in the units of exponents and decays, 2^−32.
 const ONE: u64 = 4294967296;
 
-// 1 in the units of shares, 2^−27.
-const SHARE_ONE: u64 = 134217728;
+// 1 in the units of mean decays and of their products, 2^−27.
+const MEAN_ONE: u64 = 134217728;
 
 // 1/16, the step of the decay table, in units of 2^−32.
 const STEP: u64 = 268435456;
@@ -20,7 +20,7 @@ const STEP: u64 = 268435456;
 // 1/1024, the step of the fine table, in units of 2^−32.
 const FINE_STEP: u64 = 4194304;
 
-// How far decay_below may lie below, in units of 2^−32.
+// How far decay_below may lie below 2^32 × e^(−x).
 const DECAY_DISTANCE: u64 = 10;
 
 // 1/512 in units of 2^−32: an exponent below it is small.
@@ -37,7 +37,7 @@ pub fn decay_entry(n: u64) -> u64
     if n < 355 { DECAY[n as usize] } else { 0 }
 }
 
-// The fine table's entry. It serves exponents between two entries of the decay table.
+// The fine table's entry, for exponents between two entries of the decay table.
 fn fine_entry(m: u64) -> u64
     requires { ⌜ m < 64 ⌝ }
     ensures { λ r. ⌜ r ≡ entry m 1024 ⌝ }
@@ -63,14 +63,14 @@ fn decay_below(x: u64) -> u64
     decay_entry(x / STEP) * fine / ONE
 }
 
-// The smaller of two numbers: it keeps a bound from above within 1.
+// The smaller of two numbers.
 fn smaller(a: u64, b: u64) -> u64
     ensures { λ r. ⌜ r ≡ min a b ⌝ }
 {
     if a < b { a } else { b }
 }
 
-// The larger of two numbers: where a tranche's part above both its lower point and the charge starts.
+// The larger of two numbers.
 fn larger(a: u64, b: u64) -> u64
     ensures { λ r. ⌜ r ≡ max a b ⌝ }
 {
@@ -84,19 +84,19 @@ fn decay_above(x: u64) -> u64
     smaller(decay_below(x) + DECAY_DISTANCE, ONE)
 }
 
-// (1 − e^(−x)) / x from above, at most 1, in units of 2^−27. For a small x, where the quotient is too coarse (or x is 0), it is 1 − x/2 and
-// a little more.
-fn share_above(x: u64) -> u64
-    ensures { λ r. ⌜ r ≡ shareAbove x ⌝ }
+// The mean decay (1 − e^(−x)) / x from above, at most 1, in units of 2^−27. For a small x, where the quotient is too coarse (or x is 0), it is
+// 1 − x/2 and 171 units more.
+fn mean_decay_above(x: u64) -> u64
+    ensures { λ r. ⌜ r ≡ meanDecayAbove x ⌝ }
 {
     if x < SMALL {
-        smaller(SHARE_ONE, SHARE_ONE + 171 - x / 64)
+        smaller(MEAN_ONE, MEAN_ONE + 171 - x / 64)
     } else {
-        smaller(SHARE_ONE, (ONE + 1 - decay_below(x)) * SHARE_ONE / x + 1)
+        smaller(MEAN_ONE, (ONE + 1 - decay_below(x)) * MEAN_ONE / x + 1)
     }
 }
 
-// a / b in units of 2^−32, cut to whole units. a × 2^32 may not fit, so it is a long division by two digits of 16 bits.
+// a / b in units of 2^−32, rounded down. a × 2^32 may not fit 64 bits, so the division is done in two steps of 16 bits each.
 fn units(a: u64, b: u64) -> u64
     requires { ⌜ (a ≤ 1000000000000) × (300000 ≤ b) × (b ≤ 5000000000000) ⌝ }
     ensures { λ r. ⌜ r ≡ units a b ⌝ }
@@ -106,11 +106,11 @@ fn units(a: u64, b: u64) -> u64
     high / b * 65536 + rest * 65536 / b
 }
 
-// e^(−l) × (1 − e^(−x)) / x from above, rounded up, in units of 2^−27.
+// e^(−l) times the mean decay of x, from above, in units of 2^−27.
 fn product_above(l: u64, x: u64) -> u64
     ensures { λ r. ⌜ r ≡ productAbove l x ⌝ }
 {
-    (decay_above(l) * share_above(x) + (ONE - 1)) / ONE
+    (decay_above(l) * mean_decay_above(x) + (ONE - 1)) / ONE
 }
 
 // What a has above b: max(a − b, 0).
@@ -128,7 +128,8 @@ fn rounded_up(x: u64, y: u64) -> u64
     (x + (y - 1)) / y
 }
 
-// The formula's weight, 125,000 × (max(k − a, 0) + v × product) / (d − a), rounded up, where v is the tranche's part above both a and k.
+// The formula's weight, 125,000 × (max(k − a, 0) + v × product) / (d − a), rounded up, where v is the tranche's part above both a
+// and k, and the product is in units of 2^−27.
 fn formula_weight(a: u64, d: u64, k: u64, p: u64) -> u64
     requires { ⌜ (a < d) × (k < d) × (1 ≤ k) × (d ≤ 1000000) × (300000 ≤ p) × (p < 5000000) ⌝ }
     ensures { λ r. ⌜ r ≡ formulaWeight a d k p ⌝ }
@@ -139,8 +140,8 @@ fn formula_weight(a: u64, d: u64, k: u64, p: u64) -> u64
     let x = units(v * MILLION, s);
     let product = product_above(l, x);
     rounded_up(
-        125000 * (excess(k, a) * SHARE_ONE + v * product),
-        (d - a) * SHARE_ONE,
+        125000 * (excess(k, a) * MEAN_ONE + v * product),
+        (d - a) * MEAN_ONE,
     )
 }
 
@@ -163,14 +164,16 @@ fn within_limits(a: u64, d: u64, k: u64, p: u64) -> bool
     p < 5000000
 }
 
-// A raw weight, or why there is none.
+// A raw weight in hundredths of a percent, or why there is none: the formula needs a below d (refusal 13 at a = d), and no deal sheet has
+// inputs outside the limits.
 pub enum RawWeight {
     Weight(u64),
     NoThickness,
     OutsideLimits,
 }
 
-// The raw weight of a tranche from a to d, for the pool charge k and the parameter p, all in millionths.
+// The raw weight of a tranche from a to d, for the pool charge k and the supervisory parameter p, these four in millionths. Where k is at least
+// 1, d above k and a below d, 01 leaves it open within demand 3; rawWeight settles it.
 pub fn raw_weight(a: u64, d: u64, k: u64, p: u64) -> RawWeight
     ensures { λ r. ⌜ r ≡ rawWeight a d k p ⌝ }
     ensures { λ r. ⌜ IsRawWeight a d k p r ⌝ }
@@ -181,11 +184,11 @@ pub fn raw_weight(a: u64, d: u64, k: u64, p: u64) -> RawWeight
     if d <= k {
         return RawWeight::Weight(125000);
     }
-    if d <= a {
-        return RawWeight::NoThickness;
-    }
     if k == 0 {
         return RawWeight::Weight(0);
+    }
+    if d <= a {
+        return RawWeight::NoThickness;
     }
     RawWeight::Weight(formula_weight(a, d, k, p))
 }

@@ -1,4 +1,4 @@
--- `decay_below`: the product of an entry and a fine decay fits 64 bits. Assumes nothing.
+-- `decay_below`: the product of an entry and a fine decay fits 64 bits. No axioms.
 use Prim.Native.Nat.{_/_, _%_, _^_}
 use native.Mathlib.Omega.{arith}
 use borrow.Author.Needs.{needs}

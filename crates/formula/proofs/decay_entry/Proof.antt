@@ -1,5 +1,5 @@
 -- `decay_entry`: the source's table agrees with the rule of the entries at each place, by one computed test, and past its end the rule
--- gives 0. Assumes nothing.
+-- gives 0. No axioms.
 use native.Mathlib.Omega.{arith}
 use borrow.Author.Needs.{needs}
 use borrow.Table.Row.{get}

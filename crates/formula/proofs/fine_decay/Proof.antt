@@ -1,4 +1,4 @@
--- `fine_decay`: no step leaves 64 bits, since the entry is from 2^31 to 2^32 and j is below 2^22. Assumes nothing.
+-- `fine_decay`: no step leaves 64 bits, since the entry is from 2^31 to 2^32 and j is below 2^22. No axioms.
 use Prim.Native.Nat.{_*_, _-_, _^_, _/_, _≤_}
 use native.Mathlib.Omega.{arith}
 use borrow.Author.Needs.{needs}

@@ -1,4 +1,4 @@
--- `fine_entry`: the source's table agrees with the rule of the entries at each place, by one computed test. Assumes nothing.
+-- `fine_entry`: the source's table agrees with the rule of the entries at each place, by one computed test. No axioms.
 use borrow.Author.Needs.{needs}
 use borrow.Table.Row.{get}
 use Rattle.formula.specs.Formula.{low, factorial}

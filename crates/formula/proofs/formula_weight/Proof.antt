@@ -1,4 +1,4 @@
--- `formula_weight`: the exponents' divisor is within the limits of `units`, and what is divided last fits 64 bits. Assumes nothing.
+-- `formula_weight`: the exponents' divisor is within the limits of `units`, and what is divided last fits 64 bits. No axioms.
 use Prim.Native.Nat.{_+_, _*_, _-_, _^_, _≤_}
 use native.Mathlib.Omega.{arith}
 use borrow.Author.Needs.{needs}

@@ -1,4 +1,4 @@
--- `raw_weight`: each return by the tests that led there, and the formula is called within its limits. Assumes nothing.
+-- `raw_weight`: each return by the tests that led there, and the formula is called within its limits. No axioms.
 use mathlib.Core.Bool.{true}
 use mathlib.Core.Path.{_≡_, _∙_, subst, sym}
 use Prim.Native.Nat.{ℕ}
@@ -40,7 +40,7 @@ returns-3 : tie.Need-returns-3
 unfolding rawWeight
 returns-3 c =
     let x = c .before .before .before .before .args in
-    kept (simp (inside (c .before .before), lt-leb (x .d) (x .k) (omega arith), le-leb (x .d) (x .a) (omega arith)))
+    kept (simp (inside (c .before .before), lt-leb (x .d) (x .k) (omega arith), eq-eqb (x .k) 0 (omega arith)))
 
 returns-4 : tie.Need-returns-4
 unfolding rawWeight
@@ -50,8 +50,8 @@ returns-4 c =
     (simp (
       inside (c .before .before .before),
       lt-leb (x .d) (x .k) (omega arith),
-      lt-leb (x .d) (x .a) (omega arith),
-      eq-eqb (x .k) 0 (omega arith),
+      ne-eqb (x .k) 0 (c .before .if3 .left),
+      le-leb (x .d) (x .a) (omega arith),
     ))
 
 formula-weight-requires : tie.Need-formula-weight-requires
@@ -67,8 +67,8 @@ returns-5 c =
     (simp (
       inside (c .before .before .before .before),
       lt-leb (x .d) (x .k) (omega arith),
+      ne-eqb (x .k) 0 (c .before .before .if3 .left),
       lt-leb (x .d) (x .a) (omega arith),
-      ne-eqb (x .k) 0 (c .before .if4 .left),
       c .formula-weight .ensures,
     ))
 

@@ -1,4 +1,4 @@
--- `units`: long division by two digits of 16 bits. The first digit is small since b is large, and the rest is below b. Assumes nothing.
+-- `units`: long division by two digits of 16 bits. The first digit is small since b is large, and the rest is below b. No axioms.
 use Prim.Native.Nat.{_*_, _/_, _%_, _≤_, _<_}
 use native.Mathlib.Nat.{div-le-self, mod-lt}
 use native.Mathlib.Omega.{arith}

@@ -1,4 +1,4 @@
--- `within_limits`: each return by the tests that led there. Assumes nothing.
+-- `within_limits`: each return by the tests that led there. No axioms.
 use borrow.Author.Tests.{le-leb, lt-leb}
 use Rattle.formula.proofs.within_limits.Statement.{statement}
 use Rattle.formula.proofs.within_limits.Tie as tie

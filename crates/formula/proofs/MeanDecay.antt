@@ -1,4 +1,4 @@
--- shareAbove x is at least 2^27 × (1 − e^(−x)) / x, and at most shareDistance above it. Assumes nothing.
+-- meanDecayAbove x is at least 2^27 × (1 − e^(−x)) / x, and at most meanDecayDistance above it. No axioms.
 use mathlib.Core.Logic.{⊎-elim}
 use mathlib.Core.Path.{_≡_, ap}
 use Prim.Native.Nat.{ℕ, suc, _+_, _*_, _-_, _^_, _/_, min, _≤_, _<_}
@@ -7,29 +7,29 @@ use native.Mathlib.Omega.{arith}
 use borrow.Author.Tests.{lt-ltb, le-ltb}
 use Rattle.formula.specs.Fraction.{over}
 use Rattle.formula.specs.Formula.{factorial, low}
-use Rattle.formula.specs.FixedPoint.{decayDistance, shareDistance, decayBelow, shareOfSmall, shareOfLarge, shareAbove}
+use Rattle.formula.specs.FixedPoint.{decayDistance, meanDecayDistance, decayBelow, meanDecayOfSmall, meanDecayOfLarge, meanDecayAbove}
 use Rattle.formula.proofs.Numbers.{le-or-lt, at-min, at-difference}
 use Rattle.formula.proofs.DecayBounds.{NotAbove, NotBelow, not-above-weaker, not-below-weaker, not-above-smaller, not-below-larger}
 use Rattle.formula.proofs.Rest.{second, second-equation, second-not-below, third, third-equation, third-not-above}
 use Rattle.formula.proofs.DecaySteps.{decay-not-above, decay-not-below}
 
 -- h / 2^27 is at least (1 − e^(−x)) / x, for x = a / b: some c / s is at most e^(−x), and 1 − c / (s + 1) is at most x h / 2^27
-pub record ShareHigh (a b h : ℕ) : Type 0 where
+pub record MeanDecayHigh (a b h : ℕ) : Type 0 where
   pub c : ℕ
   pub s : ℕ
   pub bound : NotAbove c s (over a b)
   pub holds : suc s * (2 ^ 27 * b) ≤ suc s * (h * a) + c * (2 ^ 27 * b)
 
 -- h / 2^27 is at most (1 − e^(−x)) / x: some c / s is at least e^(−x), and x h / 2^27 is at most 1 − (c + 1) / s
-pub record ShareLow (a b h : ℕ) : Type 0 where
+pub record MeanDecayLow (a b h : ℕ) : Type 0 where
   pub c : ℕ
   pub s : ℕ
   pub s-pos : 0 < s
   pub bound : NotBelow c s (over a b)
   pub holds : s * (h * a) + suc c * (2 ^ 27 * b) ≤ s * (2 ^ 27 * b)
 
-share-low-weaker : {a b h : ℕ} (h′ : ℕ) → h′ ≤ h → ShareLow a b h → ShareLow a b h′
-share-low-weaker {a} h′ l w = record {
+mean-decay-low-weaker : {a b h : ℕ} (h′ : ℕ) → h′ ≤ h → MeanDecayLow a b h → MeanDecayLow a b h′
+mean-decay-low-weaker {a} h′ l w = record {
   c = w .c;
   s = w .s;
   s-pos = w .s-pos;
@@ -72,26 +72,26 @@ module _ (a b X : ℕ) where
       2 ^ 32 * (h * a) + c * (2 ^ 27 * b) ≤ 2 ^ 32 * (2 ^ 27 * b)
   from-quotient c h most q = omega (arith, mul-le-mul-left {m = a * 2 ^ 32} {n = suc X * b} h (omega arith), mul-le-mul-right b q)
 
--- shareDistance covers the decay's distance and what the quotient by X in place of X + 1 adds
+-- meanDecayDistance covers the decay's distance and what the quotient by X in place of X + 1 adds
 under-quotient : (X c q h : ℕ) → 2 ^ 23 ≤ X → h ≤ 2 ^ 27 → h ≤ q + 1 → suc (c + decayDistance) ≤ 2 ^ 32 → q * X + c * 2 ^ 27 ≤ (2 ^ 32 + 1) * 2 ^ 27 →
-    (h - shareDistance) * suc X + suc (c + decayDistance) * 2 ^ 27 ≤ 2 ^ 32 * 2 ^ 27
+    (h - meanDecayDistance) * suc X + suc (c + decayDistance) * 2 ^ 27 ≤ 2 ^ 32 * 2 ^ 27
 under-quotient X c q h large one l small e =
-    at-difference (λ g. g * suc X + suc (c + decayDistance) * 2 ^ 27 ≤ 2 ^ 32 * 2 ^ 27) h shareDistance
+    at-difference (λ g. g * suc X + suc (c + decayDistance) * 2 ^ 27 ≤ 2 ^ 32 * 2 ^ 27) h meanDecayDistance
     (omega arith)
-    (λ g f. omega (arith, mul-le-mul-right {m = g + (shareDistance - 1)} {n = q} X (omega arith)))
+    (λ g f. omega (arith, mul-le-mul-right {m = g + (meanDecayDistance - 1)} {n = q} X (omega arith)))
 
 module _ (a b : ℕ) (a-pos : 0 < a) (b-pos : 0 < b) where
   -- (1 − e^(−x)) / x is at most 1
-  share-high-one : ShareHigh a b (2 ^ 27)
-  share-high-one = ⊎-elim large small (le-or-lt b a)
+  mean-decay-high-one : MeanDecayHigh a b (2 ^ 27)
+  mean-decay-high-one = ⊎-elim large small (le-or-lt b a)
     where
-      large : b ≤ a → ShareHigh a b (2 ^ 27)
+      large : b ≤ a → MeanDecayHigh a b (2 ^ 27)
       large e = record { c = 0; s = 0; bound = record { every = λ k. omega arith }; holds = omega arith }
 
       squares : b ≤ a * a * (b * b)
       squares = omega (arith, mul-le-mul (mul-pos a-pos a-pos) (le-mul-of-pos-right b b-pos))
 
-      small : a < b → ShareHigh a b (2 ^ 27)
+      small : a < b → MeanDecayHigh a b (2 ^ 27)
       small h =
           let below : a ≤ b = omega arith in
           record {
@@ -122,18 +122,18 @@ module _ (a b : ℕ) (a-pos : 0 < a) (b-pos : 0 < b) where
       slope-high : 2 ^ 26 * a < suc g * b
       slope-high = omega (arith, mul-le-mul-right {m = suc X} {n = 64 * suc g} b (omega arith))
 
-      small-high : ShareHigh a b (shareOfSmall X)
-      unfolding shareOfSmall
+      small-high : MeanDecayHigh a b (meanDecayOfSmall X)
+      unfolding meanDecayOfSmall
       small-high = record {
         c = 2 ^ 27 * third a b;
         s = 2 ^ 27 * (6 * (b * (b * b)));
         bound = not-above-weaker (2 ^ 27 * third a b) (2 ^ 27 * (6 * (b * (b * b)))) (omega (arith, mul-pos b-pos (mul-pos b-pos b-pos)))
             (scale-up (2 ^ 27) (third a b) (6 * (b * (b * b)))) (third-not-above a b b-pos below);
-        holds = by-third a b (2 ^ 27) (shareOfSmall X) (third a b) a-pos
-            (small-third a b g (shareOfSmall X) b-pos ninth slope-low (omega arith)) (third-equation a b below);
+        holds = by-third a b (2 ^ 27) (meanDecayOfSmall X) (third a b) a-pos
+            (small-third a b g (meanDecayOfSmall X) b-pos ninth slope-low (omega arith)) (third-equation a b below);
       }
 
-      small-low : ShareLow a b (2 ^ 27 - g - 1)
+      small-low : MeanDecayLow a b (2 ^ 27 - g - 1)
       small-low = record {
         c = 2 ^ 27 * second a b;
         s = 2 ^ 27 * (2 * (b * b));
@@ -162,45 +162,45 @@ module _ (a b : ℕ) (a-pos : 0 < a) (b-pos : 0 < b) where
       X-pos : 0 < X
       X-pos = omega arith
 
-      large-low : (h : ℕ) → h ≤ 2 ^ 27 → h ≤ shareOfLarge X → ShareLow a b (h - shareDistance)
-      unfolding shareOfLarge
+      large-low : (h : ℕ) → h ≤ 2 ^ 27 → h ≤ meanDecayOfLarge X → MeanDecayLow a b (h - meanDecayDistance)
+      unfolding meanDecayOfLarge
       large-low h one l = record {
         c = c + decayDistance;
         s = 2 ^ 32;
         s-pos = omega arith;
         bound = not-below-larger (over X (2 ^ 32)) (over a b) (omega arith) b-pos (omega arith) (decay-not-below X);
-        holds = from-quotient a b X (suc (c + decayDistance)) (h - shareDistance) most
+        holds = from-quotient a b X (suc (c + decayDistance)) (h - meanDecayDistance) most
             (under-quotient X c ((2 ^ 32 + 1 - c) * 2 ^ 27 / X) h large one (omega arith) decay-room
             (omega (arith, decay-room, div-mul-le-self ((2 ^ 32 + 1 - c) * 2 ^ 27) X)));
       }
 
-      large-high : ShareHigh a b (shareOfLarge X)
-      unfolding shareOfLarge
+      large-high : MeanDecayHigh a b (meanDecayOfLarge X)
+      unfolding meanDecayOfLarge
       large-high = record {
         c = c;
         s = 2 ^ 32;
         bound = not-above-smaller (over a b) (over (suc X) (2 ^ 32)) b-pos (omega arith) (omega arith) (decay-not-above X);
-        holds = by-quotient a b X c (2 ^ 32 + 1 - c) (2 ^ 27) (shareOfLarge X) least
+        holds = by-quotient a b X c (2 ^ 32 + 1 - c) (2 ^ 27) (meanDecayOfLarge X) least
             (omega (arith, decay-room)) (omega (arith, lt-div-mul-add {a = (2 ^ 32 + 1 - c) * 2 ^ 27} X-pos));
       }
 
     -- ---- the two cases, and the cap at 1
 
-    share-high-at-min : (h : ℕ) → ShareHigh a b h → ShareHigh a b (min (2 ^ 27) h)
-    share-high-at-min h w = at-min (ShareHigh a b) (2 ^ 27) h share-high-one w
+    mean-decay-high-at-min : (h : ℕ) → MeanDecayHigh a b h → MeanDecayHigh a b (min (2 ^ 27) h)
+    mean-decay-high-at-min h w = at-min (MeanDecayHigh a b) (2 ^ 27) h mean-decay-high-one w
 
-    pub share-high : ShareHigh a b (shareAbove X)
-    unfolding shareAbove
-    share-high =
+    pub mean-decay-high : MeanDecayHigh a b (meanDecayAbove X)
+    unfolding meanDecayAbove
+    mean-decay-high =
         ⊎-elim
-        (λ l. rw (le-ltb X (2 ^ 23) l) (share-high-at-min _ (large-high l)))
-        (λ l. rw (lt-ltb X (2 ^ 23) l) (share-high-at-min _ (small-high l)))
+        (λ l. rw (le-ltb X (2 ^ 23) l) (mean-decay-high-at-min _ (large-high l)))
+        (λ l. rw (lt-ltb X (2 ^ 23) l) (mean-decay-high-at-min _ (small-high l)))
         (le-or-lt (2 ^ 23) X)
 
-    pub share-low : ShareLow a b (shareAbove X - shareDistance)
-    unfolding shareAbove shareOfSmall
-    share-low =
+    pub mean-decay-low : MeanDecayLow a b (meanDecayAbove X - meanDecayDistance)
+    unfolding meanDecayAbove meanDecayOfSmall
+    mean-decay-low =
         ⊎-elim
         (λ l. rw (le-ltb X (2 ^ 23) l) (large-low l _ (omega arith) (omega arith)))
-        (λ l. rw (lt-ltb X (2 ^ 23) l) (share-low-weaker _ (omega arith) (small-low l)))
+        (λ l. rw (lt-ltb X (2 ^ 23) l) (mean-decay-low-weaker _ (omega arith) (small-low l)))
         (le-or-lt (2 ^ 23) X)

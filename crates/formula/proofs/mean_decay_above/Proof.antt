@@ -1,14 +1,14 @@
--- `share_above`: a decay from below is at most 2^32, so that its distance from 2^32 + 1 is a number, and 2^27 times that fits 64 bits.
--- Assumes nothing.
+-- `mean_decay_above`: a decay from below is at most 2^32, so that its distance from 2^32 + 1 is a number, and 2^27 times that fits 64 bits.
+-- No axioms.
 use Prim.Native.Nat.{_+_, _*_, _-_, _^_}
 use native.Mathlib.Nat.{div-le-self}
 use native.Mathlib.Omega.{arith}
 use borrow.Author.Needs.{needs}
 use borrow.Author.Tests.{lt-ltb, le-ltb}
-use Rattle.formula.specs.FixedPoint.{shareOfSmall, shareOfLarge, shareAbove}
+use Rattle.formula.specs.FixedPoint.{meanDecayOfSmall, meanDecayOfLarge, meanDecayAbove}
 use Rattle.formula.proofs.StepBounds.{decay-below-at-most}
-use Rattle.formula.proofs.share_above.Statement.{statement}
-use Rattle.formula.proofs.share_above.Tie as tie
+use Rattle.formula.proofs.mean_decay_above.Statement.{statement}
+use Rattle.formula.proofs.mean_decay_above.Tie as tie
 
 add-smaller : tie.Need-add-smaller
 add-smaller c = search needs
@@ -42,16 +42,16 @@ smaller-requires-2 : tie.Need-smaller-requires-2
 smaller-requires-2 c κs = search needs
 
 returns : tie.Need-returns
-unfolding shareAbove shareOfSmall shareOfLarge
+unfolding meanDecayAbove meanDecayOfSmall meanDecayOfLarge
 returns c = simp (c .smaller .ensures, lt-ltb _ _ (c .before .if1 .taken))
 
 returns-2 : tie.Need-returns-2
-unfolding shareAbove shareOfSmall shareOfLarge
+unfolding meanDecayAbove meanDecayOfSmall meanDecayOfLarge
 returns-2 c =
     simp (c .smaller2 .ensures, c .before .decay-below .ensures, le-ltb _ _ (c .before .before .if1 .left))
 
-pub share-above-spec : {M : Type 1} → statement M
-share-above-spec =
+pub mean-decay-above-spec : {M : Type 1} → statement M
+mean-decay-above-spec =
     tie.close
     (tie.spec
     add-smaller
