@@ -8,7 +8,7 @@ use Rattle.formula.specs.FixedPoint.{decayDistance, entry, fineDecay, de
 use Rattle.formula.proofs.DecayBounds.{NotAbove, NotBelow, not-above-weaker, not-below-weaker, not-above-smaller, not-below-larger, not-above-product, not-below-product}
 use Rattle.formula.proofs.Rest.{second-equation, second-not-below, third, third-equation, third-not-above}
 use Rattle.formula.proofs.Entries.{entry-not-above, entry-not-below, fine-entry-not-above}
-use Rattle.formula.proofs.StepBounds.{entry-at-most, fine-entry-at-least}
+use Rattle.formula.proofs.StepBounds.{entry-at-most, fine-entry-at-least, square-at-most, fine-fall-at-most}
 
 -- the same bound over a scale that is t times smaller
 module _ {c : ℕ} {q : Fraction} (c′ s t : ℕ) (pos : 0 < s * t) where
@@ -34,13 +34,10 @@ module _ (j : ℕ) (small : j < 2 ^ 22) where
   abbrev drop : ℕ
   drop = j - j * j / 2 ^ 33
 
-  square-small : j * j ≤ 2 ^ 22 * j
-  square-small = mul-le-mul-right j (omega arith)
-
   rest-not-below : NotBelow (2 ^ 32 + 1 - drop) (2 ^ 32) (over j (2 ^ 32))
   rest-not-below =
       not-below-rescaled (2 ^ 32 + 1 - drop) (2 ^ 32) (2 ^ 33) (omega arith)
-      (omega (arith, square-small, second-equation j (2 ^ 32) (omega arith)))
+      (omega (arith, square-at-most j small, second-equation j (2 ^ 32) (omega arith)))
       (second-not-below j (2 ^ 32) (omega arith))
 
   cube-small : suc j * (suc j * suc j) ≤ 2 ^ 66
@@ -50,7 +47,7 @@ module _ (j : ℕ) (small : j < 2 ^ 22) where
   rest-not-above =
       not-above-rescaled (2 ^ 32 - drop - 3) (2 ^ 32) (6 * 2 ^ 64) (omega arith)
       (below-third (2 ^ 32) j (j * j / 2 ^ 33) drop (2 ^ 32 - drop - 3) (third (suc j) (2 ^ 32))
-      (omega arith) (omega (arith, square-small)) (omega arith) (omega (arith, cube-small))
+      (omega arith) (omega (arith, square-at-most j small)) (omega arith) (omega (arith, cube-small))
       (third-equation (suc j) (2 ^ 32) (omega arith)))
       (third-not-above (suc j) (2 ^ 32) (omega arith) (omega arith))
 
@@ -79,11 +76,8 @@ module _ (m j : ℕ) (m-small : m < 64) (small : j < 2 ^ 22) where
   abbrev z : ℕ
   z = t * y / 2 ^ 32
 
-  y-small : y ≤ 2 ^ 22
-  y-small = omega arith
-
   z-small : z * 2 ^ 32 ≤ 2 ^ 22 * 2 ^ 32
-  z-small = omega (arith, mul-le-mul {n₁ = t} {n₂ = 2 ^ 32} (entry-at-most m 1024) y-small)
+  z-small = omega (arith, fine-fall-at-most m j small)
 
   pub fine-sum : fineDecay m j + (z + 4) ≡ t
   unfolding fineDecay

@@ -1,5 +1,4 @@
--- Laws of the steps of FixedPoint.antt that the code rests on: none of them leaves 64 bits, the table ends at 355, and a long quotient is
--- computed in two digits. No axioms.
+-- How large the steps of FixedPoint.antt get, so that the code stays within 64 bits, and that the decay table ends at 355. No axioms.
 use mathlib.Core.Path.{_≡_}
 use Prim.Native.Nat.{ℕ, _+_, _*_, _-_, _^_, _/_, _%_, _≤_, _<_, max}
 use native.Mathlib.Nat.{zero-lt-suc, le-of-lt, mul-le-mul, mul-le-mul-left, mul-le-mul-right, mul-lt-mul-of-pos-right, lt-of-mul-lt-mul-right, div-le-of-le-mul, div-eq-of-lt, min-le-left}
