@@ -16,6 +16,7 @@ fn print_line(n: u64) -> bool {
     io::write_all(STDOUT_FILENO, b"\n")
 }
 
+// Prints every line; where one can't be written, says so on standard error and stops.
 fn main() {
     for n in 0..355 {
         if !print_line(n) {

@@ -53,9 +53,9 @@ module _ {c s : ℕ} {q : Fraction} (c′ s′ : ℕ) (pos : 0 < s) where
       }
 
 -- e^(−r) is at most e^(−q) where q is at most r
-module _ (q r : Fraction) (q-pos : 0 < q .bottom) (r-pos : 0 < r .bottom) (at-most : AtMost q r) {c s : ℕ} where
-  pub not-above-smaller : NotAbove c s r → NotAbove c s q
-  not-above-smaller b =
+module _ (q r : Fraction) {c s : ℕ} where
+  pub not-above-smaller : 0 < r .bottom → AtMost q r → NotAbove c s r → NotAbove c s q
+  not-above-smaller pos at-most b =
       record {
         every =
             λ k.
@@ -65,11 +65,11 @@ module _ (q r : Fraction) (q-pos : 0 < q .bottom) (r-pos : 0 < r .bottom) (at-mo
               mul-le-mul-left c (low-grows q r at-most k),
               mul-le-mul-right (low q k .bottom) (b .every k),
             ))
-            (low-bottom-pos r r-pos k);
+            (low-bottom-pos r pos k);
       }
 
-  pub not-below-larger : NotBelow c s q → NotBelow c s r
-  not-below-larger b =
+  pub not-below-larger : 0 < q .bottom → AtMost q r → NotBelow c s q → NotBelow c s r
+  not-below-larger pos at-most b =
       let k = b .some-k in
       record {
         some-k = k;
@@ -80,7 +80,7 @@ module _ (q r : Fraction) (q-pos : 0 < q .bottom) (r-pos : 0 < r .bottom) (at-mo
               mul-le-mul-left c (low-grows q r at-most k),
               mul-le-mul-right (low r k .bottom) (b .holds),
             ))
-            (low-bottom-pos q q-pos k);
+            (low-bottom-pos q pos k);
       }
 
 -- Products of bounds belong to sums of exponents.

@@ -88,7 +88,7 @@ module _ (m j : ℕ) (m-small : m < 64) (small : j < 2 ^ 22) where
       not-above-rescaled (fineDecay m j) (2 ^ 32) (2 ^ 32) (omega arith)
       (fine-low (2 ^ 32) t y z (fineDecay m j) (omega arith) (omega arith) (entry-at-most m 1024) (omega arith) fine-sum)
       (not-above-product (m * 2 ^ 22) (suc j) (2 ^ 32) (omega arith)
-      (not-above-smaller (over (m * 2 ^ 22) (2 ^ 32)) (over m 1024) (omega arith) (omega arith) (omega arith) (fine-entry-not-above m m-small))
+      (not-above-smaller (over (m * 2 ^ 22) (2 ^ 32)) (over m 1024) (omega arith) (omega arith) (fine-entry-not-above m m-small))
       (rest-not-above j small))
 
   pub fine-not-below : NotBelow (fineDecay m j + 7) (2 ^ 32) (over (m * 2 ^ 22 + j) (2 ^ 32))
@@ -96,7 +96,7 @@ module _ (m j : ℕ) (m-small : m < 64) (small : j < 2 ^ 22) where
       not-below-rescaled (fineDecay m j + 7) (2 ^ 32) (2 ^ 32) (omega arith)
       (fine-high (2 ^ 32) t y z (fineDecay m j) (omega arith) (entry-at-most m 1024) (omega arith) (omega arith) fine-sum)
       (not-below-product (m * 2 ^ 22) j (2 ^ 32) (omega arith)
-      (not-below-larger (over m 1024) (over (m * 2 ^ 22) (2 ^ 32)) (omega arith) (omega arith) (omega arith) (entry-not-below m 1024 (omega arith)))
+      (not-below-larger (over m 1024) (over (m * 2 ^ 22) (2 ^ 32)) (omega arith) (omega arith) (entry-not-below m 1024 (omega arith)))
       (rest-not-below j small))
 
 -- ---- the coarse entry as well: x = n / 16 + m / 1024 + j / 2^32
@@ -120,18 +120,18 @@ module _ (x : ℕ) where
   pub decay-not-above : NotAbove (decayBelow x) (2 ^ 32) (over (suc x) (2 ^ 32))
   unfolding decayBelow
   decay-not-above =
-      not-above-smaller (over (suc x) (2 ^ 32)) (over (n * 2 ^ 28 + (m * 2 ^ 22 + suc j)) (2 ^ 32)) (omega arith) (omega arith) (omega arith)
+      not-above-smaller (over (suc x) (2 ^ 32)) (over (n * 2 ^ 28 + (m * 2 ^ 22 + suc j)) (2 ^ 32)) (omega arith) (omega arith)
       (not-above-rescaled (decayBelow x) (2 ^ 32) (2 ^ 32) (omega arith) (omega arith)
       (not-above-product (n * 2 ^ 28) (m * 2 ^ 22 + suc j) (2 ^ 32) (omega arith)
-      (not-above-smaller (over (n * 2 ^ 28) (2 ^ 32)) (over n 16) (omega arith) (omega arith) (omega arith) (entry-not-above n))
+      (not-above-smaller (over (n * 2 ^ 28) (2 ^ 32)) (over n 16) (omega arith) (omega arith) (entry-not-above n))
       (fine-not-above m j m-below j-below)))
 
   pub decay-not-below : NotBelow (decayBelow x + decayDistance) (2 ^ 32) (over x (2 ^ 32))
   unfolding decayBelow
   decay-not-below =
-      not-below-larger (over (n * 2 ^ 28 + (m * 2 ^ 22 + j)) (2 ^ 32)) (over x (2 ^ 32)) (omega arith) (omega arith) (omega arith)
+      not-below-larger (over (n * 2 ^ 28 + (m * 2 ^ 22 + j)) (2 ^ 32)) (over x (2 ^ 32)) (omega arith) (omega arith)
       (not-below-rescaled (decayBelow x + decayDistance) (2 ^ 32) (2 ^ 32) (omega arith)
       (omega (arith, entry-at-most n 16, entry-at-most m 1024, fine-sum m j m-below j-below))
       (not-below-product (n * 2 ^ 28) (m * 2 ^ 22 + j) (2 ^ 32) (omega arith)
-      (not-below-larger (over n 16) (over (n * 2 ^ 28) (2 ^ 32)) (omega arith) (omega arith) (omega arith) (entry-not-below n 16 (omega arith)))
+      (not-below-larger (over n 16) (over (n * 2 ^ 28) (2 ^ 32)) (omega arith) (omega arith) (entry-not-below n 16 (omega arith)))
       (fine-not-below m j m-below j-below)))

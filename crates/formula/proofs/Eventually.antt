@@ -1,4 +1,4 @@
--- What holds from some k on, and the four facts about Low(k) and Up(k) of l, of x and of l + x that the ends of a raw weight rest on.
+-- What holds from some k on, and the facts about Low(k) and Up(k) of l, of x and of l + x that the ends of a raw weight rest on.
 -- No axioms.
 use mathlib.Core.Path.{subst}
 use Prim.Native.Nat.{ℕ, suc, _+_, _*_, _^_, _≤_, _<_}

@@ -168,7 +168,7 @@ module _ (a b : ℕ) (a-pos : 0 < a) (b-pos : 0 < b) where
         c = c + decayDistance;
         s = 2 ^ 32;
         s-pos = omega arith;
-        bound = not-below-larger (over X (2 ^ 32)) (over a b) (omega arith) b-pos (omega arith) (decay-not-below X);
+        bound = not-below-larger (over X (2 ^ 32)) (over a b) (omega arith) (omega arith) (decay-not-below X);
         holds = from-quotient a b X (suc (c + decayDistance)) (h - meanDecayDistance) most
             (under-quotient X c ((2 ^ 32 + 1 - c) * 2 ^ 27 / X) h large one (omega arith) decay-room
             (omega (arith, decay-room, div-mul-le-self ((2 ^ 32 + 1 - c) * 2 ^ 27) X)));
@@ -179,7 +179,7 @@ module _ (a b : ℕ) (a-pos : 0 < a) (b-pos : 0 < b) where
       large-high = record {
         c = c;
         s = 2 ^ 32;
-        bound = not-above-smaller (over a b) (over (suc X) (2 ^ 32)) b-pos (omega arith) (omega arith) (decay-not-above X);
+        bound = not-above-smaller (over a b) (over (suc X) (2 ^ 32)) (omega arith) (omega arith) (decay-not-above X);
         holds = by-quotient a b X c (2 ^ 32 + 1 - c) (2 ^ 27) (meanDecayOfLarge X) least
             (omega (arith, decay-room)) (omega (arith, lt-div-mul-add {a = (2 ^ 32 + 1 - c) * 2 ^ 27} X-pos));
       }

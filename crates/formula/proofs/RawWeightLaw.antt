@@ -72,9 +72,9 @@ module _ (A D K p : ℕ) (K-pos : 0 < K) (p-pos : 0 < p) (above : K < D) (thick 
   gap : (k : ℕ) × Gap lower width (lower + width) (1 * b) product (product - productDistance) k
   gap =
       gap-at-some-k lower width (1 * b) bottom-pos product (product - productDistance) (omega arith)
-      (not-above-smaller lowerFraction (over (suc (units lower b)) (2 ^ 32)) bottom-pos (omega arith)
+      (not-above-smaller lowerFraction (over (suc (units lower b)) (2 ^ 32)) (omega arith)
       (omega (arith, units-most lower b b-pos)) (decay-not-above (units lower b)))
-      (not-below-larger (over (units lower b) (2 ^ 32)) lowerFraction (omega arith) bottom-pos
+      (not-below-larger (over (units lower b) (2 ^ 32)) lowerFraction (omega arith)
       (units-least lower b b-pos) (decay-above-not-below (units lower b)))
       (mean-decay-high width (1 * b) (omega arith) bottom-pos (units width b) (units-least width b b-pos) (units-most width b b-pos))
       (mean-decay-low width (1 * b) (omega arith) bottom-pos (units width b) (units-least width b b-pos) (units-most width b b-pos))

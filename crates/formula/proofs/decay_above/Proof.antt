@@ -1,4 +1,4 @@
--- `decay_above`: a decay from below is at most 2^32, so that 10 can be added. No axioms.
+-- `decay_above`: a decay from below is at most 2^32, so that its distance can be added. No axioms.
 use native.Mathlib.Omega.{arith}
 use borrow.Author.Needs.{needs}
 use Rattle.formula.specs.FixedPoint.{decayAbove}
