@@ -1,0 +1,126 @@
+-- 01, "Which approach, then floor, then cap" (CRE40.41 to CRE40.54, CRE41, CRE42): the line of a tranche, as a function of the tranche's own inputs and of the deal's terms alone.
+use mathlib.Core.Bool.{Bool, cond, not, _&&_, _||_}
+use mathlib.Core.List.{List, [], _∷_}
+use Prim.Native.Nat.{ℕ, _*_, _-_, min, max}
+use lib.Dec.{ltb, eqb}
+use Rattle.numbers.specs.Rounding.{roundedUp}
+use Rattle.formula.specs.FixedPoint.{rawWeight}
+use Rattle.formula.specs.declared.RawWeight.{RawWeight}
+use Rattle.formula.specs.declared.RawWeight.the-variants.{Weight, NoThickness, OutsideLimits}
+use Rattle.ratings.specs.RatingTable.{ratingTable, present, weightByRatings}
+use Rattle.deal.specs.DealSheet.{resecuritisation, dueDiligence, compositionKnown, class, months, held, firstRating, secondRating, thirdRating}
+use Rattle.deal.specs.PointsAndCharge.{poolSums, mostlyKnown, poolCharge, attachmentPoint, detachmentPoint}
+use Rattle.deal.specs.declared.Sums.{Sums}
+use Rattle.deal.specs.declared.Terms.{Terms}
+use Rattle.deal.specs.declared.Tranche.{Tranche}
+
+-- ---- what a line is made of
+
+-- "100 × (sum of exposure × risk weight) / (sum of exposure) over all rows, rounded up"
+abbrev pub poolAverage : Sums → ℕ
+poolAverage q = roundedUp (100 * q .all .weighted) (q .all .exposure)
+
+-- what the tranches of a deal share
+unfoldable pub terms : List ℕ → Terms
+terms s = record {
+  diligence = dueDiligence s;
+  resecuritisation = resecuritisation s;
+  composition = compositionKnown s;
+  known = mostlyKnown (poolSums s);
+  nominal = poolSums s .all .nominal;
+  charge = poolCharge (poolSums s);
+  average = poolAverage (poolSums s);
+}
+
+-- what is a tranche's own: "Class 1 is the senior class."
+unfoldable pub tranche : List ℕ → ℕ → Tranche
+tranche s i = record {
+  attachment = attachmentPoint s i;
+  detachment = detachmentPoint s i;
+  senior = eqb (class s i) 1;
+  months = months s i;
+  held = held s i;
+  first = firstRating s i;
+  second = secondRating s i;
+  third = thirdRating s i;
+}
+
+-- ---- approach
+
+-- "Any of the tranche's three ratings present"
+abbrev pub rated : Tranche → Bool
+rated t = present (t .first) || present (t .second) || present (t .third)
+
+-- 0 fallback, 1 SEC-ERBA, 2 SEC-SA. "In order: no due diligence, fallback. Re-securitisation, SEC-SA. Any of the tranche's three ratings present,
+-- SEC-ERBA. Unknown above 5%, fallback. Else SEC-SA."
+abbrev pub approach : Tranche → Terms → ℕ
+approach t d =
+    cond (not (d .diligence)) 0
+    (cond (d .resecuritisation) 2
+    (cond (rated t) 1
+    (cond (not (d .known)) 0
+    2)))
+
+-- ---- weight
+
+-- "An ordinary securitisation has supervisory parameter 1 and floor 1,500; a re-securitisation has 1.5 and 10,000."
+abbrev pub parameter : Bool → ℕ
+parameter resecuritised = cond resecuritised 1500000 1000000
+
+abbrev pub floor : Bool → ℕ
+floor resecuritised = cond resecuritised 10000 1500
+
+-- "The cap applies to class 1 of an ordinary deal with known composition"
+abbrev pub capApplies : Tranche → Terms → Bool
+capApplies t d = t .senior && not (d .resecuritisation) && d .composition
+
+-- "The weight is raised to the floor, then lowered to the cap, also below the floor."
+abbrev pub afterFloorAndCap : Tranche → Terms → ℕ → ℕ
+afterFloorAndCap t d w =
+    cond (capApplies t d)
+    (min (max w (floor (d .resecuritisation))) (d .average))
+    (max w (floor (d .resecuritisation)))
+
+-- the number of a raw weight (0 where there is none, which no accepted sheet meets: `formula-weighs`, proofs/DemandThree.antt)
+abbrev pub numberOf : RawWeight → ℕ
+numberOf (Weight w) = w
+numberOf NoThickness = 0
+numberOf OutsideLimits = 0
+
+-- "A SEC-SA line's weight is its tranche's raw weight after floor and cap."
+unfoldable pub formulaRawWeight : Tranche → Terms → ℕ
+formulaRawWeight t d = numberOf (rawWeight (t .attachment) (t .detachment) (d .charge) (parameter (d .resecuritisation)))
+
+unfoldable pub tableWeight : Tranche → ℕ
+tableWeight t =
+    weightByRatings ratingTable (t .first) (t .second) (t .third) (t .senior) (t .months)
+    (t .detachment - t .attachment)
+
+-- "The fallback is 125,000 with no cap"
+unfoldable pub weight : Tranche → Terms → ℕ
+weight t d =
+    cond (eqb (approach t d) 0) 125000
+    (cond (eqb (approach t d) 1) (afterFloorAndCap t d (tableWeight t))
+    (afterFloorAndCap t d (formulaRawWeight t d)))
+
+-- ---- amounts
+
+-- "Risk-weighted amount: held × weight / 10,000, rounded up."
+abbrev pub riskWeightedAmount : ℕ → ℕ → ℕ
+riskWeightedAmount heldAmount w = roundedUp (heldAmount * w) 10000
+
+-- "Capital: held × weight × 8 / 10^6, rounded up."
+abbrev pub capital : ℕ → ℕ → ℕ
+capital heldAmount w = roundedUp (heldAmount * w * 8) 1000000
+
+-- ---- the line: "approach, A, D, weight, risk-weighted amount, capital"
+
+unfoldable pub lineWords : Tranche → Terms → List ℕ
+lineWords t d =
+    approach t d ∷ t .attachment ∷ t .detachment ∷ weight t d ∷
+    riskWeightedAmount (t .held) (weight t d) ∷ capital (t .held) (weight t d) ∷ []
+
+-- ---- "13: SEC-SA applies, A equals D, and D is above the pool charge"
+
+unfoldable pub thin : Tranche → Terms → Bool
+thin t d = eqb (approach t d) 2 && eqb (t .attachment) (t .detachment) && ltb (d .charge) (t .detachment)

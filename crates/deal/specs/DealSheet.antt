@@ -1,0 +1,91 @@
+-- 01, "The deal sheet": where each word of a sheet stands. Places are counted from 0. A count is read as it stands, however wrong: a wrong count
+-- is itself the first fault of its sheet (Refusals.antt).
+use mathlib.Core.Bool.{Bool}
+use mathlib.Core.List.{List}
+use Prim.Native.Nat.{ℕ, _+_, _*_}
+use lib.Dec.{eqb}
+use lib.ListN.{getD}
+
+-- the word at a place (0 past the end)
+abbrev pub word : List ℕ → ℕ → ℕ
+word s p = getD s p 0
+
+-- ---- "Facts, count 4: pool kind (0 SA, 1 IRB, 2 mixed); re-securitisation; due diligence held; pool composition known."
+
+abbrev pub poolKind : List ℕ → ℕ
+poolKind s = word s 1
+
+abbrev pub resecuritisation : List ℕ → Bool
+resecuritisation s = eqb (word s 2) 1
+
+abbrev pub dueDiligence : List ℕ → Bool
+dueDiligence s = eqb (word s 3) 1
+
+abbrev pub compositionKnown : List ℕ → Bool
+compositionKnown s = eqb (word s 4) 1
+
+-- ---- "Pool, count 1 to 1,000. A row: exposure amount and nominal amount; risk weight in whole percent; status"
+
+-- the place of the pool's count
+unfoldable pub poolAt : List ℕ → ℕ
+poolAt s = 1 + word s 0
+
+unfoldable pub rows : List ℕ → ℕ
+rows s = word s (poolAt s)
+
+-- the place of row i, from 0
+abbrev pub rowAt : List ℕ → ℕ → ℕ
+rowAt s i = poolAt s + 1 + 4 * i
+
+abbrev pub exposure : List ℕ → ℕ → ℕ
+exposure s i = word s (rowAt s i)
+
+abbrev pub nominal : List ℕ → ℕ → ℕ
+nominal s i = word s (rowAt s i + 1)
+
+abbrev pub riskWeight : List ℕ → ℕ → ℕ
+riskWeight s i = word s (rowAt s i + 2)
+
+-- "0 paying, 1 delinquent, 2 not known, 3 securitisation tranche"
+abbrev pub status : List ℕ → ℕ → ℕ
+status s i = word s (rowAt s i + 3)
+
+-- ---- "Tranches, count 1 to 32. A row: amount; class; final legal maturity in months; amount held; three rating words."
+
+-- the place of the tranches' count
+unfoldable pub tranchesAt : List ℕ → ℕ
+tranchesAt s = rowAt s (rows s)
+
+unfoldable pub trancheCount : List ℕ → ℕ
+trancheCount s = word s (tranchesAt s)
+
+-- the place of tranche i, from 0
+abbrev pub trancheAt : List ℕ → ℕ → ℕ
+trancheAt s i = tranchesAt s + 1 + 7 * i
+
+abbrev pub amount : List ℕ → ℕ → ℕ
+amount s i = word s (trancheAt s i)
+
+-- "Class 1 is the senior class. Equal classes rank pari passu."
+abbrev pub class : List ℕ → ℕ → ℕ
+class s i = word s (trancheAt s i + 1)
+
+abbrev pub months : List ℕ → ℕ → ℕ
+months s i = word s (trancheAt s i + 2)
+
+abbrev pub held : List ℕ → ℕ → ℕ
+held s i = word s (trancheAt s i + 3)
+
+abbrev pub firstRating : List ℕ → ℕ → ℕ
+firstRating s i = word s (trancheAt s i + 4)
+
+abbrev pub secondRating : List ℕ → ℕ → ℕ
+secondRating s i = word s (trancheAt s i + 5)
+
+abbrev pub thirdRating : List ℕ → ℕ → ℕ
+thirdRating s i = word s (trancheAt s i + 6)
+
+-- ---- how many words the sheet needs by its counts
+
+abbrev pub needed : List ℕ → ℕ
+needed s = trancheAt s (trancheCount s)

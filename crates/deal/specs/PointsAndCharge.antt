@@ -1,0 +1,98 @@
+-- 01, "Points and pool charge" (d374 paragraphs 51 to 53 and 79 to 83; CRE40, CRE41). Points, shares and charges are counted in millionths, amounts in whole currency
+-- units, risk weights in percent.
+use mathlib.Core.Bool.{Bool, cond, not}
+use mathlib.Core.List.{List}
+use Prim.Native.Nat.{ℕ, _+_, _*_, _-_, _/_, _≤_}
+use lib.Dec.{leb, ltb, eqb}
+use Rattle.numbers.specs.Rounding.{roundedUp}
+use Rattle.deal.specs.DealSheet.{rows, exposure, nominal, riskWeight, status, trancheCount, amount, class}
+use Rattle.deal.specs.Sum.{sum, where-counted}
+use Rattle.deal.specs.declared.Sums.{Sums}
+
+-- ---- the pool's sums
+
+-- "rows with known status": every status but 2, not known
+abbrev pub known : List ℕ → ℕ → Bool
+known s i = not (eqb (status s i) 2)
+
+-- "Status 3 counts as not delinquent."
+abbrev pub delinquent : List ℕ → ℕ → Bool
+delinquent s i = eqb (status s i) 1
+
+abbrev pub weightedExposure : List ℕ → ℕ → ℕ
+weightedExposure s i = exposure s i * riskWeight s i
+
+-- the seven sums over the first n rows
+abbrev pub sumsTo : List ℕ → ℕ → Sums
+sumsTo s n = record {
+  all = record {
+    exposure = sum (λ i. exposure s i) n;
+    nominal = sum (λ i. nominal s i) n;
+    weighted = sum (λ i. weightedExposure s i) n;
+  };
+  known = record {
+    exposure = sum (λ i. where-counted (known s i) (exposure s i)) n;
+    nominal = sum (λ i. where-counted (known s i) (nominal s i)) n;
+    weighted = sum (λ i. where-counted (known s i) (weightedExposure s i)) n;
+  };
+  late = sum (λ i. where-counted (delinquent s i) (nominal s i)) n;
+}
+
+unfoldable pub poolSums : List ℕ → Sums
+poolSums s = sumsTo s (rows s)
+
+-- what holds of the sums of any pool: rows of known status are among all rows and delinquent ones among those of known status, no risk weight is
+-- above 1250, and no sum of amounts is above 10^13 (1,000 rows of 10^10)
+pub record SumLimits (q : Sums) : Type 0 where
+  pub exposure-most : q .all .exposure ≤ 10000000000000
+  pub known-among-all : q .known .exposure ≤ q .all .exposure
+  pub weighted-most : q .all .weighted ≤ 1250 * q .all .exposure
+  pub known-weighted-most : q .known .weighted ≤ 1250 * q .known .exposure
+  pub known-nominal-most : q .known .nominal ≤ 10000000000000
+  pub late-among-known : q .late ≤ q .known .nominal
+
+-- ---- the pool charge, from the sums
+
+-- "the base charge is 800 × (sum of exposure × risk weight) / (sum of exposure), rounded up", over the rows with known status
+abbrev pub baseCharge : Sums → ℕ
+baseCharge q = roundedUp (800 * q .known .weighted) (q .known .exposure)
+
+-- "The late share W is delinquent nominal × 10^6 / nominal, rounded up", over the rows with known status
+abbrev pub lateShare : Sums → ℕ
+lateShare q = roundedUp (q .late * 1000000) (q .known .nominal)
+
+-- "((10^6 − W) × base + 500,000 × W) / 10^6, rounded up"
+unfoldable pub knownCharge : Sums → ℕ
+knownCharge q = roundedUp ((1000000 - lateShare q) * baseCharge q + 500000 * lateShare q) 1000000
+
+abbrev pub unknownExposure : Sums → ℕ
+unknownExposure q = q .all .exposure - q .known .exposure
+
+-- "Unknown rows up to and including 5% of all exposure"
+abbrev pub mostlyKnown : Sums → Bool
+mostlyKnown q = leb (20 * unknownExposure q) (q .all .exposure)
+
+-- "charge is (known exposure × charge + unknown exposure × 10^6) / all exposure, rounded up. Above 5%: the charge is reported as 1,000,000"
+unfoldable pub poolCharge : Sums → ℕ
+poolCharge q =
+    cond (mostlyKnown q)
+    (roundedUp (q .known .exposure * knownCharge q + unknownExposure q * 1000000) (q .all .exposure))
+    1000000
+
+-- ---- attachment and detachment points
+
+-- the amounts of the tranches of a class below c, that is senior to c
+unfoldable pub seniorAmount : List ℕ → ℕ → ℕ
+seniorAmount s c = sum (λ j. where-counted (ltb (class s j) c) (amount s j)) (trancheCount s)
+
+-- max(0, N − x) × 10^6 / N, rounded down
+abbrev pub point : ℕ → ℕ → ℕ
+point N x = (N - x) * 1000000 / N
+
+-- "A is max(0, N minus all tranches of this or a senior class) × 10^6 / N, rounded down."
+unfoldable pub attachmentPoint : List ℕ → ℕ → ℕ
+attachmentPoint s i = point (poolSums s .all .nominal) (seniorAmount s (class s i + 1))
+
+-- "D is the same with senior classes only."
+unfoldable pub detachmentPoint : List ℕ → ℕ → ℕ
+detachmentPoint s i = point (poolSums s .all .nominal) (seniorAmount s (class s i))

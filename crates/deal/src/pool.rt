@@ -1,0 +1,154 @@
+// The pool: its sums, its charge, and what its deal's tranches share.
+ghost use mathlib.Core.Path.{_≡_};
+ghost use Prim.Native.Nat.{_+_, _<_};
+ghost use Rattle.deal.specs.DealSheet.{rows, needed};
+ghost use Rattle.deal.specs.PointsAndCharge.{SumLimits, sumsTo, poolSums, baseCharge, lateShare, knownCharge, mostlyKnown, poolCharge};
+ghost use Rattle.deal.specs.Sum.{where-counted};
+ghost use Rattle.deal.specs.ApproachFloorCap.{poolAverage, terms};
+ghost use Rattle.deal.specs.Refusals.{judged};
+ghost use Rattle.deal.specs.declared.Verdict.the-variants.{Sound};
+
+use crate::Sums;
+use crate::Terms;
+use crate::Totals;
+use crate::sheet::row_at;
+use crate::sheet::row_count;
+use crate::sheet::word_at;
+use numbers::rounded_up;
+
+// 1 in the units of shares and charges, millionths.
+const MILLION: u64 = 1000000;
+
+// x where it counts, and 0 where not.
+fn where_counted(counts: bool, x: u64) -> u64
+    ensures { λ r. ⌜ r ≡ where-counted counts x ⌝ }
+{
+    if counts { x } else { 0 }
+}
+
+// The sums with row i added: a row of status 2 is not known, one of status 1 is delinquent.
+fn with_row(s: &[u64], sums: Sums, i: u64) -> Sums
+    requires { ⌜ (judged (now s) (needed (now s)) ≡ Sound) × (i < rows (now s)) × (sums ≡ sumsTo (now s) i) ⌝ }
+    ensures { λ r. ⌜ r ≡ sumsTo (now (s .entry)) (i + 1) ⌝ }
+{
+    let at = row_at(s, i);
+    let exposure = word_at(s, at);
+    let nominal = word_at(s, at + 1);
+    let weighted = exposure * word_at(s, at + 2);
+    let status = word_at(s, at + 3);
+    let known = status != 2;
+    let late = status == 1;
+    let all = sums.all;
+    let part = sums.known;
+    Sums {
+        all: Totals {
+            exposure: all.exposure + exposure,
+            nominal: all.nominal + nominal,
+            weighted: all.weighted + weighted,
+        },
+        known: Totals {
+            exposure: part.exposure + where_counted(known, exposure),
+            nominal: part.nominal + where_counted(known, nominal),
+            weighted: part.weighted + where_counted(known, weighted),
+        },
+        late: sums.late + where_counted(late, nominal),
+    }
+}
+
+// The sums over all rows.
+fn pool_sums(s: &[u64]) -> Sums
+    requires { ⌜ judged (now s) (needed (now s)) ≡ Sound ⌝ }
+    ensures { λ r. ⌜ r ≡ poolSums (now (s .entry)) ⌝ }
+{
+    let rows = row_count(s);
+    let mut sums = Sums {
+        all: Totals {
+            exposure: 0,
+            nominal: 0,
+            weighted: 0,
+        },
+        known: Totals {
+            exposure: 0,
+            nominal: 0,
+            weighted: 0,
+        },
+        late: 0,
+    };
+    let mut i = 0;
+    while i < rows {
+        sums = with_row(s, sums, i);
+        i += 1;
+    }
+    sums
+}
+
+// The base charge: 8% of the average risk weight of the rows with known status, rounded up.
+fn base_charge(q: Sums) -> u64
+    requires { ⌜ SumLimits q ⌝ }
+    ensures { λ r. ⌜ r ≡ baseCharge q ⌝ }
+{
+    rounded_up(800 * q.known.weighted, q.known.exposure)
+}
+
+// The share of delinquent nominal in the nominal of the rows with known status, rounded up.
+fn late_share(q: Sums) -> u64
+    requires { ⌜ SumLimits q ⌝ }
+    ensures { λ r. ⌜ r ≡ lateShare q ⌝ }
+{
+    rounded_up(q.late * MILLION, q.known.nominal)
+}
+
+// The charge of the rows with known status: one half for the late share, the base charge for the rest.
+fn known_charge(q: Sums) -> u64
+    requires { ⌜ SumLimits q ⌝ }
+    ensures { λ r. ⌜ r ≡ knownCharge q ⌝ }
+{
+    let base = base_charge(q);
+    let late = late_share(q);
+    rounded_up((MILLION - late) * base + 500000 * late, MILLION)
+}
+
+// Whether unknown rows are up to 5% of all exposure.
+fn mostly_known(q: Sums) -> bool
+    requires { ⌜ SumLimits q ⌝ }
+    ensures { λ r. ⌜ r ≡ mostlyKnown q ⌝ }
+{
+    20 * (q.all.exposure - q.known.exposure) <= q.all.exposure
+}
+
+// The pool charge: unknown rows up to 5% are charged in full; above that the whole pool is.
+fn pool_charge(q: Sums) -> u64
+    requires { ⌜ SumLimits q ⌝ }
+    ensures { λ r. ⌜ r ≡ poolCharge q ⌝ }
+{
+    if !mostly_known(q) {
+        return MILLION;
+    }
+    let unknown = q.all.exposure - q.known.exposure;
+    rounded_up(q.known.exposure * known_charge(q) + unknown * MILLION, q.all.exposure)
+}
+
+// The average risk weight of all rows, which is the senior cap.
+fn pool_average(q: Sums) -> u64
+    requires { ⌜ SumLimits q ⌝ }
+    ensures { λ r. ⌜ r ≡ poolAverage q ⌝ }
+{
+    rounded_up(100 * q.all.weighted, q.all.exposure)
+}
+
+// What the tranches of the deal share.
+pub(crate) fn terms_of(s: &[u64]) -> Terms
+    requires { ⌜ judged (now s) (needed (now s)) ≡ Sound ⌝ }
+    ensures { λ r. ⌜ r ≡ terms (now (s .entry)) ⌝ }
+{
+    let sums = pool_sums(s);
+    Terms {
+        diligence: word_at(s, 3) == 1,
+        resecuritisation: word_at(s, 2) == 1,
+        composition: word_at(s, 4) == 1,
+        known: mostly_known(sums),
+        nominal: sums.all.nominal,
+        charge: pool_charge(sums),
+        average: pool_average(sums),
+    }
+}

@@ -1,0 +1,3 @@
+pub mod RoundingLaws
+pub mod Tests
+pub mod Table

@@ -1,0 +1,42 @@
+-- Laws of a quotient rounded up: it is the least whole number that times the divisor is no less than the dividend. No axioms.
+use mathlib.Core.Logic.{⊎-elim}
+use mathlib.Core.Path.{_≡_}
+use Prim.Native.Nat.{ℕ, _+_, _*_, _-_, _≤_, _<_}
+use native.Mathlib.Nat.{eq-zero-or-pos, le-trans, lt-of-mul-lt-mul-right, div-zero, div-eq-of-lt-le, div-mul-le-self, lt-div-mul-add}
+use native.Mathlib.Omega.{arith}
+use Rattle.numbers.specs.Rounding.{roundedUp}
+
+pub rounded-up-at-least : (x y : ℕ) → 0 < y → x ≤ roundedUp x y * y
+rounded-up-at-least x y pos = omega (arith, lt-div-mul-add {a = x + (y - 1)} pos)
+
+pub rounded-up-below : (x y : ℕ) → 0 < y → roundedUp x y * y < x + y
+rounded-up-below x y pos = omega (arith, div-mul-le-self (x + (y - 1)) y)
+
+-- the one number q with x ≤ q × y < x + y
+pub rounded-up-is : (x y q : ℕ) → 0 < y → x ≤ q * y → q * y < x + y → roundedUp x y ≡ q
+rounded-up-is x y q pos least most = div-eq-of-lt-le {k = q} y {m = x + (y - 1)} (omega arith) (omega arith)
+
+pub rounded-up-by-zero : (x : ℕ) → roundedUp x 0 ≡ 0
+rounded-up-by-zero x = div-zero (x + (0 - 1))
+
+pub rounded-up-at-most : (x y m : ℕ) → x ≤ m * y → roundedUp x y ≤ m
+rounded-up-at-most x y m h =
+    ⊎-elim
+    (λ e. rw e (omega (arith, rounded-up-by-zero x)))
+    (λ pos.
+      let below : roundedUp x y < m + 1 = lt-of-mul-lt-mul-right y (omega (arith, rounded-up-below x y pos)) in
+      omega arith)
+    (eq-zero-or-pos y)
+
+pub rounded-up-monotone : (x z y : ℕ) → x ≤ z → roundedUp x y ≤ roundedUp z y
+rounded-up-monotone x z y h =
+    ⊎-elim
+    (λ e. rw e (omega (arith, rounded-up-by-zero x)))
+    (λ pos. rounded-up-at-most x y (roundedUp z y) (le-trans h (rounded-up-at-least z y pos)))
+    (eq-zero-or-pos y)
+
+pub rounded-up-exact : (m y : ℕ) → 0 < y → roundedUp (m * y) y ≡ m
+rounded-up-exact m y pos = rounded-up-is (m * y) y m pos (omega arith) (omega arith)
+
+pub rounded-up-zero : (y : ℕ) → roundedUp 0 y ≡ 0
+rounded-up-zero y = omega (arith, rounded-up-at-most 0 y 0 (omega arith))

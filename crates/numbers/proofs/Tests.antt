@@ -1,0 +1,43 @@
+-- Laws of tests and of what they pick: two tests that say the same, both of two, neither of two, and a picked number. No axioms.
+use mathlib.Core.Bool.{Bool, true, false, cond, _&&_, _||_}
+use mathlib.Core.Logic.{⊎-elim}
+use mathlib.Core.Path.{_≡_, refl, _∙_, sym}
+use Prim.Native.Nat.{ℕ, _-_, _≤_, _<_}
+use native.Mathlib.Nat.{eq-zero-or-pos, lt-of-not-le, not-le-of-lt}
+use native.Mathlib.Omega.{arith}
+use lib.Dec.{T, leb}
+use borrow.Author.Tests.{le-leb, lt-leb}
+
+pub and-both : (a b : Bool) → T (a && b) → T a × T b
+and-both true b t = (tt, t)
+and-both false b t = absurd t
+
+pub both-true : (a b : Bool) → a && b ≡ true → (a ≡ true) × (b ≡ true)
+both-true true b e = (refl, e)
+both-true false true e = (e, refl)
+both-true false false e = (e, e)
+
+pub neither-true : (a b : Bool) → a || b ≡ false → (a ≡ false) × (b ≡ false)
+neither-true true true e = (e, e)
+neither-true true false e = (e, refl)
+neither-true false b e = (refl, e)
+
+pub same-leb : (a b m n : ℕ) → (a ≤ b → m ≤ n) → (m ≤ n → a ≤ b) → leb a b ≡ leb m n
+same-leb a b m n forth back =
+    ⊎-elim
+    (λ e.
+      let h : m ≤ n = omega arith in
+      le-leb a b (back h) ∙ sym (le-leb m n h))
+    (λ pos.
+      let h : n < m = omega arith in
+      lt-leb a b (lt-of-not-le (λ k. not-le-of-lt h (forth k))) ∙ sym (lt-leb m n h))
+    (eq-zero-or-pos (m - n))
+
+-- what holds of each of two numbers where it is picked holds of the picked one
+pub at-cond : (P : ℕ → Type 0) (b : Bool) (x y : ℕ) → (b ≡ true → P x) → (b ≡ false → P y) → P (cond b x y)
+at-cond P true x y p q = p refl
+at-cond P false x y p q = q refl
+
+pub cond-le : (b : Bool) (w x y z : ℕ) → w ≤ y → x ≤ z → cond b w x ≤ cond b y z
+cond-le true w x y z p q = p
+cond-le false w x y z p q = q

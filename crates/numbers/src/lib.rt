@@ -1,0 +1,39 @@
+ghost use mathlib.Core.Path.{_≡_};
+ghost use Prim.Native.Nat.{_-_, min, max};
+ghost use Rattle.numbers.specs.Rounding.{roundedUp};
+
+// The smaller of two numbers.
+pub fn smaller(a: u64, b: u64) -> u64
+    ensures { λ r. ⌜ r ≡ min a b ⌝ }
+{
+    if a < b { a } else { b }
+}
+
+// The larger of two numbers.
+pub fn larger(a: u64, b: u64) -> u64
+    ensures { λ r. ⌜ r ≡ max a b ⌝ }
+{
+    if a < b { b } else { a }
+}
+
+// What a has above b: max(a − b, 0).
+pub fn excess(a: u64, b: u64) -> u64
+    ensures { λ r. ⌜ r ≡ a - b ⌝ }
+{
+    if a < b { 0 } else { a - b }
+}
+
+// x / y, rounded up, by quotient and remainder so that nothing is added to x; 0 where y is 0.
+pub fn rounded_up(x: u64, y: u64) -> u64
+    ensures { λ r. ⌜ r ≡ roundedUp x y ⌝ }
+{
+    if y == 0 {
+        return 0;
+    }
+    let quotient = x / y;
+    if quotient * y == x {
+        quotient
+    } else {
+        quotient + 1
+    }
+}

@@ -1,0 +1,19 @@
+-- `short_term`: each return by the tests that led there. No axioms.
+use native.Mathlib.Omega.{arith}
+use borrow.Author.Tests.{le-leb, lt-leb}
+use Rattle.numbers.proofs.Tests.{same-leb}
+use Rattle.ratings.proofs.short_term.Statement.{statement}
+use Rattle.ratings.proofs.short_term.Tie as tie
+use Rattle.ratings.proofs.short_term.Reads as reads
+use Rattle.ratings.proofs.short_term.Lts as lts
+
+returns : tie.Need-returns
+returns c = simp (lt-leb 21 (c .before .args .code) (omega arith))
+
+returns-2 : tie.Need-returns-2
+returns-2 c =
+    let code = c .before .args .code in
+    simp (le-leb 21 code (omega arith)) (same-leb code _ code 24 (λ h. omega arith) (λ h. omega arith))
+
+pub short-term-spec : {M : Type 1} → statement M
+short-term-spec = tie.close (tie.spec returns returns-2)

@@ -1,0 +1,141 @@
+ghost use mathlib.Core.Bool.{Bool, true, false};
+ghost use mathlib.Core.Path.{_≡_};
+ghost use Prim.Native.Nat.{_+_, _*_, _-_, _≤_, _<_, min, max};
+ghost use Rattle.ratings.specs.RatingTable.{ratingTable, figure, longTerm, shortTerm, present, listed, maturityFifths, linear, longTermExact, shortTermExact, exactWeight, weightByRating, weightByRatings};
+
+mod table;
+
+use numbers::larger;
+use numbers::rounded_up;
+use numbers::smaller;
+use table::FIGURES;
+use table::SHORT_TERM;
+
+// 1 in the units of a thickness, millionths, and one half.
+const MILLION: u64 = 1000000;
+const HALF: u64 = 500000;
+
+// The divisor of exact weights: 240 fifths of a month times a million.
+const EXACT_PARTS: u64 = 240000000;
+
+// Whether a code is a row of the rating table.
+fn long_term(code: u64) -> bool
+    ensures { λ r. ⌜ r ≡ longTerm code ⌝ }
+{
+    if code < 1 {
+        return false;
+    }
+    code <= 18
+}
+
+// Whether a code is a short-term grade.
+fn short_term(code: u64) -> bool
+    ensures { λ r. ⌜ r ≡ shortTerm code ⌝ }
+{
+    if code < 21 {
+        return false;
+    }
+    code <= 24
+}
+
+// Whether a code is a rating, long-term or short-term.
+pub fn is_present(code: u64) -> bool
+    ensures { λ r. ⌜ r ≡ present code ⌝ }
+{
+    if long_term(code) {
+        return true;
+    }
+    short_term(code)
+}
+
+// Whether a code is listed: none, or a rating.
+pub fn is_listed(code: u64) -> bool
+    ensures { λ r. ⌜ r ≡ listed code ⌝ }
+{
+    if code == 0 {
+        return true;
+    }
+    is_present(code)
+}
+
+// Tranche maturity in fifths of a month: the 80% rule first, then at least one year and at most five. 72 months reach the most, so that larger
+// numbers of months need no product.
+pub fn maturity_fifths(months: u64) -> u64
+    ensures { λ r. ⌜ r ≡ maturityFifths months ⌝ }
+{
+    larger(60, 4 * smaller(months, 72) + 12)
+}
+
+// A figure of the rating table, in percent: the grade counts from 1, the column from 0.
+fn table_figure(grade: u64, column: u64) -> u64
+    requires { ⌜ (1 ≤ grade) × (grade ≤ 18) × (column < 4) ⌝ }
+    ensures { λ r. ⌜ r ≡ figure ratingTable grade column ⌝ }
+{
+    FIGURES[(grade - 1) as usize][column as usize]
+}
+
+// 240 times the percentage at a maturity, linear between the 1-year figure in a column and the 5-year figure in the next.
+fn linear_percent(grade: u64, column: u64, fifths: u64) -> u64
+    requires { ⌜ (1 ≤ grade) × (grade ≤ 18) × (column < 3) × (60 ≤ fifths) × (fifths ≤ 300) ⌝ }
+    ensures { λ r. ⌜ r ≡ linear (figure ratingTable grade column) (figure ratingTable grade (column + 1)) fifths ⌝ }
+{
+    table_figure(grade, column) * (300 - fifths) + table_figure(grade, column + 1) * (fifths - 60)
+}
+
+// The exact weight by a long-term grade, times EXACT_PARTS: a non-senior tranche's falls with its thickness, down to the senior one.
+fn long_term_exact(grade: u64, senior: bool, fifths: u64, thickness: u64) -> u64
+    requires { ⌜ (1 ≤ grade) × (grade ≤ 18) × (60 ≤ fifths) × (fifths ≤ 300) ⌝ }
+    ensures { λ r. ⌜ r ≡ longTermExact ratingTable grade senior fifths thickness ⌝ }
+{
+    let least = linear_percent(grade, 0, fifths) * MILLION;
+    if senior {
+        return 100 * least;
+    }
+    let share = MILLION - smaller(thickness, HALF);
+    100 * larger(linear_percent(grade, 2, fifths) * share, least)
+}
+
+// The exact weight by a short-term grade, times EXACT_PARTS.
+fn short_term_exact(code: u64) -> u64
+    requires { ⌜ (21 ≤ code) × (code ≤ 24) ⌝ }
+    ensures { λ r. ⌜ r ≡ shortTermExact code ⌝ }
+{
+    100 * SHORT_TERM[(code - 21) as usize] * EXACT_PARTS
+}
+
+// The exact weight by a code, times EXACT_PARTS; 0 where the code is no rating.
+fn exact_weight(code: u64, senior: bool, months: u64, thickness: u64) -> u64
+    ensures { λ r. ⌜ r ≡ exactWeight ratingTable code senior months thickness ⌝ }
+{
+    if long_term(code) {
+        return long_term_exact(code, senior, maturity_fifths(months), thickness);
+    }
+    if short_term(code) {
+        return short_term_exact(code);
+    }
+    0
+}
+
+// The weight by one rating, rounded up once; 0 where the code is no rating.
+pub fn weight_by_rating(code: u64, senior: bool, months: u64, thickness: u64) -> u64
+    ensures { λ r. ⌜ r ≡ weightByRating ratingTable code senior months thickness ⌝ }
+{
+    rounded_up(exact_weight(code, senior, months, thickness), EXACT_PARTS)
+}
+
+// The weight by three ratings, of which the highest counts; 0 where none is present.
+pub fn weight_by_ratings(
+    first: u64,
+    second: u64,
+    third: u64,
+    senior: bool,
+    months: u64,
+    thickness: u64,
+) -> u64
+    ensures { λ r. ⌜ r ≡ weightByRatings ratingTable first second third senior months thickness ⌝ }
+{
+    let a = weight_by_rating(first, senior, months, thickness);
+    let b = weight_by_rating(second, senior, months, thickness);
+    let c = weight_by_rating(third, senior, months, thickness);
+    larger(a, larger(b, c))
+}
