@@ -10,6 +10,7 @@ use Rattle.formula.specs.declared.RawWeight.the-variants.{Weight, NoThickness, 
 use Rattle.ratings.specs.RatingTable.{ratingTable, present, weightByRatings}
 use Rattle.deal.specs.DealSheet.{resecuritisation, dueDiligence, compositionKnown, class, months, held, firstRating, secondRating, thirdRating}
 use Rattle.deal.specs.PointsAndCharge.{poolSums, mostlyKnown, poolCharge, attachmentPoint, detachmentPoint}
+use Rattle.deal.specs.declared.Line.{Line}
 use Rattle.deal.specs.declared.Sums.{Sums}
 use Rattle.deal.specs.declared.Terms.{Terms}
 use Rattle.deal.specs.declared.Tranche.{Tranche}
@@ -81,7 +82,7 @@ afterFloorAndCap t d w =
     (min (max w (floor (d .resecuritisation))) (d .average))
     (max w (floor (d .resecuritisation)))
 
--- the number of a raw weight (0 where there is none, which no accepted sheet meets: `formula-weighs`, proofs/DemandThree.antt)
+-- the number of a raw weight (0 where there is none, which no accepted sheet meets: `formula-weighs`, proofs/DemandThreeLaw.antt)
 abbrev pub numberOf : RawWeight → ℕ
 numberOf (Weight w) = w
 numberOf NoThickness = 0
@@ -115,10 +116,21 @@ capital heldAmount w = roundedUp (heldAmount * w * 8) 1000000
 
 -- ---- the line: "approach, A, D, weight, risk-weighted amount, capital"
 
+unfoldable pub line : Tranche → Terms → Line
+line t d = record {
+  approach = approach t d;
+  attachment = t .attachment;
+  detachment = t .detachment;
+  weight = weight t d;
+  amount = riskWeightedAmount (t .held) (weight t d);
+  capital = capital (t .held) (weight t d);
+}
+
+abbrev pub wordsOf : Line → List ℕ
+wordsOf l = l .approach ∷ l .attachment ∷ l .detachment ∷ l .weight ∷ l .amount ∷ l .capital ∷ []
+
 unfoldable pub lineWords : Tranche → Terms → List ℕ
-lineWords t d =
-    approach t d ∷ t .attachment ∷ t .detachment ∷ weight t d ∷
-    riskWeightedAmount (t .held) (weight t d) ∷ capital (t .held) (weight t d) ∷ []
+lineWords t d = wordsOf (line t d)
 
 -- ---- "13: SEC-SA applies, A equals D, and D is above the pool charge"
 

@@ -1,6 +1,10 @@
 pub mod DealSheet
+pub mod Refusals
+pub mod Judged
 pub mod Sum
 pub mod PointsAndCharge
 pub mod ApproachFloorCap
-pub mod Refusals
+pub mod DemandThree
 pub mod Results
+pub mod OtherRatings
+pub mod OrderOfRows

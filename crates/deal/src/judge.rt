@@ -6,7 +6,6 @@ ghost use lib.ListN.{length};
 ghost use Rattle.deal.specs.DealSheet.{poolAt, rows, rowAt, tranchesAt, trancheCount, trancheAt, class, needed};
 ghost use Rattle.deal.specs.Refusals.{unless, within, countFault, factFault, statusAllowed, rowFault, classInOrder, trancheFault, judgeWith, orElse, judged, wordsVerdict, roomFault};
 ghost use Rattle.deal.specs.declared.Verdict.the-variants.{Sound};
-
 use crate::Refusal;
 use crate::Verdict;
 use crate::sheet::pool_at;
@@ -20,6 +19,7 @@ use numbers::excess;
 
 // The limits of 01's amounts.
 const POOL_AMOUNT: u64 = 10000000000;
+
 const TRANCHE_AMOUNT: u64 = 10000000000000;
 
 // The number of a fault, unless the word is good.
@@ -131,10 +131,7 @@ fn judge_word(s: &[u64], p: u64, number: u64) -> Verdict
     if number == 0 {
         return Verdict::Sound;
     }
-    Verdict::Faulty(Refusal {
-        number,
-        place: p,
-    })
+    Verdict::Faulty(Refusal { number, place: p })
 }
 
 // The count of facts, and each fact.

@@ -64,6 +64,16 @@ pub(crate) struct Tranche {
     pub(crate) third: u64,
 }
 
+// A tranche's line, as its six words.
+pub(crate) struct Line {
+    pub(crate) approach: u64,
+    pub(crate) attachment: u64,
+    pub(crate) detachment: u64,
+    pub(crate) weight: u64,
+    pub(crate) amount: u64,
+    pub(crate) capital: u64,
+}
+
 // Weighs every tranche of a deal sheet: six words per tranche into the results, later words untouched; or one refusal, with the results as they
 // were. Everything is decided before the first word is written.
 pub fn weigh(sheet: &[u64], results: &mut [u64]) -> Answer

@@ -5,11 +5,11 @@ ghost use Prim.Native.Nat.{_+_, _*_, _≤_, _<_};
 ghost use lib.ListN.{length, drop};
 ghost use lib.Seq.{sets};
 ghost use Rattle.deal.specs.DealSheet.{trancheCount, needed};
-ghost use Rattle.deal.specs.ApproachFloorCap.{terms, tranche, lineWords};
+ghost use Rattle.deal.specs.ApproachFloorCap.{terms, tranche, line, wordsOf};
 ghost use Rattle.deal.specs.Refusals.{judged};
 ghost use Rattle.deal.specs.Results.{lines};
 ghost use Rattle.deal.specs.declared.Verdict.the-variants.{Sound};
-
+use crate::Line;
 use crate::Terms;
 use crate::sheet::tranche_count;
 use crate::tranches::approach;
@@ -18,20 +18,34 @@ use crate::tranches::risk_weighted_amount;
 use crate::tranches::tranche_of;
 use crate::tranches::weight;
 
-// Writes the six words of tranche i at its place.
-fn write_line(s: &[u64], d: Terms, i: u64, results: &mut [u64])
-    requires { ⌜ (judged (now s) (needed (now s)) ≡ Sound) × (d ≡ terms (now s)) × (i < trancheCount (now s)) × (6 * i + 6 ≤ length (now results)) ⌝ }
-    ensures { λ r. ⌜ now (results .exit) ≡ sets (now (results .entry)) (6 * i) (lineWords (tranche (now (s .entry)) i) (terms (now (s .entry)))) ⌝ }
+// Writes the six words of a line from a place on.
+fn put_line(line: Line, at: usize, results: &mut [u64])
+    requires { ⌜ at + 6 ≤ length (now results) ⌝ }
+    ensures { λ r. ⌜ now (results .exit) ≡ sets (now (results .entry)) at (wordsOf line) ⌝ }
+{
+    results[at] = line.approach;
+    results[at + 1] = line.attachment;
+    results[at + 2] = line.detachment;
+    results[at + 3] = line.weight;
+    results[at + 4] = line.amount;
+    results[at + 5] = line.capital;
+}
+
+// The line of tranche i.
+fn line_of(s: &[u64], d: Terms, i: u64) -> Line
+    requires { ⌜ (judged (now s) (needed (now s)) ≡ Sound) × (d ≡ terms (now s)) × (i < trancheCount (now s)) ⌝ }
+    ensures { λ r. ⌜ r ≡ line (tranche (now (s .entry)) i) (terms (now (s .entry))) ⌝ }
 {
     let t = tranche_of(s, d, i);
     let w = weight(t, d);
-    let at = (6 * i) as usize;
-    results[at] = approach(t, d);
-    results[at + 1] = t.attachment;
-    results[at + 2] = t.detachment;
-    results[at + 3] = w;
-    results[at + 4] = risk_weighted_amount(t.held, w);
-    results[at + 5] = capital(t.held, w);
+    Line {
+        approach: approach(t, d),
+        attachment: t.attachment,
+        detachment: t.detachment,
+        weight: w,
+        amount: risk_weighted_amount(t.held, w),
+        capital: capital(t.held, w),
+    }
 }
 
 // Writes the line of every tranche, in order.
@@ -42,7 +56,8 @@ pub(crate) fn write_lines(s: &[u64], d: Terms, results: &mut [u64])
     let tranches = tranche_count(s);
     let mut i = 0;
     while i < tranches {
-        write_line(s, d, i, &mut *results);
+        let line = line_of(s, d, i);
+        put_line(line, (6 * i) as usize, &mut *results);
         i += 1;
     }
 }

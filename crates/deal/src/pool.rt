@@ -7,7 +7,6 @@ ghost use Rattle.deal.specs.Sum.{where-counted};
 ghost use Rattle.deal.specs.ApproachFloorCap.{poolAverage, terms};
 ghost use Rattle.deal.specs.Refusals.{judged};
 ghost use Rattle.deal.specs.declared.Verdict.the-variants.{Sound};
-
 use crate::Sums;
 use crate::Terms;
 use crate::Totals;
@@ -125,7 +124,10 @@ fn pool_charge(q: Sums) -> u64
         return MILLION;
     }
     let unknown = q.all.exposure - q.known.exposure;
-    rounded_up(q.known.exposure * known_charge(q) + unknown * MILLION, q.all.exposure)
+    rounded_up(
+        q.known.exposure * known_charge(q) + unknown * MILLION,
+        q.all.exposure,
+    )
 }
 
 // The average risk weight of all rows, which is the senior cap.

@@ -9,11 +9,7 @@ ghost use Rattle.deal.specs.declared.Verdict.the-variants.{Sound};
 pub(crate) fn word_at(s: &[u64], p: u64) -> u64
     ensures { λ r. ⌜ r ≡ word (now (s .entry)) p ⌝ }
 {
-    if p < s.len() as u64 {
-        s[p as usize]
-    } else {
-        0
-    }
+    if p < s.len() as u64 { s[p as usize] } else { 0 }
 }
 
 // The place of the pool's count.

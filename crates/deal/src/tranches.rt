@@ -7,7 +7,6 @@ ghost use Rattle.deal.specs.PointsAndCharge.{seniorAmount, point};
 ghost use Rattle.deal.specs.ApproachFloorCap.{terms, tranche, rated, approach, parameter, floor, capApplies, afterFloorAndCap, formulaRawWeight, tableWeight, weight, riskWeightedAmount, capital, thin};
 ghost use Rattle.deal.specs.Refusals.{judged, thinFault, firstOf};
 ghost use Rattle.deal.specs.declared.Verdict.the-variants.{Sound};
-
 use crate::Refusal;
 use crate::Terms;
 use crate::Tranche;
@@ -26,6 +25,7 @@ pub(crate) struct Ordinary {}
 
 impl Ordinary {
     pub(crate) const PARAMETER: u64 = 1000000;
+
     pub(crate) const FLOOR: u64 = 1500;
 }
 
@@ -33,6 +33,7 @@ pub(crate) struct Resecuritisation {}
 
 impl Resecuritisation {
     pub(crate) const PARAMETER: u64 = 1500000;
+
     pub(crate) const FLOOR: u64 = 10000;
 }
 

@@ -11,7 +11,7 @@ use Rattle.formula.specs.Fraction.{Fraction, over, dividedBy, whole, AtM
 use Rattle.formula.specs.Formula.{factorial, low, up, WholePart, DecayEntry}
 use Rattle.formula.specs.FixedPoint.{entry}
 use Rattle.formula.proofs.Numbers.{le-or-lt}
-use Rattle.formula.proofs.Table.{at-each}
+use Rattle.numbers.proofs.Table.{at-each}
 use Rattle.formula.proofs.SeriesLaws.{low-top-pos, up-bottom-pos, low-at-most-up}
 use Rattle.formula.proofs.DecayBounds.{NotAbove, NotBelow, not-above-by-up}
 use Rattle.formula.proofs.StepBounds.{entry-zero}

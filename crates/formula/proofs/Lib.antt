@@ -1,5 +1,4 @@
 pub mod Numbers
-pub mod Table
 pub mod FractionLaws
 pub mod SeriesLaws
 pub mod Convolution

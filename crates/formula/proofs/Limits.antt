@@ -6,7 +6,7 @@ use lib.Dec.{T, leb, ltb, leb→le, ltb→lt}
 use borrow.Author.Tests.{le-leb, lt-ltb}
 use Rattle.formula.specs.Formula.{WithinLimits}
 use Rattle.formula.specs.FixedPoint.{withinLimits}
-use Rattle.formula.proofs.Table.{and-both}
+use Rattle.numbers.proofs.Tests.{and-both}
 
 module _ (A D K p : ℕ) where
   pub limits-of-test : withinLimits A D K p ≡ true → WithinLimits A D K p

@@ -2,7 +2,7 @@
 use mathlib.Core.Logic.{_⊎_, inl, inr, ⊎-elim}
 use mathlib.Core.Path.{_≡_, _∙_, ap, sym}
 use Prim.Native.Nat.{ℕ, _+_, _*_, _-_, _/_, _%_, min, _≤_, _<_}
-use native.Mathlib.Nat.{eq-zero-or-pos, min-eq-left, min-eq-right, le-trans, le-of-lt, mul-le-mul-left, div-mul-le-self, lt-div-mul-add, div-add-mod', mul-add-div-right}
+use native.Mathlib.Nat.{eq-zero-or-pos, min-eq-left, min-eq-right, le-trans, le-of-lt, mul-le-mul-left, div-mul-le-self, div-add-mod', mul-add-div-right}
 use native.Mathlib.Omega.{arith}
 
 pub le-or-lt : (a b : ℕ) → (a ≤ b) ⊎ (b < a)
@@ -20,14 +20,6 @@ at-min P a b p q =
 pub at-difference : (P : ℕ → Type 0) (h d : ℕ) → P 0 → ((g : ℕ) → g + d ≡ h → P g) → P (h - d)
 at-difference P h d none some =
     ⊎-elim (λ e. rw e none) (λ l. some (h - d) (omega arith)) (eq-zero-or-pos (h - d))
-
--- a quotient rounded up, by adding the divisor less 1
-module _ (n d : ℕ) (d-pos : 0 < d) where
-  pub ceiling-at-least : n ≤ (n + (d - 1)) / d * d
-  ceiling-at-least = omega (arith, lt-div-mul-add {a = n + (d - 1)} d-pos)
-
-  pub ceiling-below : (n + (d - 1)) / d * d < n + d
-  ceiling-below = omega (arith, div-mul-le-self (n + (d - 1)) d)
 
 -- a × s × s over b, by a digit to the base s and then by one of the rest
 pub long-division : (a b s : ℕ) → 0 < b → a * s / b * s + a * s % b * s / b ≡ a * (s * s) / b

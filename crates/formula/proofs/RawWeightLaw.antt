@@ -6,11 +6,11 @@ use Prim.Native.Nat.{ℕ, suc, _+_, _*_, _-_, _^_, max, _≤_, _<_}
 use native.Mathlib.Nat.{mul-pos, mul-le-mul-left, div-mul-le-self, lt-div-mul-add, lt-of-mul-lt-mul-right, le-of-suc-le-suc, ne-of-gt}
 use native.Mathlib.Omega.{arith}
 use borrow.Author.Tests.{le-leb, lt-leb, eq-eqb, ne-eqb}
+use Rattle.numbers.proofs.RoundingLaws.{rounded-up-at-least, rounded-up-below}
 use Rattle.formula.specs.Fraction.{Fraction, over}
 use Rattle.formula.specs.Formula.{low, up, Passes, WithinLimits, IsRawWeight}
 use Rattle.formula.specs.FixedPoint.{productDistance, productAbove, units, formulaWeight, withinLimits, rawWeight}
 use Rattle.formula.specs.declared.RawWeight.the-variants.{Weight, NoThickness, OutsideLimits}
-use Rattle.formula.proofs.Numbers.{ceiling-at-least, ceiling-below}
 use Rattle.formula.proofs.Limits.{limits-of-test, test-of-limits}
 use Rattle.formula.proofs.SeriesLaws.{low-top-pos, up-top-pos}
 use Rattle.formula.proofs.DecayBounds.{not-above-smaller, not-below-larger}
@@ -84,11 +84,11 @@ module _ (A D K p : ℕ) (K-pos : 0 < K) (p-pos : 0 < p) (above : K < D) (thick 
   -- the numerator of the weight, rounded up over the thickness
   rounded-up : 125000 * ((K - A) * 2 ^ 27 + v * product) ≤ w * ((D - A) * 2 ^ 27)
   unfolding formulaWeight
-  rounded-up = omega (arith, ceiling-at-least (125000 * ((K - A) * 2 ^ 27 + v * product)) ((D - A) * 2 ^ 27) (omega arith))
+  rounded-up = omega (arith, rounded-up-at-least (125000 * ((K - A) * 2 ^ 27 + v * product)) ((D - A) * 2 ^ 27) (omega arith))
 
   rounded-close : w * ((D - A) * 2 ^ 27) < 125000 * ((K - A) * 2 ^ 27 + v * product) + (D - A) * 2 ^ 27
   unfolding formulaWeight
-  rounded-close = omega (arith, ceiling-below (125000 * ((K - A) * 2 ^ 27 + v * product)) ((D - A) * 2 ^ 27) (omega arith))
+  rounded-close = omega (arith, rounded-up-below (125000 * ((K - A) * 2 ^ 27 + v * product)) ((D - A) * 2 ^ 27) (omega arith))
 
   -- productDistance × 125,000 is below 2^27
   near : w * ((D - A) * 2 ^ 27) < 125000 * ((K - A) * 2 ^ 27 + v * (product - productDistance)) + 2 * ((D - A) * 2 ^ 27)

@@ -8,7 +8,7 @@ use Rattle.formula.specs.Fraction.{Fraction, over, AtMost}
 use Rattle.formula.specs.Formula.{low, factorial}
 use Rattle.formula.specs.FixedPoint.{entry, fineDecay, decayBelow, decayAbove, meanDecayAbove, productAbove}
 use Rattle.formula.proofs.SeriesLaws.{low-at-least-one, low-bottom-pos, low-grows}
-use Rattle.formula.proofs.Table.{at-each}
+use Rattle.numbers.proofs.Table.{at-each}
 
 -- ---- the tables' entries
 

@@ -4,6 +4,7 @@
 use mathlib.Core.Bool.{Bool, cond, _&&_}
 use Prim.Native.Nat.{ℕ, _+_, _*_, _-_, _/_, _%_, _^_, min, max}
 use lib.Dec.{leb, ltb, eqb}
+use Rattle.numbers.specs.Rounding.{roundedUp}
 use Rattle.formula.specs.Fraction.{over}
 use Rattle.formula.specs.Formula.{low}
 use Rattle.formula.specs.declared.RawWeight.{RawWeight}
@@ -62,7 +63,7 @@ unfoldable pub formulaWeight : ℕ → ℕ → ℕ → ℕ → ℕ
 formulaWeight A D K p =
     let v = D - max A K in
     let product = productAbove (units ((A - K) * 1000000) (p * K)) (units (v * 1000000) (p * K)) in
-    (125000 * ((K - A) * 2 ^ 27 + v * product) + ((D - A) * 2 ^ 27 - 1)) / ((D - A) * 2 ^ 27)
+    roundedUp (125000 * ((K - A) * 2 ^ 27 + v * product)) ((D - A) * 2 ^ 27)
 
 -- whether the inputs are within the limits of Formula.antt
 abbrev pub withinLimits : ℕ → ℕ → ℕ → ℕ → Bool

@@ -1,10 +1,14 @@
 ghost use mathlib.Core.Path.{_≡_};
-ghost use Prim.Native.Nat.{_+_, _*_, _-_, _^_, _/_, _≤_, _<_, min, max};
+ghost use Prim.Native.Nat.{_^_, _≤_, _<_};
 ghost use Rattle.formula.specs.Formula.{DecayEntry, IsRawWeight};
 ghost use Rattle.formula.specs.FixedPoint.{entry, fineDecay, decayBelow, decayAbove, meanDecayAbove, productAbove, units, formulaWeight, withinLimits, rawWeight};
 
 mod tables;
 
+use numbers::excess;
+use numbers::larger;
+use numbers::rounded_up;
+use numbers::smaller;
 use tables::DECAY;
 use tables::FINE_DECAY;
 
@@ -63,20 +67,6 @@ fn decay_below(x: u64) -> u64
     decay_entry(x / STEP) * fine / ONE
 }
 
-// The smaller of two numbers.
-fn smaller(a: u64, b: u64) -> u64
-    ensures { λ r. ⌜ r ≡ min a b ⌝ }
-{
-    if a < b { a } else { b }
-}
-
-// The larger of two numbers.
-fn larger(a: u64, b: u64) -> u64
-    ensures { λ r. ⌜ r ≡ max a b ⌝ }
-{
-    if a < b { b } else { a }
-}
-
 // e^(−x) from above: decay_below with what it may be short of added back, and at most 1.
 fn decay_above(x: u64) -> u64
     ensures { λ r. ⌜ r ≡ decayAbove x ⌝ }
@@ -111,21 +101,6 @@ fn product_above(l: u64, x: u64) -> u64
     ensures { λ r. ⌜ r ≡ productAbove l x ⌝ }
 {
     (decay_above(l) * mean_decay_above(x) + (ONE - 1)) / ONE
-}
-
-// What a has above b: max(a − b, 0).
-fn excess(a: u64, b: u64) -> u64
-    ensures { λ r. ⌜ r ≡ a - b ⌝ }
-{
-    if a < b { 0 } else { a - b }
-}
-
-// x / y, rounded up, so that a weight is never too low.
-fn rounded_up(x: u64, y: u64) -> u64
-    requires { ⌜ (0 < y) × (x + y ≤ 2 ^ 64) ⌝ }
-    ensures { λ r. ⌜ r ≡ (x + (y - 1)) / y ⌝ }
-{
-    (x + (y - 1)) / y
 }
 
 // The formula's weight, 125,000 × (max(k − a, 0) + v × product) / (d − a), rounded up, where v is the tranche's part above both a

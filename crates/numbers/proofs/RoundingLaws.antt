@@ -24,8 +24,8 @@ rounded-up-at-most x y m h =
     ⊎-elim
     (λ e. rw e (omega (arith, rounded-up-by-zero x)))
     (λ pos.
-      let below : roundedUp x y < m + 1 = lt-of-mul-lt-mul-right y (omega (arith, rounded-up-below x y pos)) in
-      omega arith)
+    let below : roundedUp x y < m + 1 = lt-of-mul-lt-mul-right y (omega (arith, rounded-up-below x y pos)) in
+    omega arith)
     (eq-zero-or-pos y)
 
 pub rounded-up-monotone : (x z y : ℕ) → x ≤ z → roundedUp x y ≤ roundedUp z y

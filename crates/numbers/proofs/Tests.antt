@@ -26,11 +26,11 @@ pub same-leb : (a b m n : ℕ) → (a ≤ b → m ≤ n) → (m ≤ n → a ≤ 
 same-leb a b m n forth back =
     ⊎-elim
     (λ e.
-      let h : m ≤ n = omega arith in
-      le-leb a b (back h) ∙ sym (le-leb m n h))
+    let h : m ≤ n = omega arith in
+    le-leb a b (back h) ∙ sym (le-leb m n h))
     (λ pos.
-      let h : n < m = omega arith in
-      lt-leb a b (lt-of-not-le (λ k. not-le-of-lt h (forth k))) ∙ sym (lt-leb m n h))
+    let h : n < m = omega arith in
+    lt-leb a b (lt-of-not-le (λ k. not-le-of-lt h (forth k))) ∙ sym (lt-leb m n h))
     (eq-zero-or-pos (m - n))
 
 -- what holds of each of two numbers where it is picked holds of the picked one

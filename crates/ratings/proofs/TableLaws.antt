@@ -1,5 +1,5 @@
--- Laws of the rating table and of the weight by ratings, over any table whose figures pass a computed test: bounds, the maturities of one and
--- of five years, a non-senior tranche beside a senior one, and the highest of three. No axioms.
+-- Laws of the weight by ratings over any rating table, and the computed tests of a table's figures that the bounds rest on: bounds, the
+-- maturities of one and of five years, a non-senior tranche beside a senior one, and the highest of three. No axioms.
 use mathlib.Core.Bool.{Bool, true, false}
 use mathlib.Core.List.{List, []}
 use mathlib.Core.Logic.{_⊎_, inl, inr, ⊎-elim}
@@ -13,7 +13,7 @@ use borrow.Author.Tests.{le-leb, leb-true}
 use Rattle.numbers.proofs.RoundingLaws.{rounded-up-at-most, rounded-up-monotone, rounded-up-exact}
 use Rattle.numbers.proofs.Table.{allBelow, at-each}
 use Rattle.numbers.proofs.Tests.{at-cond, cond-le, both-true, neither-true}
-use Rattle.ratings.specs.RatingTable.{ratingTable, figure, shortTermFigures, longTerm, shortTerm, present, maturityFifths, linear, longTermExact, shortTermExact, exactParts, exactWeight, weightByRating, pick, weightByRatings}
+use Rattle.ratings.specs.RatingTable.{ratingTable, figure, shortTermFigures, longTerm, shortTerm, present, maturityFifths, linear, longTermExact, exactParts, exactWeight, weightByRating, pick, weightByRatings}
 
 -- ---- the figures
 
@@ -85,7 +85,7 @@ linear-at-most limit one five fifths p q least most =
     let parts : 300 - fifths + (fifths - 60) ≡ 240 = omega arith in
     omega (arith, mul-le-mul-right (300 - fifths) p, mul-le-mul-right (fifths - 60) q, ap (λ (x : ℕ). limit * x) parts)
 
--- a product of the larger of two numbers, each of which is at most the limit in its own factor
+-- the larger of the non-senior and the senior figure, each in millionths of 240 times a percentage of at most 1250
 long-term-parts : (n s share : ℕ) → n ≤ 300000 → s ≤ 300000 → share ≤ 1000000 → max (n * share) (s * 1000000) ≤ 300000000000
 long-term-parts n s share p q h = omega (arith, mul-le-mul p h)
 
@@ -109,9 +109,9 @@ module _ (table : List (List ℕ)) (t : T (figuresAtMost 1250 table)) where
       omega (
         arith,
         long-term-parts _ _ (1000000 - min thickness 500000)
-        (linear-figures-at-most grade 2 fifths least most (omega arith) from to)
-        (linear-figures-at-most grade 0 fifths least most (omega arith) from to)
-        (omega arith),
+            (linear-figures-at-most grade 2 fifths least most (omega arith) from to)
+            (linear-figures-at-most grade 0 fifths least most (omega arith) from to)
+            (omega arith),
       )
 
   pub exact-weight-at-most :
@@ -120,13 +120,13 @@ module _ (table : List (List ℕ)) (t : T (figuresAtMost 1250 table)) where
   exact-weight-at-most code senior months thickness =
       at-cond (λ w. w ≤ 125000 * exactParts) (longTerm code) _ _
       (λ e.
-        let within = long-term-within code e in
-        let fifths = maturity-within months in
-        long-term-exact-at-most code senior (maturityFifths months) thickness (within .0) (within .1) (fifths .0) (fifths .1))
+      let within = long-term-within code e in
+      let fifths = maturity-within months in
+      long-term-exact-at-most code senior (maturityFifths months) thickness (within .0) (within .1) (fifths .0) (fifths .1))
       (λ _.
-        at-cond (λ w. w ≤ 125000 * exactParts) (shortTerm code) _ _
-        (λ e. omega (arith, short-term-figure-at-most code (short-term-within code e .1)))
-        (λ _. omega arith))
+      at-cond (λ w. w ≤ 125000 * exactParts) (shortTerm code) _ _
+      (λ e. omega (arith, short-term-figure-at-most code (short-term-within code e .1)))
+      (λ _. omega arith))
 
   pub weight-by-rating-at-most :
       (code : ℕ) (senior : Bool) (months thickness : ℕ) → weightByRating table code senior months thickness ≤ 125000
@@ -144,14 +144,6 @@ module _ (table : List (List ℕ)) (t : T (figuresAtMost 1250 table)) where
       (max-le (weight-by-rating-at-most second senior months thickness) (weight-by-rating-at-most third senior months thickness))
 
 -- ---- the weight by one rating
-
--- the highest of three numbers is one of them
-pick-one : (a b c : ℕ) → (pick a b c ≡ a) ⊎ ((pick a b c ≡ b) ⊎ (pick a b c ≡ c))
-pick-one a b c =
-    ⊎-elim
-    (λ e. inl (omega arith))
-    (λ l. inr (⊎-elim (λ e. inl (omega arith)) (λ m. inr (omega arith)) (eq-zero-or-pos (c - b))))
-    (eq-zero-or-pos (max b c - a))
 
 module _ (table : List (List ℕ)) where
   -- an exact weight that is a whole number needs no rounding
@@ -193,8 +185,17 @@ module _ (table : List (List ℕ)) where
       rounded-up-monotone (exactWeight table code true months thickness) (exactWeight table code false months thickness) exactParts
       (cond-le (longTerm code) _ _ _ _ (omega arith) (le-refl _))
 
-  -- ---- the weight by three ratings
+-- ---- the weight by three ratings
 
+-- the highest of three numbers is one of them
+pick-one : (a b c : ℕ) → (pick a b c ≡ a) ⊎ ((pick a b c ≡ b) ⊎ (pick a b c ≡ c))
+pick-one a b c =
+    ⊎-elim
+    (λ e. inl (omega arith))
+    (λ l. inr (⊎-elim (λ e. inl (omega arith)) (λ m. inr (omega arith)) (eq-zero-or-pos (c - b))))
+    (eq-zero-or-pos (max b c - a))
+
+module _ (table : List (List ℕ)) where
   pub each-rating-counts :
       (first second third : ℕ) (senior : Bool) (months thickness : ℕ) →
       let w = weightByRatings table first second third senior months thickness in

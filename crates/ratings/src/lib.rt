@@ -11,8 +11,10 @@ use numbers::smaller;
 use table::FIGURES;
 use table::SHORT_TERM;
 
-// 1 in the units of a thickness, millionths, and one half.
+// 1 in the units of a thickness, millionths.
 const MILLION: u64 = 1000000;
+
+// One half in the same units: more of a thickness lowers no weight.
 const HALF: u64 = 500000;
 
 // The divisor of exact weights: 240 fifths of a month times a million.

@@ -7,7 +7,7 @@ use mathlib.Core.Path.{_≡_, sym, subst}
 use Prim.Native.Nat.{ℕ}
 use Rattle.formula.specs.Formula.{low, factorial, DecayEntry}
 use Rattle.formula.specs.FixedPoint.{entry}
-use Rattle.formula.proofs.Table.{entry-is}
+use Rattle.numbers.proofs.Table.{entry-is}
 use Rattle.formula.proofs.StepBounds.{entry-zero}
 use Rattle.formula.proofs.Entries.{whole-part}
 use Rattle.formula.proofs.decay_entry.Statement.{statement}

@@ -3,7 +3,7 @@ use borrow.Author.Needs.{needs}
 use borrow.Table.Row.{get}
 use Rattle.formula.specs.Formula.{low, factorial}
 use Rattle.formula.specs.FixedPoint.{entry}
-use Rattle.formula.proofs.Table.{entry-is}
+use Rattle.numbers.proofs.Table.{entry-is}
 use Rattle.formula.proofs.fine_entry.Statement.{statement}
 use Rattle.formula.proofs.fine_entry.Tie as tie
 use Rattle.formula.proofs.fine_entry.Reads as reads

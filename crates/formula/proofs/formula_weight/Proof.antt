@@ -73,7 +73,7 @@ mul-rounded-up-4 : tie.Need-mul-rounded-up-4
 mul-rounded-up-4 c = search needs
 
 rounded-up-requires : tie.Need-rounded-up-requires
-rounded-up-requires c κs = omega (arith, sum c)
+rounded-up-requires c κs = search needs
 
 returns : tie.Need-returns
 unfolding formulaWeight

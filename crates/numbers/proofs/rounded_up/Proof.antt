@@ -1,15 +1,13 @@
 -- `rounded_up`: quotient × y is at most x and above x − y, so the quotient is the rounded one where it divides x, and one more is elsewhere.
 -- No axioms.
 use mathlib.Core.Path.{_≡_}
-use Prim.Native.Nat.{ℕ, _+_, _*_, _/_, _≤_, _<_}
+use Prim.Native.Nat.{_+_, _/_}
 use native.Mathlib.Nat.{div-mul-le-self, lt-div-mul-add, le-mul-of-pos-right}
 use native.Mathlib.Omega.{arith}
 use borrow.Author.Needs.{needs}
 use Rattle.numbers.proofs.RoundingLaws.{rounded-up-is, rounded-up-by-zero}
 use Rattle.numbers.proofs.rounded_up.Statement.{statement}
 use Rattle.numbers.proofs.rounded_up.Tie as tie
-use Rattle.numbers.proofs.rounded_up.Reads as reads
-use Rattle.numbers.proofs.rounded_up.Lts as lts
 
 returns : tie.Need-returns
 returns c =
@@ -38,8 +36,8 @@ returns-3 c =
     omega (
       arith,
       rounded-up-is (a .x) (a .y) (a .x / a .y + 1) (omega arith)
-      (omega (arith, lt-div-mul-add {a = a .x} {b = a .y} (omega arith)))
-      (omega (arith, div-mul-le-self (a .x) (a .y))),
+          (omega (arith, lt-div-mul-add {a = a .x} {b = a .y} (omega arith)))
+          (omega (arith, div-mul-le-self (a .x) (a .y))),
     )
 
 pub rounded-up-spec : {M : Type 1} → statement M

@@ -7,13 +7,6 @@ use Rattle.ratings.specs.RatingTable.{longTerm, shortTerm, exactWeight}
 use Rattle.ratings.proofs.TableLaws.{long-term-within, short-term-within}
 use Rattle.ratings.proofs.exact_weight.Statement.{statement}
 use Rattle.ratings.proofs.exact_weight.Tie as tie
-use Rattle.ratings.proofs.exact_weight.Reads as reads
-use Rattle.ratings.proofs.exact_weight.Lts as lts
-use Rattle.ratings.proofs.long_term.Reads as long-term-reads
-use Rattle.ratings.proofs.long_term_exact.Reads as long-term-exact-reads
-use Rattle.ratings.proofs.maturity_fifths.Reads as maturity-fifths-reads
-use Rattle.ratings.proofs.short_term.Reads as short-term-reads
-use Rattle.ratings.proofs.short_term_exact.Reads as short-term-exact-reads
 
 is-long-term : (c : tie.Then1) → longTerm (c .before .before .args .code) ≡ true
 is-long-term c = sym (c .before .long-term .ensures) ∙ c .if1 .taken

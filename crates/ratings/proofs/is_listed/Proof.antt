@@ -4,8 +4,6 @@ use borrow.Author.Needs.{needs}
 use borrow.Author.Tests.{eq-eqb, ne-eqb}
 use Rattle.ratings.proofs.is_listed.Statement.{statement}
 use Rattle.ratings.proofs.is_listed.Tie as tie
-use Rattle.ratings.proofs.is_listed.Reads as reads
-use Rattle.ratings.proofs.is_listed.Lts as lts
 
 returns : tie.Need-returns
 returns c = simp (eq-eqb (c .before .args .code) 0 (omega arith))

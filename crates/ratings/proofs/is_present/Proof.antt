@@ -2,8 +2,6 @@
 use borrow.Author.Needs.{needs}
 use Rattle.ratings.proofs.is_present.Statement.{statement}
 use Rattle.ratings.proofs.is_present.Tie as tie
-use Rattle.ratings.proofs.is_present.Reads as reads
-use Rattle.ratings.proofs.is_present.Lts as lts
 
 long-term-requires : tie.Need-long-term-requires
 long-term-requires c κs = search needs

@@ -6,9 +6,6 @@ use borrow.Author.Needs.{needs}
 use Rattle.ratings.proofs.TableLaws.{rating-table-at-most}
 use Rattle.ratings.proofs.linear_percent.Statement.{statement}
 use Rattle.ratings.proofs.linear_percent.Tie as tie
-use Rattle.ratings.proofs.linear_percent.Reads as reads
-use Rattle.ratings.proofs.linear_percent.Lts as lts
-use Rattle.ratings.proofs.table_figure.Reads as table-figure-reads
 
 one-year : (c : tie.After-table-figure) → c .table-figure .result ≤ 1250
 one-year c =

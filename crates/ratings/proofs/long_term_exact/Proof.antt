@@ -8,11 +8,6 @@ use Rattle.ratings.specs.RatingTable.{ratingTable}
 use Rattle.ratings.proofs.TableLaws.{linear-figures-at-most}
 use Rattle.ratings.proofs.long_term_exact.Statement.{statement}
 use Rattle.ratings.proofs.long_term_exact.Tie as tie
-use Rattle.ratings.proofs.long_term_exact.Reads as reads
-use Rattle.ratings.proofs.long_term_exact.Lts as lts
-use Rattle.numbers.proofs.larger.Reads as larger-reads
-use Rattle.numbers.proofs.smaller.Reads as smaller-reads
-use Rattle.ratings.proofs.linear_percent.Reads as linear-percent-reads
 
 senior-percent : (c : tie.After-linear-percent) → c .linear-percent .result ≤ 300000
 senior-percent c =
@@ -67,11 +62,11 @@ returns-2 c =
     let x = split .before .before .args in
     let half : c .before .before .smaller .result ≡ min (x .thickness) 500000 = omega arith in
     let picked :
-        c .larger .result ≡
-        max
-        (c .before .linear-percent2 .result * (1000000 - c .before .before .smaller .result))
-        (split .before .linear-percent .result * 1000000) =
-        omega arith in
+    c .larger .result ≡
+    max
+    (c .before .linear-percent2 .result * (1000000 - c .before .before .smaller .result))
+    (split .before .linear-percent .result * 1000000) =
+    omega arith in
     simp (picked, half, c .before .linear-percent2 .ensures, split .before .linear-percent .ensures, split .if1 .left)
 
 pub long-term-exact-spec : {M : Type 1} → statement M

@@ -4,8 +4,6 @@ use borrow.Author.Tests.{le-leb, lt-leb}
 use Rattle.numbers.proofs.Tests.{same-leb}
 use Rattle.ratings.proofs.short_term.Statement.{statement}
 use Rattle.ratings.proofs.short_term.Tie as tie
-use Rattle.ratings.proofs.short_term.Reads as reads
-use Rattle.ratings.proofs.short_term.Lts as lts
 
 returns : tie.Need-returns
 returns c = simp (lt-leb 21 (c .before .args .code) (omega arith))

@@ -3,8 +3,6 @@ use borrow.Author.Needs.{needs}
 use Rattle.ratings.specs.RatingTable.{weightByRating}
 use Rattle.ratings.proofs.weight_by_rating.Statement.{statement}
 use Rattle.ratings.proofs.weight_by_rating.Tie as tie
-use Rattle.ratings.proofs.weight_by_rating.Reads as reads
-use Rattle.ratings.proofs.weight_by_rating.Lts as lts
 
 exact-weight-requires : tie.Need-exact-weight-requires
 exact-weight-requires c κs = search needs

@@ -4,8 +4,6 @@ use borrow.Author.Needs.{needs}
 use Rattle.ratings.specs.RatingTable.{weightByRatings}
 use Rattle.ratings.proofs.weight_by_ratings.Statement.{statement}
 use Rattle.ratings.proofs.weight_by_ratings.Tie as tie
-use Rattle.ratings.proofs.weight_by_ratings.Reads as reads
-use Rattle.ratings.proofs.weight_by_ratings.Lts as lts
 
 weight-by-rating-requires : tie.Need-weight-by-rating-requires
 weight-by-rating-requires c κs = search needs

@@ -1,0 +1,135 @@
+-- Demand 3 of the line of every accepted SEC-SA tranche with K at least 1 and D above K, and the weight in the cases that 01 gives in closed form. No
+-- accepted tranche is too thin for the formula, and its inputs are within the limits for which the formula is computed. No axioms.
+use mathlib.Core.Bool.{Bool, true, false}
+use mathlib.Core.List.{List}
+use mathlib.Core.Logic.{⊎-elim}
+use mathlib.Core.Path.{_≡_, sym, _∙_, ap}
+use Prim.Native.Nat.{ℕ, _-_, _≤_, _<_}
+use native.Mathlib.Nat.{eq-zero-or-pos}
+use native.Mathlib.Omega.{arith}
+use borrow.Author.Tests.{eq-eqb, lt-ltb}
+use Rattle.formula.specs.Formula.{WithinLimits, PassingWeight, IsRawWeight}
+use Rattle.formula.specs.FixedPoint.{rawWeight}
+use Rattle.formula.specs.declared.RawWeight.{RawWeight}
+use Rattle.formula.specs.declared.RawWeight.the-variants.{Weight}
+use Rattle.formula.proofs.RawWeightLaw.{raw-weight-is}
+use Rattle.deal.specs.DealSheet.{resecuritisation, trancheCount, needed}
+use Rattle.deal.specs.PointsAndCharge.{attachmentPoint, detachmentPoint}
+use Rattle.deal.specs.ApproachFloorCap.{terms, tranche, approach, parameter, afterFloorAndCap, numberOf, formulaRawWeight, weight, thin}
+use Rattle.deal.specs.DemandThree.{DemandThree}
+use Rattle.deal.specs.Refusals.{judged, verdict}
+use Rattle.deal.specs.declared.Terms.{Terms}
+use Rattle.deal.specs.declared.Tranche.{Tranche}
+use Rattle.deal.specs.declared.Verdict.the-variants.{Sound}
+use Rattle.deal.proofs.PointLaws.{attachment-at-most-detachment, detachment-at-most-million}
+use Rattle.deal.proofs.PoolLaws.{charge-at-most-million}
+use Rattle.deal.proofs.JudgedLaws.{accepted-means, accepted-judged}
+use Rattle.deal.proofs.WeightLaws.{formula-weight}
+
+-- ---- no accepted tranche is too thin
+
+thin-where :
+    (t : Tranche) (d : Terms) → approach t d ≡ 2 → t .attachment ≡ t .detachment → d .charge < t .detachment → thin t d ≡ true
+unfolding thin
+thin-where t d by same above =
+    simp (by, eq-eqb (t .attachment) (t .detachment) same, lt-ltb (d .charge) (t .detachment) above)
+
+-- where SEC-SA applies and D is above the pool charge, A is below D
+pub attachment-below-detachment :
+    (s : List ℕ) (room i : ℕ) → verdict s room ≡ Sound → i < trancheCount s → approach (tranche s i) (terms s) ≡ 2 →
+    terms s .charge < detachmentPoint s i → attachmentPoint s i < detachmentPoint s i
+unfolding tranche
+attachment-below-detachment s room i accepted row by above =
+    ⊎-elim
+    (λ e.
+    let same : attachmentPoint s i ≡ detachmentPoint s i = omega (arith, attachment-at-most-detachment s i) in
+    let clash : true ≡ false =
+    sym (thin-where (tranche s i) (terms s) by same above) ∙ accepted-means s room accepted .none-thin i row in
+    absurd (let z : _≡_ {A = ℕ} 0 1 = cc in omega arith))
+    (λ pos. omega arith)
+    (eq-zero-or-pos (detachmentPoint s i - attachmentPoint s i))
+
+-- ---- the raw weight of an accepted tranche
+
+parameter-within : (resecuritised : Bool) → (300000 ≤ parameter resecuritised) × (parameter resecuritised < 5000000)
+parameter-within true = (omega arith, omega arith)
+parameter-within false = (omega arith, omega arith)
+
+pub within-limits :
+    (s : List ℕ) (i : ℕ) → judged s (needed s) ≡ Sound →
+    WithinLimits (attachmentPoint s i) (detachmentPoint s i) (terms s .charge) (parameter (resecuritisation s))
+within-limits s i e = record {
+  attachment = omega (arith, attachment-at-most-detachment s i, detachment-at-most-million s i);
+  detachment = detachment-at-most-million s i;
+  charge = charge-at-most-million s e;
+  parameter-least = parameter-within (resecuritisation s) .0;
+  parameter-most = parameter-within (resecuritisation s) .1;
+}
+
+-- the raw weight that a tranche of the sheet gets
+abbrev pub rawWeightOf : List ℕ → ℕ → RawWeight
+rawWeightOf s i = rawWeight (attachmentPoint s i) (detachmentPoint s i) (terms s .charge) (parameter (resecuritisation s))
+
+raw-weight-number : (s : List ℕ) (i w : ℕ) → rawWeightOf s i ≡ Weight w → formulaRawWeight (tranche s i) (terms s) ≡ w
+unfolding formulaRawWeight tranche terms
+raw-weight-number s i w e = ap numberOf e
+
+-- where SEC-SA applies and the raw weight is a number, the weight is that number after floor and cap
+weighs-raw :
+    (s : List ℕ) (i w : ℕ) → approach (tranche s i) (terms s) ≡ 2 → rawWeightOf s i ≡ Weight w →
+    weight (tranche s i) (terms s) ≡ afterFloorAndCap (tranche s i) (terms s) w
+weighs-raw s i w by e =
+    formula-weight (tranche s i) (terms s) by ∙
+    ap (λ (x : ℕ). afterFloorAndCap (tranche s i) (terms s) x) (raw-weight-number s i w e)
+
+-- ---- an accepted SEC-SA tranche
+
+module _ (s : List ℕ) (room i : ℕ) (accepted : verdict s room ≡ Sound) where
+  limits : WithinLimits (attachmentPoint s i) (detachmentPoint s i) (terms s .charge) (parameter (resecuritisation s))
+  limits = within-limits s i (accepted-judged s room accepted)
+
+  is-raw-weight : IsRawWeight (attachmentPoint s i) (detachmentPoint s i) (terms s .charge) (parameter (resecuritisation s)) (rawWeightOf s i)
+  is-raw-weight = raw-weight-is (attachmentPoint s i) (detachmentPoint s i) (terms s .charge) (parameter (resecuritisation s))
+
+  -- "the raw weight is 125,000 if D ≤ K"
+  pub within-charge :
+      approach (tranche s i) (terms s) ≡ 2 → detachmentPoint s i ≤ terms s .charge →
+      weight (tranche s i) (terms s) ≡ afterFloorAndCap (tranche s i) (terms s) 125000
+  within-charge by h = weighs-raw s i 125000 by (is-raw-weight .within-charge limits h)
+
+  -- "0 if K = 0"
+  pub charge-zero :
+      approach (tranche s i) (terms s) ≡ 2 → terms s .charge ≡ 0 → 0 < detachmentPoint s i →
+      weight (tranche s i) (terms s) ≡ afterFloorAndCap (tranche s i) (terms s) 0
+  charge-zero by none h = weighs-raw s i 0 by (is-raw-weight .charge-zero limits (omega arith) none)
+
+module _ (s : List ℕ) (room i : ℕ) (accepted : verdict s room ≡ Sound) (row : i < trancheCount s) (by : approach (tranche s i) (terms s) ≡ 2) where
+  passing :
+      1 ≤ terms s .charge → terms s .charge < detachmentPoint s i →
+      PassingWeight (attachmentPoint s i) (detachmentPoint s i) (terms s .charge) (parameter (resecuritisation s)) (rawWeightOf s i)
+  passing one above =
+      is-raw-weight s room i accepted .formula (limits s room i accepted) above one
+      (attachment-below-detachment s room i accepted row by above)
+
+  -- Demand 3.
+  pub demand-three : 1 ≤ terms s .charge → terms s .charge < detachmentPoint s i → DemandThree s i
+  demand-three one above =
+      let w = passing one above in
+      record {
+        raw = w .weight;
+        passes = w .passes;
+        at-most = w .at-most;
+        weight-is = weighs-raw s i (w .weight) by (w .answered);
+      }
+
+  -- The raw weight is a number: an accepted tranche meets none of the cases that have none.
+  pub formula-weighs : (w : ℕ) × (rawWeightOf s i ≡ Weight w)
+  formula-weighs =
+      ⊎-elim
+      (λ e. (125000, is-raw-weight s room i accepted .within-charge (limits s room i accepted) (omega arith)))
+      (λ above.
+      ⊎-elim
+      (λ none. (0, is-raw-weight s room i accepted .charge-zero (limits s room i accepted) (omega arith) none))
+      (λ one. let w = passing one (omega arith) in (w .weight, w .answered))
+      (eq-zero-or-pos (terms s .charge)))
+      (eq-zero-or-pos (detachmentPoint s i - terms s .charge))

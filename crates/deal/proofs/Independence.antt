@@ -1,0 +1,88 @@
+-- A tranche's line depends on no other tranche's ratings: two accepted sheets that are the same but for those give it the same six words. No axioms.
+use mathlib.Core.List.{List}
+use mathlib.Core.Path.{_≡_, refl, sym, _∙_}
+use Prim.Native.Nat.{ℕ, _+_, _*_, _≤_, _<_}
+use native.Mathlib.Nat.{le-refl}
+use native.Mathlib.Omega.{arith}
+use lib.ListN.{length, getD}
+use Rattle.deal.specs.DealSheet.{word, rowAt, tranchesAt, trancheCount, trancheAt, needed}
+use Rattle.deal.specs.PointsAndCharge.{poolSums}
+use Rattle.deal.specs.ApproachFloorCap.{terms, tranche, lineWords}
+use Rattle.deal.specs.Refusals.{judged, verdict}
+use Rattle.deal.specs.Results.{resultsAfter}
+use Rattle.deal.specs.OtherRatings.{SameButOtherRatings}
+use Rattle.deal.specs.declared.Verdict.the-variants.{Sound}
+use Rattle.deal.proofs.Judgement.{tranches-at-past-rows}
+use Rattle.deal.proofs.SheetLimits.{accepted-to, pool-at-five}
+use Rattle.deal.proofs.JudgedLaws.{accepted-judged}
+use Rattle.deal.proofs.LineLaws.{results-line}
+use Rattle.deal.proofs.SameTerms.{SameCounts, same-counts, same-sums, same-terms, same-tranche}
+
+-- no rating stands before the tranches, or in the first four columns of a tranche, and none of another tranche stands in tranche i
+module _ (s s′ : List ℕ) (i : ℕ) (same : SameButOtherRatings s s′ i) where
+  same-head : (p : ℕ) → p ≤ tranchesAt s → word s′ p ≡ word s p
+  same-head p h = same .same-word p (λ r. omega arith)
+
+  same-plain : (j c : ℕ) → c < 4 → word s′ (trancheAt s j + c) ≡ word s (trancheAt s j + c)
+  same-plain j c h = same .same-word (trancheAt s j + c) (λ r. omega arith)
+
+  same-own : (c : ℕ) → c < 7 → word s′ (trancheAt s i + c) ≡ word s (trancheAt s i + c)
+  same-own c h =
+      same .same-word (trancheAt s i + c)
+      (λ r.
+      let row : r .row ≡ i = omega arith in
+      r .other row)
+
+  ratings-counts : SameCounts s s′
+  ratings-counts = same-counts s s′ (λ p h. same-head p (omega (arith, tranches-at-past-rows s))) (same-head (tranchesAt s) (le-refl _))
+
+  pub ratings-count : trancheCount s′ ≡ trancheCount s
+  ratings-count = ratings-counts .tranche-count
+
+  ratings-sums : poolSums s′ ≡ poolSums s
+  ratings-sums =
+      same-sums s s′ (λ j. j) (λ j. j) ratings-counts
+      (record { forth = λ j l. l; back = λ j l. l; back-forth = λ j l. refl; forth-back = λ j l. refl })
+      (λ j c row column. same-head (rowAt s j + c) (omega (arith, tranches-at-past-rows s)))
+
+  pub ratings-terms : judged s (needed s) ≡ Sound → terms s′ ≡ terms s
+  ratings-terms e =
+      let five = pool-at-five s (accepted-to s 1 (omega arith) e) in
+      same-terms s s′ ratings-sums
+      (same-head 2 (omega (arith, tranches-at-past-rows s)))
+      (same-head 3 (omega (arith, tranches-at-past-rows s)))
+      (same-head 4 (omega (arith, tranches-at-past-rows s)))
+
+  pub ratings-tranche : i < trancheCount s → tranche s′ i ≡ tranche s i
+  ratings-tranche l = same-tranche s s′ i ratings-counts ratings-sums l (λ j c row column. same-plain j c column) same-own
+
+-- ---- the theorem
+
+pub record SameLine (s s′ : List ℕ) (i room : ℕ) : Type 0 where
+  pub same-count : trancheCount s′ ≡ trancheCount s
+  pub same-terms : terms s′ ≡ terms s
+  pub same-line : lineWords (tranche s′ i) (terms s′) ≡ lineWords (tranche s i) (terms s)
+  pub same-results : (old : List ℕ) → length old ≡ room → (c : ℕ) → c < 6 →
+      getD (resultsAfter s′ old) (6 * i + c) 0 ≡ getD (resultsAfter s old) (6 * i + c) 0
+
+pub line-apart-from-other-ratings :
+    (s s′ : List ℕ) (i room : ℕ) → verdict s room ≡ Sound → verdict s′ room ≡ Sound → SameButOtherRatings s s′ i → i < trancheCount s →
+    SameLine s s′ i room
+line-apart-from-other-ratings s s′ i room e e′ same l =
+    record {
+      same-count = count;
+      same-terms = shared;
+      same-line = line;
+      same-results = λ old size c column.
+          results-line s′ old i c (rw size e′) (omega (arith, count)) column ∙
+          rw line (sym (results-line s old i c (rw size e) l column));
+    }
+  where
+    count : trancheCount s′ ≡ trancheCount s
+    count = ratings-count s s′ i same
+
+    shared : terms s′ ≡ terms s
+    shared = ratings-terms s s′ i same (accepted-judged s room e)
+
+    line : lineWords (tranche s′ i) (terms s′) ≡ lineWords (tranche s i) (terms s)
+    line = rw (ratings-tranche s s′ i same l, shared)

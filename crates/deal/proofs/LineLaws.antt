@@ -1,0 +1,95 @@
+-- Laws of the results: line i stands in the six words from 6 × i, the words after the lines are as they were, and so are all words on a refusal.
+-- No axioms.
+use mathlib.Core.List.{List, _++_}
+use mathlib.Core.Logic.{⊎-elim}
+use mathlib.Core.Path.{_≡_, refl, ap, _∙_}
+use Prim.Native.Nat.{ℕ, zero, suc, _+_, _*_, _-_, _≤_, _<_}
+use native.Mathlib.Nat.{eq-or-lt-of-le, le-of-suc-le-suc, le-step, lt-suc-self, not-suc-le-zero}
+use native.Mathlib.Omega.{arith}
+use lib.ListN.{length, getD, drop, length-append, length-drop, List·getD-append}
+use lib.Seq.{getD-append-add, getD-drop}
+use Rattle.deal.specs.DealSheet.{trancheCount}
+use Rattle.deal.specs.ApproachFloorCap.{terms, tranche, lineWords}
+use Rattle.deal.specs.Refusals.{verdict}
+use Rattle.deal.specs.Results.{lines, resultsFor, resultsAfter}
+use Rattle.deal.specs.declared.Refusal.{Refusal}
+use Rattle.deal.specs.declared.Terms.{Terms}
+use Rattle.deal.specs.declared.Tranche.{Tranche}
+use Rattle.deal.specs.declared.Verdict.{Verdict}
+use Rattle.deal.specs.declared.Verdict.the-variants.{Sound, Faulty}
+use Rattle.deal.proofs.JudgedLaws.{accepted-means}
+
+pub length-line : (t : Tranche) (d : Terms) → length (lineWords t d) ≡ 6
+unfolding lineWords
+length-line t d = refl
+
+pub length-lines : (s : List ℕ) (n : ℕ) → length (lines s n) ≡ 6 * n
+unfolding lines
+length-lines s zero = refl
+length-lines s (suc n) =
+    omega (arith, length-append (lines s n) (lineWords (tranche s n) (terms s)), length-lines s n, length-line (tranche s n) (terms s))
+
+pub lines-same :
+    (s s′ : List ℕ) (n : ℕ) → terms s′ ≡ terms s → ((i : ℕ) → i < n → tranche s′ i ≡ tranche s i) → lines s′ n ≡ lines s n
+unfolding lines
+lines-same s s′ zero shared alike = refl
+lines-same s s′ (suc n) shared alike =
+    rw (lines-same s s′ n shared (λ i l. alike i (le-step l)), alike n (lt-suc-self n), shared)
+
+-- the word at a place past a list's length in two lists joined
+getD-after : (xs ys : List ℕ) (p n : ℕ) → p ≡ length xs + n → getD (xs ++ ys) p 0 ≡ getD ys n 0
+getD-after xs ys p n e = rw e (getD-append-add xs ys n 0)
+
+pub line-at : (s : List ℕ) (n i c : ℕ) → i < n → c < 6 → getD (lines s n) (6 * i + c) 0 ≡ getD (lineWords (tranche s i) (terms s)) c 0
+unfolding lines
+line-at s zero i c l h = absurd (not-suc-le-zero l)
+line-at s (suc n) i c l h =
+    ⊎-elim
+    (λ e. rw e (getD-after (lines s n) (lineWords (tranche s n) (terms s)) (6 * n + c) c (omega (arith, length-lines s n))))
+    (λ below.
+    List·getD-append (lines s n) (lineWords (tranche s n) (terms s)) 0 (6 * i + c) (omega (arith, length-lines s n)) ∙
+    line-at s n i c below h)
+    (eq-or-lt-of-le (le-of-suc-le-suc l))
+
+pub results-accepted : (s old : List ℕ) → verdict s (length old) ≡ Sound → resultsAfter s old ≡ lines s (trancheCount s) ++ drop (6 * trancheCount s) old
+unfolding resultsAfter
+results-accepted s old e = rw e
+
+pub results-refused : (s old : List ℕ) (r : Refusal) → verdict s (length old) ≡ Faulty r → resultsAfter s old ≡ old
+unfolding resultsAfter
+results-refused s old r e = rw e
+
+pub results-line :
+    (s old : List ℕ) (i c : ℕ) → verdict s (length old) ≡ Sound → i < trancheCount s → c < 6 →
+    getD (resultsAfter s old) (6 * i + c) 0 ≡ getD (lineWords (tranche s i) (terms s)) c 0
+results-line s old i c e l h =
+    rw (results-accepted s old e)
+    (List·getD-append (lines s (trancheCount s)) (drop (6 * trancheCount s) old) 0 (6 * i + c) (omega (arith, length-lines s (trancheCount s))) ∙
+    line-at s (trancheCount s) i c l h)
+
+pub results-rest :
+    (s old : List ℕ) (p : ℕ) → verdict s (length old) ≡ Sound → 6 * trancheCount s ≤ p → getD (resultsAfter s old) p 0 ≡ getD old p 0
+results-rest s old p e l =
+    let n = 6 * trancheCount s in
+    let back : n + (p - n) ≡ p = omega arith in
+    rw (results-accepted s old e)
+    (getD-after (lines s (trancheCount s)) (drop n old) p (p - n) (omega (arith, length-lines s (trancheCount s))) ∙
+    getD-drop n old (p - n) 0 ∙
+    ap (λ (k : ℕ). getD old k 0) back)
+
+length-results-for :
+    (s old : List ℕ) (v : Verdict) → (v ≡ Sound → 6 * trancheCount s ≤ length old) → length (resultsFor s old v) ≡ length old
+length-results-for s old Sound room =
+    let enough = room refl in
+    omega (
+      arith,
+      length-append (lines s (trancheCount s)) (drop (6 * trancheCount s) old),
+      length-lines s (trancheCount s),
+      length-drop (6 * trancheCount s) old,
+    )
+length-results-for s old (Faulty r) room = refl
+
+pub results-length : (s old : List ℕ) → length (resultsAfter s old) ≡ length old
+unfolding resultsAfter
+results-length s old =
+    length-results-for s old (verdict s (length old)) (λ e. accepted-means s (length old) e .enough)

@@ -1,0 +1,158 @@
+-- Limits of a pool. Over any sums within their limits: no charge and no share is above 1,000,000, and no average is above 125,000. The sums of an
+-- accepted sheet are within their limits, its nominal is 1 to 10^13, and what is divided by is never 0. No axioms.
+use mathlib.Core.Bool.{Bool, true, false}
+use mathlib.Core.List.{List}
+use mathlib.Core.Path.{_≡_, refl}
+use Prim.Native.Nat.{ℕ, _+_, _*_, _-_, _≤_, _<_}
+use native.Mathlib.Nat.{le-refl, mul-le-mul-left}
+use native.Mathlib.Omega.{arith}
+use borrow.Author.Tests.{leb-true, eqb-true, ne-eqb}
+use Rattle.numbers.proofs.RoundingLaws.{rounded-up-at-most}
+use Rattle.numbers.proofs.Tests.{at-cond}
+use Rattle.deal.specs.DealSheet.{rows, exposure, nominal, status, needed}
+use Rattle.deal.specs.Sum.{where-counted}
+use Rattle.deal.specs.PointsAndCharge.{known, delinquent, weightedExposure, sumsTo, poolSums, SumLimits, baseCharge, lateShare, knownCharge, unknownExposure, mostlyKnown, poolCharge}
+use Rattle.deal.specs.ApproachFloorCap.{poolAverage, terms}
+use Rattle.deal.specs.Refusals.{judged}
+use Rattle.deal.specs.declared.Sums.{Sums}
+use Rattle.deal.specs.declared.Verdict.the-variants.{Sound}
+use Rattle.deal.proofs.SheetLimits.{row-limits, rows-within, pool-counted}
+use Rattle.deal.proofs.SumLaws.{sum-at-most, sum-at-least, sum-ordered, sum-scaled}
+
+-- ---- over any sums within their limits
+
+pub base-at-most-million : (q : Sums) → SumLimits q → baseCharge q ≤ 1000000
+base-at-most-million q l = rounded-up-at-most (800 * q .known .weighted) (q .known .exposure) 1000000 (omega arith)
+
+pub late-at-most-million : (q : Sums) → SumLimits q → lateShare q ≤ 1000000
+late-at-most-million q l = rounded-up-at-most (q .late * 1000000) (q .known .nominal) 1000000 (omega arith)
+
+pub known-charge-at-most-million : (q : Sums) → SumLimits q → knownCharge q ≤ 1000000
+unfolding knownCharge
+known-charge-at-most-million q l =
+    rounded-up-at-most ((1000000 - lateShare q) * baseCharge q + 500000 * lateShare q) 1000000 1000000
+    (total (baseCharge q) (lateShare q) (base-at-most-million q l) (late-at-most-million q l))
+  where
+    total : (base late : ℕ) → base ≤ 1000000 → late ≤ 1000000 → (1000000 - late) * base + 500000 * late ≤ 1000000 * 1000000
+    total base late b h = omega (arith, mul-le-mul-left (1000000 - late) b)
+
+pub pool-charge-at-most-million : (q : Sums) → SumLimits q → poolCharge q ≤ 1000000
+unfolding poolCharge
+pool-charge-at-most-million q l =
+    at-cond (λ x. x ≤ 1000000) (mostlyKnown q) _ _
+    (λ e.
+    rounded-up-at-most (q .known .exposure * knownCharge q + unknownExposure q * 1000000) (q .all .exposure) 1000000
+    (omega (arith, mul-le-mul-left (q .known .exposure) (known-charge-at-most-million q l))))
+    (λ e. le-refl 1000000)
+
+pub pool-average-at-most : (q : Sums) → SumLimits q → poolAverage q ≤ 125000
+pool-average-at-most q l = rounded-up-at-most (100 * q .all .weighted) (q .all .exposure) 125000 (omega arith)
+
+-- ---- a number where it counts
+
+pub counted-at-most : (counts : Bool) (x : ℕ) → where-counted counts x ≤ x
+counted-at-most true x = le-refl x
+counted-at-most false x = omega arith
+
+pub counted-within : (counts : Bool) (x m : ℕ) → x ≤ m → where-counted counts x ≤ m
+counted-within counts x m h = omega (arith, counted-at-most counts x)
+
+pub counted-scaled : (counts : Bool) (x y m : ℕ) → x ≤ m * y → where-counted counts x ≤ m * where-counted counts y
+counted-scaled true x y m h = h
+counted-scaled false x y m h = omega arith
+
+pub counted-among : (some more : Bool) (x : ℕ) → (some ≡ true → more ≡ true) → where-counted some x ≤ where-counted more x
+counted-among true more x h = rw (h refl) (le-refl x)
+counted-among false more x h = omega arith
+
+-- ---- the sums of the first n rows of an accepted sheet
+
+module _ (s : List ℕ) (accepted : judged s (needed s) ≡ Sound) where
+  row-weighted : (i : ℕ) → i < rows s → weightedExposure s i ≤ 1250 * exposure s i
+  row-weighted i row = omega (arith, mul-le-mul-left (exposure s i) (row-limits s i accepted row .weight-most))
+
+  late-known : (i : ℕ) → delinquent s i ≡ true → known s i ≡ true
+  late-known i e =
+      let one : status s i ≡ 1 = eqb-true (status s i) 1 e in
+      simp (ne-eqb (status s i) 2 (λ two. omega arith))
+
+  pub sum-limits-to : (n : ℕ) → n ≤ rows s → SumLimits (sumsTo s n)
+  sum-limits-to n within =
+      let counts = rows-within s (pool-counted s accepted) in
+      record {
+        exposure-most =
+            omega (arith, sum-at-most (λ i. exposure s i) 10000000000 n (λ i l. row-limits s i accepted (omega arith) .exposure-most));
+        known-among-all =
+            sum-ordered (λ i. where-counted (known s i) (exposure s i)) (λ i. exposure s i) n
+            (λ i l. counted-at-most (known s i) (exposure s i));
+        weighted-most =
+            sum-scaled (λ i. weightedExposure s i) (λ i. exposure s i) 1250 n (λ i l. row-weighted i (omega arith));
+        known-weighted-most =
+            sum-scaled (λ i. where-counted (known s i) (weightedExposure s i)) (λ i. where-counted (known s i) (exposure s i)) 1250 n
+            (λ i l. counted-scaled (known s i) (weightedExposure s i) (exposure s i) 1250 (row-weighted i (omega arith)));
+        known-nominal-most =
+            omega (
+              arith,
+              sum-at-most (λ i. where-counted (known s i) (nominal s i)) 10000000000 n
+                  (λ i l. counted-within (known s i) (nominal s i) 10000000000 (row-limits s i accepted (omega arith) .nominal-most)),
+            );
+        late-among-known =
+            sum-ordered (λ i. where-counted (delinquent s i) (nominal s i)) (λ i. where-counted (known s i) (nominal s i)) n
+            (λ i l. counted-among (delinquent s i) (known s i) (nominal s i) (late-known i));
+      }
+
+  pub nominal-most-to : (n : ℕ) → n ≤ rows s → sumsTo s n .all .nominal ≤ 10000000000000
+  nominal-most-to n within =
+      let counts = rows-within s (pool-counted s accepted) in
+      omega (arith, sum-at-most (λ i. nominal s i) 10000000000 n (λ i l. row-limits s i accepted (omega arith) .nominal-most))
+
+-- ---- the pool of an accepted sheet
+
+pub sum-limits : (s : List ℕ) → judged s (needed s) ≡ Sound → SumLimits (poolSums s)
+unfolding poolSums
+sum-limits s accepted = sum-limits-to s accepted (rows s) (le-refl (rows s))
+
+pub charge-at-most-million : (s : List ℕ) → judged s (needed s) ≡ Sound → terms s .charge ≤ 1000000
+unfolding terms
+charge-at-most-million s accepted = pool-charge-at-most-million (poolSums s) (sum-limits s accepted)
+
+pub average-at-most : (s : List ℕ) → judged s (needed s) ≡ Sound → terms s .average ≤ 125000
+unfolding terms
+average-at-most s accepted = pool-average-at-most (poolSums s) (sum-limits s accepted)
+
+pub nominal-within : (s : List ℕ) → judged s (needed s) ≡ Sound → (1 ≤ terms s .nominal) × (terms s .nominal ≤ 10000000000000)
+unfolding terms poolSums
+nominal-within s accepted =
+    let counts = rows-within s (pool-counted s accepted) in (
+      omega (arith, sum-at-least (λ i. nominal s i) 1 (rows s) (λ i l. row-limits s i accepted l .nominal-least)),
+      nominal-most-to s accepted (rows s) (le-refl (rows s)),
+    )
+
+-- what the average and the pool charge are divided by
+pub exposure-positive : (s : List ℕ) → judged s (needed s) ≡ Sound → 1 ≤ poolSums s .all .exposure
+unfolding poolSums
+exposure-positive s accepted =
+    omega (
+      arith,
+      rows-within s (pool-counted s accepted),
+      sum-at-least (λ i. exposure s i) 1 (rows s) (λ i l. row-limits s i accepted l .exposure-least),
+    )
+
+-- what the base charge and the late share are divided by, where they count: a pool of which at most 5% of the exposure is not known has known rows
+pub known-positive :
+    (s : List ℕ) → judged s (needed s) ≡ Sound → mostlyKnown (poolSums s) ≡ true →
+    (1 ≤ poolSums s .known .exposure) × (1 ≤ poolSums s .known .nominal)
+unfolding poolSums
+known-positive s accepted most =
+    let all = exposure-positive s accepted in
+    let few = leb-true (20 * unknownExposure (poolSums s)) (poolSums s .all .exposure) most in
+    let positive : 1 ≤ poolSums s .known .exposure = omega arith in (
+      positive,
+      omega (
+        arith,
+        sum-scaled (λ i. where-counted (known s i) (exposure s i)) (λ i. where-counted (known s i) (nominal s i)) 10000000000 (rows s)
+            (λ i l.
+            counted-scaled (known s i) (exposure s i) (nominal s i) 10000000000
+            (omega (arith, row-limits s i accepted l))),
+      ),
+    )

@@ -1,0 +1,165 @@
+-- The order of the pool's rows does not matter: an accepted sheet with its rows in another order is accepted, with the same answer and the same results.
+-- No axioms.
+use mathlib.Core.List.{List}
+use mathlib.Core.Logic.{⊎-elim}
+use mathlib.Core.Path.{_≡_, sym, ap, _∙_}
+use Prim.Native.Nat.{ℕ, _+_, _-_, _≤_, _<_}
+use native.Mathlib.Nat.{eq-zero-or-pos, le-refl}
+use native.Mathlib.Omega.{arith}
+use lib.ListN.{length}
+use borrow.Author.Tests.{lt-ltb}
+use Rattle.deal.specs.DealSheet.{word, resecuritisation, poolAt, rows, rowAt, tranchesAt, trancheCount, trancheAt, needed}
+use Rattle.deal.specs.PointsAndCharge.{poolSums}
+use Rattle.deal.specs.ApproachFloorCap.{terms, tranche}
+use Rattle.deal.specs.Refusals.{rowOf, columnOf, fault, judge, judged, verdict}
+use Rattle.deal.specs.Results.{replyTo, resultsAfter}
+use Rattle.deal.specs.Judged.{Accepted}
+use Rattle.deal.specs.OrderOfRows.{Reordered}
+use Rattle.deal.specs.declared.Verdict.the-variants.{Sound}
+use Rattle.deal.proofs.FirstFault.{first-of-all}
+use Rattle.deal.proofs.Judgement.{good-word, tranches-at-past-rows, fault-of-row}
+use Rattle.deal.proofs.SheetLimits.{accepted-to, pool-at-five}
+use Rattle.deal.proofs.JudgedLaws.{judged-good, accepted-means, accepted-judged, accepted-when}
+use Rattle.deal.proofs.LineLaws.{lines-same, results-accepted}
+use Rattle.deal.proofs.SameTerms.{SameCounts, same-counts, same-sums, same-terms, same-tranche}
+
+module _ (s s′ : List ℕ) (π σ : ℕ → ℕ) (r : Reordered s s′ π σ) where
+  -- ---- what the order does not touch
+
+  order-counts : SameCounts s s′
+  order-counts = same-counts s s′ (λ p h. r .same-before p (omega arith)) (r .same-after (tranchesAt s) (le-refl _))
+
+  order-needed : needed s′ ≡ needed s
+  order-needed = omega (arith, order-counts .tranches-at, order-counts .tranche-count)
+
+  order-sums : poolSums s′ ≡ poolSums s
+  order-sums = same-sums s s′ π σ order-counts (r .permutation) (r .row-moved)
+
+  order-tranche : (i : ℕ) → i < trancheCount s → tranche s′ i ≡ tranche s i
+  order-tranche i l =
+      same-tranche s s′ i order-counts order-sums l
+      (λ j c row column. r .same-after (trancheAt s j + c) (omega arith))
+      (λ c column. r .same-after (trancheAt s i + c) (omega arith))
+
+  -- ---- where the first word is good, the facts are the same
+
+  module _ (five : poolAt s ≡ 5) where
+    order-terms : terms s′ ≡ terms s
+    order-terms =
+        same-terms s s′ order-sums
+        (r .same-before 2 (omega arith))
+        (r .same-before 3 (omega arith))
+        (r .same-before 4 (omega arith))
+
+    order-resecuritisation : resecuritisation s′ ≡ resecuritisation s
+    order-resecuritisation = rw (r .same-before 2 (omega arith))
+
+    -- ---- the faults: of a word in its place, and of a word that moved with its row
+
+    fault-in-place : (p : ℕ) → word s′ p ≡ word s p → fault s′ p ≡ fault s p
+    unfolding fault
+    fault-in-place p same =
+        let i = rowOf 7 (tranchesAt s) p in
+        rw (
+          same,
+          order-counts .pool-at,
+          order-counts .tranches-at,
+          order-resecuritisation,
+          r .same-after (trancheAt s (i - 1) + 1) (omega arith),
+          r .same-after (trancheAt s i) (omega arith),
+        )
+
+    fault-moved : (i c : ℕ) → i < rows s → c < 4 → fault s′ (rowAt s i + c) ≡ fault s (rowAt s (π i) + c)
+    fault-moved i c row column =
+        let place : rowAt s′ i + c ≡ rowAt s i + c = omega (arith, order-counts .pool-at) in
+        let many : i < rows s′ = omega (arith, order-counts .row-count) in
+        ap (fault s′) (sym place) ∙
+        fault-of-row s′ i c many column ∙
+        rw (place, order-resecuritisation, r .row-moved i c row column)
+        (sym (fault-of-row s (π i) c (r .permutation .forth i row) column))
+
+  -- ---- the judgement
+
+  module _ (good : judged s (needed s) ≡ Sound) where
+    at-five : poolAt s ≡ 5
+    at-five = pool-at-five s (accepted-to s 1 (omega arith) good)
+
+    no-fault : (p : ℕ) → p < needed s → fault s′ p ≡ 0
+    no-fault p l =
+        ⊎-elim
+        (λ past.
+        ⊎-elim
+        (λ after. in-place (r .same-after p (omega arith)))
+        (λ before. in-row (omega arith) (omega arith))
+        (eq-zero-or-pos (tranchesAt s - p)))
+        (λ ahead. in-place (r .same-before p (omega arith)))
+        (eq-zero-or-pos (rowAt s 0 - p))
+      where
+        in-place : word s′ p ≡ word s p → fault s′ p ≡ 0
+        in-place same = fault-in-place at-five p same ∙ good-word s (needed s) p good l .1
+
+        in-row : rowAt s 0 ≤ p → p < tranchesAt s → fault s′ p ≡ 0
+        in-row past before =
+            let i = rowOf 4 (poolAt s) p in
+            let c = columnOf 4 (poolAt s) p in
+            let place : p ≡ rowAt s (rowOf 4 (poolAt s) p) + columnOf 4 (poolAt s) p = omega arith in
+            let row : rowOf 4 (poolAt s) p < rows s = omega (arith, tranches-at-past-rows s) in
+            let column : columnOf 4 (poolAt s) p < 4 = omega arith in
+            let from = r .permutation .forth i row in
+            ap (fault s′) place ∙
+            fault-moved at-five i c row column ∙
+            good-word s (needed s) (rowAt s (π i) + c) good (omega (arith, tranches-at-past-rows s)) .1
+
+    order-words : judged s′ (needed s′) ≡ Sound
+    unfolding judge
+    order-words =
+        rw order-needed
+        (first-of-all (judge s′) (needed s)
+        (λ p l.
+        let there : p < length s′ = omega (arith, r .same-length, good-word s (needed s) p good l .0) in
+        rw (lt-ltb p (length s′) there, no-fault p l)))
+
+-- ---- the theorem
+
+pub record SameOutcome (s s′ : List ℕ) (room : ℕ) : Type 0 where
+  pub accepted : verdict s′ room ≡ Sound
+  pub same-reply : replyTo s′ room ≡ replyTo s room
+  pub same-results : (old : List ℕ) → length old ≡ room → resultsAfter s′ old ≡ resultsAfter s old
+
+pub order-of-rows :
+    (s s′ : List ℕ) (π σ : ℕ → ℕ) (room : ℕ) → verdict s room ≡ Sound → Reordered s s′ π σ → SameOutcome s s′ room
+unfolding replyTo
+order-of-rows s s′ π σ room e r =
+    record {
+      accepted = e′;
+      same-reply = rw (e, e′, count, shared);
+      same-results = λ old size.
+          results-accepted s′ old (rw size e′) ∙
+          rw (count, lines-same s s′ (trancheCount s) shared (order-tranche s s′ π σ r)) (sym (results-accepted s old (rw size e)));
+    }
+  where
+    parts : Accepted s room
+    parts = accepted-means s room e
+
+    sound : judged s (needed s) ≡ Sound
+    sound = accepted-judged s room e
+
+    count : trancheCount s′ ≡ trancheCount s
+    count = order-counts s s′ π σ r .tranche-count
+
+    shared : terms s′ ≡ terms s
+    shared = order-terms s s′ π σ r (at-five s s′ π σ r sound)
+
+    e′ : verdict s′ room ≡ Sound
+    e′ =
+        accepted-when s′ room
+        (record {
+          words = record {
+            good = judged-good s′ (needed s′) (order-words s s′ π σ r sound);
+            none-follows = omega (arith, r .same-length, parts .words .none-follows, order-needed s s′ π σ r);
+          };
+          enough = omega (arith, parts .enough, count);
+          none-thin = λ i l.
+              let below : i < trancheCount s = omega (arith, count) in
+              rw (order-tranche s s′ π σ r i below, shared) (parts .none-thin i below);
+        })

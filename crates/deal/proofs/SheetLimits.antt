@@ -1,0 +1,185 @@
+-- What a sound beginning of a sheet says of its numbers: the counts, the place of each section, and the limits of every row's words. No axioms.
+use mathlib.Core.Bool.{Bool, true, false, _||_}
+use mathlib.Core.List.{List}
+use mathlib.Core.Logic.{_⊎_, inl, inr, ⊎-elim}
+use mathlib.Core.Path.{_≡_, refl, sym, _∙_}
+use Prim.Native.Nat.{ℕ, zero, suc, _+_, _-_, _≤_, _<_}
+use native.Mathlib.Nat.{add-zero}
+use native.Mathlib.Numerals.{add-one}
+use native.Mathlib.Omega.{arith}
+use lib.Dec.{leb, eqb}
+use borrow.Author.Tests.{leb-true, eqb-true, ne-eqb}
+use Rattle.numbers.proofs.Tests.{both-true}
+use Rattle.deal.specs.DealSheet.{word, resecuritisation, poolAt, rows, rowAt, exposure, nominal, riskWeight, tranchesAt, trancheCount, trancheAt, amount, class, months, held, needed}
+use Rattle.deal.specs.Refusals.{unless, within, classInOrder, rowFault, trancheFault, judge, judged}
+use Rattle.deal.specs.declared.Verdict.the-variants.{Sound}
+use Rattle.deal.proofs.FirstFault.{first-of-prefix}
+use Rattle.deal.proofs.Judgement.{good-word, tranches-at-past-rows, fault-of-fact-count, fault-of-pool-count, fault-of-row, fault-of-tranche-count, fault-of-tranche}
+
+-- ---- a word with no fault
+
+unless-zero : (number : ℕ) (good : Bool) → 0 < number → unless number good ≡ 0 → good ≡ true
+unless-zero number true h e = refl
+unless-zero number false h e = absurd (omega arith)
+
+within-true : (least most w : ℕ) → within least most w ≡ true → (least ≤ w) × (w ≤ most)
+within-true least most w e =
+    let both = both-true (leb least w) (leb w most) e in
+    (leb-true least w (both .0), leb-true w most (both .1))
+
+no-fault-within : (number least most w : ℕ) → 0 < number → unless number (within least most w) ≡ 0 → (least ≤ w) × (w ≤ most)
+no-fault-within number least most w h e = within-true least most w (unless-zero number (within least most w) h e)
+
+-- ---- the counts, and where the sections stand
+
+pub four-facts : (s : List ℕ) → judged s 1 ≡ Sound → word s 0 ≡ 4
+four-facts s e =
+    let h = no-fault-within 2 4 4 (word s 0) (omega arith) (sym (fault-of-fact-count s) ∙ good-word s 1 0 e (omega arith) .1) in
+    omega arith
+
+pub pool-at-five : (s : List ℕ) → judged s 1 ≡ Sound → poolAt s ≡ 5
+unfolding poolAt
+pool-at-five s e = omega (arith, four-facts s e)
+
+pub accepted-to : (s : List ℕ) (k : ℕ) → k ≤ needed s → judged s (needed s) ≡ Sound → judged s k ≡ Sound
+accepted-to s k h e = first-of-prefix (judge s) k (needed s) h e
+
+pub pool-counted : (s : List ℕ) → judged s (needed s) ≡ Sound → judged s (poolAt s + 1) ≡ Sound
+pool-counted s e = accepted-to s (poolAt s + 1) (omega (arith, tranches-at-past-rows s)) e
+
+pub tranches-counted : (s : List ℕ) → judged s (needed s) ≡ Sound → judged s (tranchesAt s + 1) ≡ Sound
+tranches-counted s e = accepted-to s (tranchesAt s + 1) (omega arith) e
+
+pub rows-within : (s : List ℕ) → judged s (poolAt s + 1) ≡ Sound → (1 ≤ rows s) × (rows s ≤ 1000)
+rows-within s e =
+    no-fault-within 2 1 1000 (rows s) (omega arith)
+    (sym (fault-of-pool-count s) ∙ good-word s (poolAt s + 1) (poolAt s) e (omega arith) .1)
+
+pub tranches-within : (s : List ℕ) → judged s (tranchesAt s + 1) ≡ Sound → (1 ≤ trancheCount s) × (trancheCount s ≤ 32)
+tranches-within s e =
+    no-fault-within 2 1 32 (trancheCount s) (omega arith)
+    (sym (fault-of-tranche-count s) ∙ good-word s (tranchesAt s + 1) (tranchesAt s) e (omega arith) .1)
+
+-- a sound beginning up to a later count is one up to an earlier count
+
+pub facts-counted-before : (s : List ℕ) → judged s (poolAt s + 1) ≡ Sound → judged s 1 ≡ Sound
+facts-counted-before s e = first-of-prefix (judge s) 1 (poolAt s + 1) (omega arith) e
+
+pub pool-counted-before : (s : List ℕ) → judged s (tranchesAt s + 1) ≡ Sound → judged s (poolAt s + 1) ≡ Sound
+pool-counted-before s e =
+    first-of-prefix (judge s) (poolAt s + 1) (tranchesAt s + 1) (omega (arith, tranches-at-past-rows s)) e
+
+-- how far down a sheet a section's places go
+
+pub row-at-most : (s : List ℕ) (i : ℕ) → judged s (poolAt s + 1) ≡ Sound → i ≤ rows s → rowAt s i ≤ 4006
+row-at-most s i e h = omega (arith, pool-at-five s (facts-counted-before s e), rows-within s e)
+
+pub tranches-at-most : (s : List ℕ) → judged s (poolAt s + 1) ≡ Sound → tranchesAt s ≤ 4006
+tranches-at-most s e = omega (arith, tranches-at-past-rows s, row-at-most s (rows s) e (omega arith))
+
+pub tranche-at-most :
+    (s : List ℕ) (i : ℕ) → judged s (tranchesAt s + 1) ≡ Sound → i ≤ trancheCount s → trancheAt s i ≤ 4231
+tranche-at-most s i e h = omega (arith, tranches-at-most s (pool-counted-before s e), tranches-within s e)
+
+-- ---- the pool's rows
+
+good-in-row :
+    (s : List ℕ) (i c : ℕ) → judged s (needed s) ≡ Sound → i < rows s → c < 4 →
+    rowFault (resecuritisation s) c (word s (rowAt s i + c)) ≡ 0
+good-in-row s i c e row column =
+    sym (fault-of-row s i c row column) ∙
+    good-word s (needed s) (rowAt s i + c) e (omega (arith, tranches-at-past-rows s)) .1
+
+pub record RowLimits (s : List ℕ) (i : ℕ) : Type 0 where
+  pub exposure-least : 1 ≤ exposure s i
+  pub exposure-most : exposure s i ≤ 10000000000
+  pub nominal-least : 1 ≤ nominal s i
+  pub nominal-most : nominal s i ≤ 10000000000
+  pub weight-most : riskWeight s i ≤ 1250
+
+pub row-limits : (s : List ℕ) (i : ℕ) → judged s (needed s) ≡ Sound → i < rows s → RowLimits s i
+row-limits s i e row =
+    let exposures = no-fault-within 5 1 10000000000 (exposure s i) (omega arith)
+    (rw (add-zero (rowAt s i)) at (good-in-row s i 0 e row (omega arith))) in
+    let nominals = no-fault-within 5 1 10000000000 (nominal s i) (omega arith) (good-in-row s i 1 e row (omega arith)) in
+    record {
+      exposure-least = exposures .0;
+      exposure-most = exposures .1;
+      nominal-least = nominals .0;
+      nominal-most = nominals .1;
+      weight-most = leb-true (riskWeight s i) 1250
+          (unless-zero 6 (leb (riskWeight s i) 1250) (omega arith) (good-in-row s i 2 e row (omega arith)));
+    }
+
+-- ---- the tranches
+
+good-in-tranche :
+    (s : List ℕ) (i c : ℕ) → judged s (needed s) ≡ Sound → i < trancheCount s → c < 7 →
+    trancheFault i (class s (i - 1)) (amount s i) c (word s (trancheAt s i + c)) ≡ 0
+good-in-tranche s i c e row column =
+    sym (fault-of-tranche s i c column) ∙ good-word s (needed s) (trancheAt s i + c) e (omega arith) .1
+
+either-true : (a b : Bool) → a || b ≡ true → (a ≡ true) ⊎ (b ≡ true)
+either-true true b e = inl refl
+either-true false b e = inr e
+
+class-in-order :
+    (s : List ℕ) (i : ℕ) → judged s (needed s) ≡ Sound → i < trancheCount s →
+    classInOrder i (class s (i - 1)) (class s i) ≡ true
+class-in-order s i e row = unless-zero 9 _ (omega arith) (good-in-tranche s i 1 e row (omega arith))
+
+-- "The first row has class 1"
+pub first-class : (s : List ℕ) → judged s (needed s) ≡ Sound → class s 0 ≡ 1
+first-class s e =
+    eqb-true (class s 0) 1 (class-in-order s 0 e (omega (arith, tranches-within s (tranches-counted s e))))
+
+-- "each next row has the class before it or one more"
+next-in-order : (i before w : ℕ) → 0 < i → classInOrder i before w ≡ true → (before ≤ w) × (w ≤ before + 1)
+next-in-order i before w h e =
+    ⊎-elim
+    (λ same. let q = eqb-true w before same in (omega arith, omega arith))
+    (λ more. let q = eqb-true w (before + 1) more in (omega arith, omega arith))
+    (either-true (eqb w before) (eqb w (before + 1)) (rw (ne-eqb i 0 (λ z. omega arith)) at e))
+
+pub next-class :
+    (s : List ℕ) (i : ℕ) → judged s (needed s) ≡ Sound → i + 1 < trancheCount s →
+    (class s i ≤ class s (i + 1)) × (class s (i + 1) ≤ class s i + 1)
+next-class s i e row =
+    let back : i + 1 - 1 ≡ i = omega arith in
+    next-in-order (i + 1) (class s i) (class s (i + 1)) (omega arith) (rw back at (class-in-order s (i + 1) e row))
+
+class-within :
+    (s : List ℕ) (i : ℕ) → judged s (needed s) ≡ Sound → i < trancheCount s → (1 ≤ class s i) × (class s i ≤ i + 1)
+class-within s zero e row = (omega (arith, first-class s e), omega (arith, first-class s e))
+class-within s (suc i) e row =
+    let before = class-within s i e (omega arith) in
+    let next = rw (add-one i) at (next-class s i e (omega arith)) in
+    (omega arith, omega arith)
+
+pub record TrancheLimits (s : List ℕ) (i : ℕ) : Type 0 where
+  pub amount-least : 1 ≤ amount s i
+  pub amount-most : amount s i ≤ 10000000000000
+  pub class-least : 1 ≤ class s i
+  pub class-most : class s i ≤ i + 1
+  pub months-least : 1 ≤ months s i
+  pub months-most : months s i ≤ 1200
+  pub held-most : held s i ≤ amount s i
+
+pub tranche-limits : (s : List ℕ) (i : ℕ) → judged s (needed s) ≡ Sound → i < trancheCount s → TrancheLimits s i
+tranche-limits s i e row =
+    let amounts =
+    no-fault-within 8 1 10000000000000 (amount s i) (omega arith)
+    (rw (add-zero (trancheAt s i)) at (good-in-tranche s i 0 e row (omega arith))) in
+    let classes = class-within s i e row in
+    let maturities = no-fault-within 10 1 1200 (months s i) (omega arith) (good-in-tranche s i 2 e row (omega arith)) in
+    record {
+      amount-least = amounts .0;
+      amount-most = amounts .1;
+      class-least = classes .0;
+      class-most = classes .1;
+      months-least = maturities .0;
+      months-most = maturities .1;
+      held-most =
+          leb-true (held s i) (amount s i)
+          (unless-zero 8 (leb (held s i) (amount s i)) (omega arith) (good-in-tranche s i 3 e row (omega arith)));
+    }

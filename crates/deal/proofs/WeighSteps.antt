@@ -1,0 +1,60 @@
+-- The verdict on a sheet in the order in which it is found, and what answer and results it makes. No axioms.
+use mathlib.Core.List.{List, _++_}
+use mathlib.Core.Path.{_≡_, refl, _∙_, sym, ap}
+use Prim.Native.Nat.{ℕ, _*_, _≤_}
+use lib.ListN.{length, drop}
+use Rattle.deal.specs.DealSheet.{trancheCount, needed}
+use Rattle.deal.specs.ApproachFloorCap.{terms}
+use Rattle.deal.specs.Refusals.{orElse, firstOf, judged, wordsFollow, thinFault, wordsVerdict, roomFault, verdict}
+use Rattle.deal.specs.Results.{Reply, replyOf, replyTo, lines, resultsAfter}
+use Rattle.deal.specs.declared.Answer.the-variants.{Weighed, Refused}
+use Rattle.deal.specs.declared.Refusal.{Refusal}
+use Rattle.deal.specs.declared.Verdict.{Verdict}
+use Rattle.deal.specs.declared.Verdict.the-variants.{Sound, Faulty}
+use Rattle.deal.proofs.FirstFault.{or-else-sound}
+use Rattle.deal.proofs.JudgedLaws.{room-sound}
+
+or-else-assoc : (u v w : Verdict) → orElse u (orElse v w) ≡ orElse (orElse u v) w
+or-else-assoc Sound v w = refl
+or-else-assoc (Faulty r) v w = refl
+
+-- words, 3 and room first, then thickness
+by-steps :
+    (s : List ℕ) (room : ℕ) →
+    verdict s room ≡ orElse (orElse (wordsVerdict s) (roomFault s room)) (firstOf (λ i. thinFault s i) (trancheCount s))
+unfolding verdict
+by-steps s room = or-else-assoc (wordsVerdict s) (roomFault s room) (firstOf (λ i. thinFault s i) (trancheCount s))
+
+pub refused-on-loading :
+    (s : List ℕ) (room : ℕ) {v : Verdict} {r : Refusal} → v ≡ Faulty r → v ≡ orElse (wordsVerdict s) (roomFault s room) →
+    verdict s room ≡ Faulty r
+refused-on-loading s room is e = by-steps s room ∙ rw (sym e ∙ is)
+
+pub decided-by-thickness :
+    (s : List ℕ) (room : ℕ) {v w : Verdict} → v ≡ Sound → v ≡ orElse (wordsVerdict s) (roomFault s room) →
+    w ≡ firstOf (λ i. thinFault s i) (trancheCount s) → verdict s room ≡ w
+decided-by-thickness s room is e e′ = by-steps s room ∙ rw (sym e ∙ is) (sym e′)
+
+pub words-good :
+    (s : List ℕ) (room : ℕ) {v : Verdict} → v ≡ Sound → v ≡ orElse (wordsVerdict s) (roomFault s room) → judged s (needed s) ≡ Sound
+unfolding wordsVerdict
+words-good s room is e =
+    or-else-sound (judged s (needed s)) (wordsFollow s) (or-else-sound (wordsVerdict s) (roomFault s room) (sym e ∙ is) .0) .0
+
+pub room-good :
+    (s : List ℕ) (room : ℕ) {v : Verdict} → v ≡ Sound → v ≡ orElse (wordsVerdict s) (roomFault s room) → 6 * trancheCount s ≤ room
+room-good s room is e =
+    room-sound s room (or-else-sound (wordsVerdict s) (roomFault s room) (sym e ∙ is) .1)
+
+pub refused-answer :
+    (s old : List ℕ) {r : Refusal} → verdict s (length old) ≡ Faulty r →
+    (replyOf (Refused r) ≡ replyTo s (length old)) × (old ≡ resultsAfter s old)
+unfolding replyTo resultsAfter
+refused-answer s old e = (rw e, rw e)
+
+pub weighed-answer :
+    (s old : List ℕ) {n k : ℕ} {new : List ℕ} → verdict s (length old) ≡ Sound → n ≡ trancheCount s → k ≡ terms s .charge →
+    new ≡ lines s (trancheCount s) ++ drop (6 * trancheCount s) old →
+    (replyOf (Weighed n k) ≡ replyTo s (length old)) × (new ≡ resultsAfter s old)
+unfolding replyTo resultsAfter
+weighed-answer s old e count charge written = (rw (e, count, charge), rw e written)

@@ -1,0 +1,98 @@
+-- No weight is above 125,000 (1250%): neither the formula's raw weight, nor the table's, nor either after floor and cap; and which of them is the
+-- weight, by approach. No axioms.
+use mathlib.Core.Bool.{Bool, true, false}
+use mathlib.Core.Logic.{⊎-elim}
+use mathlib.Core.Path.{_≡_, refl}
+use Prim.Native.Nat.{ℕ, _-_, _≤_, _<_}
+use native.Mathlib.Nat.{eq-zero-or-pos, le-refl}
+use native.Mathlib.Omega.{arith}
+use lib.Dec.{eqb}
+use Rattle.numbers.proofs.Tests.{at-cond}
+use Rattle.formula.specs.Formula.{WithinLimits}
+use Rattle.formula.specs.FixedPoint.{withinLimits, rawWeight}
+use Rattle.formula.proofs.RawWeightLaw.{raw-weight-is}
+use Rattle.formula.proofs.Limits.{limits-of-test}
+use Rattle.ratings.specs.RatingTable.{ratingTable}
+use Rattle.ratings.proofs.TableLaws.{weight-by-ratings-at-most}
+use Rattle.deal.specs.ApproachFloorCap.{approach, parameter, floor, capApplies, afterFloorAndCap, numberOf, formulaRawWeight, tableWeight, weight}
+use Rattle.deal.specs.declared.Terms.{Terms}
+use Rattle.deal.specs.declared.Tranche.{Tranche}
+
+-- the raw weight, by the cases of IsRawWeight
+module _ (A D K p : ℕ) where
+  thick-at-most : WithinLimits A D K p → K < D → 1 ≤ K → A < D → numberOf (rawWeight A D K p) ≤ 125000
+  thick-at-most l above one thick =
+      let w = raw-weight-is A D K p .formula l above one thick in
+      rw (w .answered) (w .at-most)
+
+  above-at-most : WithinLimits A D K p → K < D → 1 ≤ K → numberOf (rawWeight A D K p) ≤ 125000
+  above-at-most l above one =
+      ⊎-elim
+      (λ e. rw (raw-weight-is A D K p .no-thickness l above one (omega arith)) (omega arith))
+      (λ thick. thick-at-most l above one (omega arith))
+      (eq-zero-or-pos (D - A))
+
+  charged-at-most : WithinLimits A D K p → K < D → numberOf (rawWeight A D K p) ≤ 125000
+  charged-at-most l above =
+      ⊎-elim
+      (λ e. rw (raw-weight-is A D K p .charge-zero l above e) (omega arith))
+      (λ one. above-at-most l above one)
+      (eq-zero-or-pos K)
+
+  within-at-most : WithinLimits A D K p → numberOf (rawWeight A D K p) ≤ 125000
+  within-at-most l =
+      ⊎-elim
+      (λ e. rw (raw-weight-is A D K p .within-charge l (omega arith)) (le-refl 125000))
+      (λ above. charged-at-most l (omega arith))
+      (eq-zero-or-pos (D - K))
+
+  number-at-most : (t : Bool) → withinLimits A D K p ≡ t → numberOf (rawWeight A D K p) ≤ 125000
+  unfolding rawWeight
+  number-at-most true e = within-at-most (limits-of-test A D K p e)
+  number-at-most false e = rw e (omega arith)
+
+pub raw-weight-at-most : (t : Tranche) (d : Terms) → formulaRawWeight t d ≤ 125000
+unfolding formulaRawWeight
+raw-weight-at-most t d =
+    let p = parameter (d .resecuritisation) in
+    number-at-most (t .attachment) (t .detachment) (d .charge) p
+    (withinLimits (t .attachment) (t .detachment) (d .charge) p) refl
+
+pub table-weight-at-most : (t : Tranche) → tableWeight t ≤ 125000
+unfolding tableWeight
+table-weight-at-most t =
+    weight-by-ratings-at-most ratingTable tt (t .first) (t .second) (t .third) (t .senior) (t .months) (t .detachment - t .attachment)
+
+floor-at-most : (resecuritised : Bool) → floor resecuritised ≤ 125000
+floor-at-most true = omega arith
+floor-at-most false = omega arith
+
+pub after-floor-and-cap-at-most : (t : Tranche) (d : Terms) (w : ℕ) → w ≤ 125000 → afterFloorAndCap t d w ≤ 125000
+after-floor-and-cap-at-most t d w h =
+    at-cond (λ x. x ≤ 125000) (capApplies t d) _ _
+    (λ _. omega (arith, floor-at-most (d .resecuritisation)))
+    (λ _. omega (arith, floor-at-most (d .resecuritisation)))
+
+pub weight-at-most : (t : Tranche) (d : Terms) → weight t d ≤ 125000
+unfolding weight
+weight-at-most t d =
+    at-cond (λ x. x ≤ 125000) (eqb (approach t d) 0) _ _
+    (λ _. le-refl 125000)
+    (λ _.
+    at-cond (λ x. x ≤ 125000) (eqb (approach t d) 1) _ _
+    (λ _. after-floor-and-cap-at-most t d (tableWeight t) (table-weight-at-most t))
+    (λ _. after-floor-and-cap-at-most t d (formulaRawWeight t d) (raw-weight-at-most t d)))
+
+-- ---- the weight by each approach
+
+pub fallback-weight : (t : Tranche) (d : Terms) → approach t d ≡ 0 → weight t d ≡ 125000
+unfolding weight
+fallback-weight t d by = simp by
+
+pub table-weighs : (t : Tranche) (d : Terms) → approach t d ≡ 1 → weight t d ≡ afterFloorAndCap t d (tableWeight t)
+unfolding weight
+table-weighs t d by = simp by
+
+pub formula-weight : (t : Tranche) (d : Terms) → approach t d ≡ 2 → weight t d ≡ afterFloorAndCap t d (formulaRawWeight t d)
+unfolding weight
+formula-weight t d by = simp by

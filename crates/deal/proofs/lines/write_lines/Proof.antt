@@ -1,0 +1,84 @@
+-- `write_lines`: after i turns the results are the first i lines and the rest of what was there. No axioms.
+use mathlib.Core.List.{_++_}
+use mathlib.Core.Path.{_≡_, _∙_, ap}
+use Prim.Native.Nat.{_+_, _*_, _-_, _≤_}
+use native.Mathlib.Omega.{arith}
+use borrow.Author.Needs.{needs}
+use lib.ListN.{length, drop}
+use Rattle.deal.specs.DealSheet.{trancheCount}
+use Rattle.deal.specs.Results.{lines}
+use Rattle.deal.proofs.SheetLimits.{pool-counted}
+use Rattle.deal.proofs.WrittenLines.{lines-none, length-so-far, line-put}
+use Rattle.deal.proofs.lines.write_lines.Statement.{statement}
+use Rattle.deal.proofs.lines.write_lines.Tie as tie
+
+abbrev Inv-loop : tie.InvT-loop
+Inv-loop s d results₀ tranches i₀ results i =
+    (i ≤ trancheCount s) × (results ≡ lines s i ++ drop (6 * i) results₀)
+
+abbrev μ-loop : tie.MeasureT-loop
+μ-loop s d results₀ tranches i₀ results i = tranches - i
+
+tranche-count-requires : tie.Need-tranche-count-requires Inv-loop μ-loop
+tranche-count-requires c κs = pool-counted _ (c .before .before .pre .0)
+
+loop-holds : tie.Need-loop-holds Inv-loop μ-loop
+loop-holds c = (omega arith, lines-none _ _)
+
+line-of-requires : tie.Need-line-of-requires Inv-loop μ-loop
+line-of-requires c κs =
+    let start = c .before .before .before .before .before in
+    (start .pre .0, start .pre .1, omega arith)
+
+mul-put-line : tie.Need-mul-put-line Inv-loop μ-loop
+mul-put-line c = search needs
+
+put-line-requires : tie.Need-put-line-requires Inv-loop μ-loop
+put-line-requires c κs =
+    let l = c .before .before .before in
+    let start = l .before .before .before .before in
+    let shown = ap length (l .loop .inv .1) ∙ length-so-far (start .args .s .now) (start .args .results .now) (l .loop .i) (omega arith) in
+    omega (arith, shown)
+
+add-i : tie.Need-add-i Inv-loop μ-loop
+add-i c = search needs
+
+loop-less : tie.Need-loop-less Inv-loop μ-loop
+loop-less c = search needs
+
+loop-again : tie.Need-loop-again Inv-loop μ-loop
+loop-again c =
+    let l = c .before .before .before .before .before .before in
+    let start = l .before .before .before .before in (
+      omega arith,
+      line-put (start .args .s .now) (start .args .results .now) (l .loop .i) (omega arith) (l .loop .inv .1)
+          (c .before .before .before .before .line-of .ensures) (c .before .before .put-line .ensures),
+    )
+
+same-length : tie.Need-same-length Inv-loop μ-loop
+same-length c =
+    let start = c .before .before .before .before .before in
+    ap length (c .before .loop .inv .1) ∙ length-so-far (start .args .s .now) (start .args .results .now) (c .before .loop .i) (omega arith)
+
+returns : tie.Need-returns Inv-loop μ-loop
+returns c =
+    let start = c .before .before .before .before .before in
+    let all : c .before .loop .i ≡ trancheCount (start .args .s .now) = omega arith in
+    rw (← all) (c .before .loop .inv .1)
+
+pub write-lines-spec : {M : Type 1} → statement M
+write-lines-spec =
+    tie.close
+    (tie.spec
+    Inv-loop
+    μ-loop
+    tranche-count-requires
+    loop-holds
+    line-of-requires
+    mul-put-line
+    put-line-requires
+    add-i
+    loop-less
+    loop-again
+    same-length
+    returns)

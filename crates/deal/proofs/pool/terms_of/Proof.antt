@@ -1,0 +1,58 @@
+-- `terms_of`: the sums of an accepted sheet are within their limits, which the charge and the average ask. No axioms.
+use borrow.Author.Needs.{needs}
+use Rattle.deal.specs.PointsAndCharge.{SumLimits}
+use Rattle.deal.specs.ApproachFloorCap.{terms}
+use Rattle.deal.proofs.PoolLaws.{sum-limits}
+use Rattle.deal.proofs.pool.terms_of.Statement.{statement}
+use Rattle.deal.proofs.pool.terms_of.Tie as tie
+
+limits : (c : tie.After-pool-sums) → SumLimits (c .pool-sums .result)
+limits c = rw (c .pool-sums .ensures) (sum-limits (c .before .before .args .s .now) (c .before .before .pre))
+
+pool-sums-requires : tie.Need-pool-sums-requires
+pool-sums-requires c κs = search needs
+
+word-at-requires : tie.Need-word-at-requires
+word-at-requires c κs = search needs
+
+word-at-requires-2 : tie.Need-word-at-requires-2
+word-at-requires-2 c κs = search needs
+
+word-at-requires-3 : tie.Need-word-at-requires-3
+word-at-requires-3 c κs = search needs
+
+mostly-known-requires : tie.Need-mostly-known-requires
+mostly-known-requires c κs = limits (c .before .before .before)
+
+pool-charge-requires : tie.Need-pool-charge-requires
+pool-charge-requires c κs = limits (c .before .before .before .before)
+
+pool-average-requires : tie.Need-pool-average-requires
+pool-average-requires c κs = limits (c .before .before .before .before .before)
+
+returns : tie.Need-returns
+unfolding terms
+returns c =
+    let x = c .before .before in
+    simp (
+      c .pool-average .ensures,
+      c .before .pool-charge .ensures,
+      x .mostly-known .ensures,
+      x .before .word-at3 .ensures,
+      x .before .before .word-at2 .ensures,
+      x .before .before .before .word-at .ensures,
+      x .before .before .before .before .pool-sums .ensures,
+    )
+
+pub terms-of-spec : {M : Type 1} → statement M
+terms-of-spec =
+    tie.close
+    (tie.spec
+    pool-sums-requires
+    word-at-requires
+    word-at-requires-2
+    word-at-requires-3
+    mostly-known-requires
+    pool-charge-requires
+    pool-average-requires
+    returns)

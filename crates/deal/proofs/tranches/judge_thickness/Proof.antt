@@ -1,0 +1,113 @@
+-- `judge_thickness`: as long as the loop runs, none of the tranches passed is too thin; the first that is decides. The measure is what is left of the
+-- tranches. No axioms.
+use mathlib.Core.Bool.{true, false}
+use mathlib.Core.List.{List}
+use mathlib.Core.Path.{_≡_, refl, sym, _∙_}
+use Prim.Native.Nat.{ℕ, _+_, _-_, _≤_, _<_}
+use native.Mathlib.Omega.{arith}
+use borrow.Author.Needs.{needs}
+use Rattle.deal.specs.DealSheet.{trancheCount, trancheAt}
+use Rattle.deal.specs.ApproachFloorCap.{terms, tranche, thin}
+use Rattle.deal.specs.Refusals.{refused, thinFault, firstOf}
+use Rattle.deal.specs.declared.Verdict.the-variants.{Sound}
+use Rattle.deal.proofs.FirstFault.{first-of-next, first-of-stays}
+use Rattle.deal.proofs.SheetLimits.{pool-counted, tranches-counted, tranches-within}
+use Rattle.deal.proofs.tranches.judge_thickness.Statement.{statement}
+use Rattle.deal.proofs.tranches.judge_thickness.Tie as tie
+
+-- ---- the next tranche, where none before it is too thin
+
+next-sound :
+    (s : List ℕ) (i : ℕ) → thin (tranche s i) (terms s) ≡ false → firstOf (λ i. thinFault s i) i ≡ Sound →
+    firstOf (λ i. thinFault s i) (i + 1) ≡ Sound
+next-sound s i thick before = first-of-next (λ i. thinFault s i) i before ∙ rw thick
+
+next-faulty :
+    (s : List ℕ) (i place : ℕ) → thin (tranche s i) (terms s) ≡ true → firstOf (λ i. thinFault s i) i ≡ Sound → i < trancheCount s →
+    place ≡ trancheAt s i → refused 13 place ≡ firstOf (λ i. thinFault s i) (trancheCount s)
+next-faulty s i place found before row place-is =
+    sym
+    (first-of-stays (λ i. thinFault s i) (i + 1) (trancheCount s) (record { number = 13; place = place }) (omega arith)
+    (first-of-next (λ i. thinFault s i) i before ∙ rw (found, place-is)))
+
+abbrev Inv-loop : tie.InvT-loop
+Inv-loop s d tranches i₀ i = (i ≤ trancheCount s) × (firstOf (λ i. thinFault s i) i ≡ Sound)
+
+abbrev μ-loop : tie.MeasureT-loop
+μ-loop s d tranches i₀ i = tranches - i
+
+-- what `is_thin` told of the tranche
+told : (c : tie.After-is-thin Inv-loop μ-loop) →
+    let at = c .before .before .before in
+    let s = at .before .before .before .args .s .now in
+    thin (tranche s (at .loop .i)) (terms s) ≡ c .is-thin .result
+told c =
+    let start = c .before .before .before .before .before .before in
+    simp (← start .pre .1, ← c .before .tranche-of .ensures, c .is-thin .ensures)
+
+tranche-count-requires : tie.Need-tranche-count-requires Inv-loop μ-loop
+tranche-count-requires c κs = pool-counted (c .before .args .s .now) (c .before .pre .0)
+
+loop-holds : tie.Need-loop-holds Inv-loop μ-loop
+unfolding firstOf
+loop-holds c = (omega arith, refl)
+
+tranche-of-requires : tie.Need-tranche-of-requires Inv-loop μ-loop
+tranche-of-requires c κs =
+    let start = c .before .before .before .before in
+    (start .pre .0, start .pre .1, omega arith)
+
+is-thin-requires : tie.Need-is-thin-requires Inv-loop μ-loop
+is-thin-requires c κs = search needs
+
+tranche-at-requires : tie.Need-tranche-at-requires Inv-loop μ-loop
+tranche-at-requires c κs =
+    let start = c .before .before .before .before .before .before .before in
+    (tranches-counted (start .args .s .now) (start .pre .0), omega arith)
+
+returns : tie.Need-returns Inv-loop μ-loop
+returns c =
+    let at = c .before .before .before .before .before in
+    next-faulty (at .before .before .before .args .s .now) (at .loop .i) (c .tranche-at .result)
+    (told (c .before .before) ∙ c .before .if1 .taken)
+    (at .loop .inv .1)
+    (omega arith)
+    (c .tranche-at .ensures)
+
+add-i : tie.Need-add-i Inv-loop μ-loop
+add-i c =
+    let start = c .before .before .before .before .before .before .before in
+    omega (arith, tranches-within (start .args .s .now) (tranches-counted (start .args .s .now) (start .pre .0)))
+
+loop-less : tie.Need-loop-less Inv-loop μ-loop
+loop-less c = omega arith
+
+loop-again : tie.Need-loop-again Inv-loop μ-loop
+loop-again c =
+    let at = c .before .before .before .before in (
+      omega arith,
+      next-sound (at .before .before .before .args .s .now) (at .loop .i) (told (c .before) ∙ c .if1 .left) (at .loop .inv .1),
+    )
+
+returns-2 : tie.Need-returns-2 Inv-loop μ-loop
+returns-2 c =
+    let start = c .before .before .before .before in
+    let all : c .before .loop .i ≡ trancheCount (start .args .s .now) = omega arith in
+    sym (rw all at (c .before .loop .inv .1))
+
+pub judge-thickness-spec : {M : Type 1} → statement M
+judge-thickness-spec =
+    tie.close
+    (tie.spec
+    Inv-loop
+    μ-loop
+    tranche-count-requires
+    loop-holds
+    tranche-of-requires
+    is-thin-requires
+    tranche-at-requires
+    returns
+    add-i
+    loop-less
+    loop-again
+    returns-2)

@@ -1,0 +1,65 @@
+-- `weight`: each approach with its own weight. No axioms.
+use native.Mathlib.Omega.{arith}
+use borrow.Author.Needs.{needs}
+use borrow.Author.Tests.{eq-eqb, ne-eqb}
+use Rattle.deal.specs.ApproachFloorCap.{weight}
+use Rattle.deal.proofs.tranches.weight.Statement.{statement}
+use Rattle.deal.proofs.tranches.weight.Tie as tie
+
+approach-requires : tie.Need-approach-requires
+approach-requires c κs = search needs
+
+returns : tie.Need-returns
+unfolding weight
+returns c = simp (← c .before .approach .ensures, eq-eqb (c .before .approach .result) 0 (omega arith))
+
+table-weight-requires : tie.Need-table-weight-requires
+table-weight-requires c κs = search needs
+
+after-floor-and-cap-requires : tie.Need-after-floor-and-cap-requires
+after-floor-and-cap-requires c κs = search needs
+
+returns-2 : tie.Need-returns-2
+unfolding weight
+returns-2 c =
+    let at = c .before .before .before .before in
+    let by = at .approach .result in
+    simp (
+      ← at .approach .ensures,
+      ne-eqb by 0 (c .before .before .before .if1 .left),
+      eq-eqb by 1 (omega arith),
+      c .after-floor-and-cap .ensures,
+      c .before .table-weight .ensures,
+    )
+
+formula-raw-weight-requires : tie.Need-formula-raw-weight-requires
+formula-raw-weight-requires c κs = search needs
+
+after-floor-and-cap-requires-2 : tie.Need-after-floor-and-cap-requires-2
+after-floor-and-cap-requires-2 c κs = search needs
+
+returns-3 : tie.Need-returns-3
+unfolding weight
+returns-3 c =
+    let at = c .before .before .before .before in
+    let by = at .approach .result in
+    simp (
+      ← at .approach .ensures,
+      ne-eqb by 0 (c .before .before .before .if1 .left),
+      ne-eqb by 1 (c .before .before .if2 .left),
+      c .after-floor-and-cap2 .ensures,
+      c .before .formula-raw-weight .ensures,
+    )
+
+pub weight-spec : {M : Type 1} → statement M
+weight-spec =
+    tie.close
+    (tie.spec
+    approach-requires
+    returns
+    table-weight-requires
+    after-floor-and-cap-requires
+    returns-2
+    formula-raw-weight-requires
+    after-floor-and-cap-requires-2
+    returns-3)
