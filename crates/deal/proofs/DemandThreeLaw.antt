@@ -3,20 +3,21 @@
 use mathlib.Core.Bool.{Bool, true, false}
 use mathlib.Core.List.{List}
 use mathlib.Core.Logic.{⊎-elim}
-use mathlib.Core.Path.{_≡_, sym, _∙_, ap}
+use mathlib.Core.Path.{_≡_, sym, _∙_, ap, subst}
 use Prim.Native.Nat.{ℕ, _-_, _≤_, _<_}
 use native.Mathlib.Nat.{eq-zero-or-pos}
 use native.Mathlib.Omega.{arith}
+use lib.ListN.{length}
 use borrow.Author.Tests.{eq-eqb, lt-ltb}
-use Rattle.formula.specs.Formula.{WithinLimits, PassingWeight, IsRawWeight}
+use Rattle.formula.specs.Formula.{Passes, WithinLimits, PassingWeight, IsRawWeight}
 use Rattle.formula.specs.FixedPoint.{rawWeight}
 use Rattle.formula.specs.declared.RawWeight.{RawWeight}
 use Rattle.formula.specs.declared.RawWeight.the-variants.{Weight}
 use Rattle.formula.proofs.RawWeightLaw.{raw-weight-is}
 use Rattle.deal.specs.DealSheet.{resecuritisation, trancheCount, needed}
 use Rattle.deal.specs.PointsAndCharge.{attachmentPoint, detachmentPoint}
-use Rattle.deal.specs.ApproachFloorCap.{terms, tranche, approach, parameter, afterFloorAndCap, numberOf, formulaRawWeight, weight, thin}
-use Rattle.deal.specs.DemandThree.{DemandThree}
+use Rattle.deal.specs.ApproachFloorCap.{terms, tranche, approach, parameter, afterFloorAndCap, numberOf, formulaRawWeight, weight, line, lineWords, thin}
+use Rattle.deal.specs.DemandThree.{rawWeightOf, DemandThree}
 use Rattle.deal.specs.Refusals.{judged, verdict}
 use Rattle.deal.specs.declared.Terms.{Terms}
 use Rattle.deal.specs.declared.Tranche.{Tranche}
@@ -24,6 +25,7 @@ use Rattle.deal.specs.declared.Verdict.the-variants.{Sound}
 use Rattle.deal.proofs.PointLaws.{attachment-at-most-detachment, detachment-at-most-million}
 use Rattle.deal.proofs.PoolLaws.{charge-at-most-million}
 use Rattle.deal.proofs.JudgedLaws.{accepted-means, accepted-judged}
+use Rattle.deal.proofs.LineLaws.{results-line}
 use Rattle.deal.proofs.WeightLaws.{formula-weight}
 
 -- ---- no accepted tranche is too thin
@@ -66,17 +68,17 @@ within-limits s i e = record {
   parameter-most = parameter-within (resecuritisation s) .1;
 }
 
--- the raw weight that a tranche of the sheet gets
-abbrev pub rawWeightOf : List ℕ → ℕ → RawWeight
-rawWeightOf s i = rawWeight (attachmentPoint s i) (detachmentPoint s i) (terms s .charge) (parameter (resecuritisation s))
+-- the formula's answer for a tranche of the sheet
+abbrev pub formulaAnswer : List ℕ → ℕ → RawWeight
+formulaAnswer s i = rawWeight (attachmentPoint s i) (detachmentPoint s i) (terms s .charge) (parameter (resecuritisation s))
 
-raw-weight-number : (s : List ℕ) (i w : ℕ) → rawWeightOf s i ≡ Weight w → formulaRawWeight (tranche s i) (terms s) ≡ w
+raw-weight-number : (s : List ℕ) (i w : ℕ) → formulaAnswer s i ≡ Weight w → rawWeightOf s i ≡ w
 unfolding formulaRawWeight tranche terms
 raw-weight-number s i w e = ap numberOf e
 
 -- where SEC-SA applies and the raw weight is a number, the weight is that number after floor and cap
 weighs-raw :
-    (s : List ℕ) (i w : ℕ) → approach (tranche s i) (terms s) ≡ 2 → rawWeightOf s i ≡ Weight w →
+    (s : List ℕ) (i w : ℕ) → approach (tranche s i) (terms s) ≡ 2 → formulaAnswer s i ≡ Weight w →
     weight (tranche s i) (terms s) ≡ afterFloorAndCap (tranche s i) (terms s) w
 weighs-raw s i w by e =
     formula-weight (tranche s i) (terms s) by ∙
@@ -88,7 +90,7 @@ module _ (s : List ℕ) (room i : ℕ) (accepted : verdict s room ≡ Sound) whe
   limits : WithinLimits (attachmentPoint s i) (detachmentPoint s i) (terms s .charge) (parameter (resecuritisation s))
   limits = within-limits s i (accepted-judged s room accepted)
 
-  is-raw-weight : IsRawWeight (attachmentPoint s i) (detachmentPoint s i) (terms s .charge) (parameter (resecuritisation s)) (rawWeightOf s i)
+  is-raw-weight : IsRawWeight (attachmentPoint s i) (detachmentPoint s i) (terms s .charge) (parameter (resecuritisation s)) (formulaAnswer s i)
   is-raw-weight = raw-weight-is (attachmentPoint s i) (detachmentPoint s i) (terms s .charge) (parameter (resecuritisation s))
 
   -- "the raw weight is 125,000 if D ≤ K"
@@ -106,24 +108,13 @@ module _ (s : List ℕ) (room i : ℕ) (accepted : verdict s room ≡ Sound) whe
 module _ (s : List ℕ) (room i : ℕ) (accepted : verdict s room ≡ Sound) (row : i < trancheCount s) (by : approach (tranche s i) (terms s) ≡ 2) where
   passing :
       1 ≤ terms s .charge → terms s .charge < detachmentPoint s i →
-      PassingWeight (attachmentPoint s i) (detachmentPoint s i) (terms s .charge) (parameter (resecuritisation s)) (rawWeightOf s i)
+      PassingWeight (attachmentPoint s i) (detachmentPoint s i) (terms s .charge) (parameter (resecuritisation s)) (formulaAnswer s i)
   passing one above =
       is-raw-weight s room i accepted .formula (limits s room i accepted) above one
       (attachment-below-detachment s room i accepted row by above)
 
-  -- Demand 3.
-  pub demand-three : 1 ≤ terms s .charge → terms s .charge < detachmentPoint s i → DemandThree s i
-  demand-three one above =
-      let w = passing one above in
-      record {
-        raw = w .weight;
-        passes = w .passes;
-        at-most = w .at-most;
-        weight-is = weighs-raw s i (w .weight) by (w .answered);
-      }
-
   -- The raw weight is a number: an accepted tranche meets none of the cases that have none.
-  pub formula-weighs : (w : ℕ) × (rawWeightOf s i ≡ Weight w)
+  pub formula-weighs : (w : ℕ) × (formulaAnswer s i ≡ Weight w)
   formula-weighs =
       ⊎-elim
       (λ e. (125000, is-raw-weight s room i accepted .within-charge (limits s room i accepted) (omega arith)))
@@ -133,3 +124,20 @@ module _ (s : List ℕ) (room i : ℕ) (accepted : verdict s room ≡ Sound) (ro
       (λ one. let w = passing one (omega arith) in (w .weight, w .answered))
       (eq-zero-or-pos (terms s .charge)))
       (eq-zero-or-pos (detachmentPoint s i - terms s .charge))
+
+-- Demand 3.
+pub demand-three :
+    (s old : List ℕ) (i : ℕ) → verdict s (length old) ≡ Sound → i < trancheCount s → approach (tranche s i) (terms s) ≡ 2 →
+    1 ≤ terms s .charge → terms s .charge < detachmentPoint s i → DemandThree s old i
+unfolding lineWords line
+demand-three s old i accepted row by one above =
+    let w = passing s (length old) i accepted row by one above in
+    let number = raw-weight-number s i (w .weight) (w .answered) in
+    record {
+      line-weight = results-line s old i 3 accepted row (omega arith) ∙ formula-weight (tranche s i) (terms s) by;
+      passes =
+          subst
+          (λ (x : ℕ). Passes (attachmentPoint s i) (detachmentPoint s i) (terms s .charge) (parameter (resecuritisation s)) x)
+          (sym number) (w .passes);
+      at-most = subst (λ (x : ℕ). x ≤ 125000) (sym number) (w .at-most);
+    }

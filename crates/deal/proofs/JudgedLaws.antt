@@ -10,10 +10,11 @@ use native.Mathlib.Omega.{arith}
 use lib.Dec.{leb, ltb, eqb}
 use lib.ListN.{length}
 use borrow.Author.Tests.{ltb-true, ltb-false, eqb-false, lt-ltb, le-ltb, eq-eqb, ne-eqb}
+use Rattle.numbers.proofs.Tests.{at-cond}
 use Rattle.ratings.specs.RatingTable.{listed}
 use Rattle.deal.specs.DealSheet.{word, resecuritisation, poolAt, tranchesAt, trancheCount, trancheAt, amount, class, needed}
 use Rattle.deal.specs.ApproachFloorCap.{terms, tranche, thin}
-use Rattle.deal.specs.Refusals.{unless, within, factFault, statusAllowed, rowFault, classInOrder, trancheFault, rowOf, columnOf, fault, refused, judgeWith, judge, orElse, firstOf, judged, wordsFollow, roomFault, thinFault, wordsVerdict, verdict}
+use Rattle.deal.specs.Refusals.{unless, within, factFault, statusAllowed, rowFault, classInOrder, trancheFault, rowOf, columnOf, fault, refused, judgeWith, judge, orElse, firstOf, judged, wordsFollow, roomVerdict, thinVerdict, wordsVerdict, verdict}
 use Rattle.deal.specs.Judged.{GoodWord, GoodBelow, BadHere, bad, missing, FirstBad, WordsGood, WordsRefusal, first-bad, words-follow, TrancheThin, Why, by-words, by-room, by-thinness, Accepted}
 use Rattle.deal.specs.declared.Refusal.{Refusal}
 use Rattle.deal.specs.declared.Verdict.the-variants.{Sound, Faulty}
@@ -187,16 +188,16 @@ accepted-words s g =
 
 -- ---- the whole verdict
 
-thin-sound : (s : List ℕ) (i : ℕ) → thinFault s i ≡ Sound → thin (tranche s i) (terms s) ≡ false
+thin-sound : (s : List ℕ) (i : ℕ) → thinVerdict s i ≡ Sound → thin (tranche s i) (terms s) ≡ false
 thin-sound s i = sound-when (thin (tranche s i) (terms s)) (record { number = 13; place = trancheAt s i })
 
-pub room-sound : (s : List ℕ) (room : ℕ) → roomFault s room ≡ Sound → 6 * trancheCount s ≤ room
+pub room-sound : (s : List ℕ) (room : ℕ) → roomVerdict s room ≡ Sound → 6 * trancheCount s ≤ room
 room-sound s room e =
     ltb-false room (6 * trancheCount s) (sound-when (ltb room (6 * trancheCount s)) (record { number = 14; place = 0 }) e)
 
 thin-tranche-of-fault :
     (s : List ℕ) (room : ℕ) (r : Refusal) → WordsGood s → 6 * trancheCount s ≤ room →
-    FirstFault (λ i. thinFault s i) (trancheCount s) r → TrancheThin s room r
+    FirstFault (λ i. thinVerdict s i) (trancheCount s) r → TrancheThin s room r
 thin-tranche-of-fault s room r words enough first =
     let here = faulty-when (thin (tranche s (first .at)) (terms s)) 13 (trancheAt s (first .at)) r (first .faulty) in
     record {
@@ -229,9 +230,9 @@ refused-means s room r e =
     (λ thins.
     by-thinness
     (thin-tranche-of-fault s room r words (room-sound s room (thins .0))
-    (first-of-faulty (λ i. thinFault s i) (trancheCount s) r (thins .1))))
-    (or-else-faulty (roomFault s room) (firstOf (λ i. thinFault s i) (trancheCount s)) r (rest .1)))
-    (or-else-faulty (wordsVerdict s) (orElse (roomFault s room) (firstOf (λ i. thinFault s i) (trancheCount s))) r e)
+    (first-of-faulty (λ i. thinVerdict s i) (trancheCount s) r (thins .1))))
+    (or-else-faulty (roomVerdict s room) (firstOf (λ i. thinVerdict s i) (trancheCount s)) r (rest .1)))
+    (or-else-faulty (wordsVerdict s) (orElse (roomVerdict s room) (firstOf (λ i. thinVerdict s i) (trancheCount s))) r e)
 
 pub refused-when : (s : List ℕ) (room : ℕ) (r : Refusal) → Why s room r → verdict s room ≡ Faulty r
 unfolding verdict
@@ -242,7 +243,7 @@ refused-when s room r (by-thinness w) =
     simp (
       accepted-words s (w .words),
       le-ltb room (6 * trancheCount s) (w .enough),
-      faulty-first-of (λ i. thinFault s i) (trancheCount s) r (record {
+      faulty-first-of (λ i. thinVerdict s i) (trancheCount s) r (record {
         at = w .i;
         below = w .among;
         faulty = simp (w .is-thin) (states 13 (trancheAt s (w .i)) r (w .number-is) (w .place-is));
@@ -253,12 +254,12 @@ refused-when s room r (by-thinness w) =
 pub accepted-means : (s : List ℕ) (room : ℕ) → verdict s room ≡ Sound → Accepted s room
 unfolding verdict
 accepted-means s room e =
-    let outer = or-else-sound (wordsVerdict s) (orElse (roomFault s room) (firstOf (λ i. thinFault s i) (trancheCount s))) e in
-    let inner = or-else-sound (roomFault s room) (firstOf (λ i. thinFault s i) (trancheCount s)) (outer .1) in
+    let outer = or-else-sound (wordsVerdict s) (orElse (roomVerdict s room) (firstOf (λ i. thinVerdict s i) (trancheCount s))) e in
+    let inner = or-else-sound (roomVerdict s room) (firstOf (λ i. thinVerdict s i) (trancheCount s)) (outer .1) in
     record {
       words = words-accepted s (outer .0);
       enough = room-sound s room (inner .0);
-      none-thin = λ i h. thin-sound s i (first-of-sound (λ i. thinFault s i) (trancheCount s) (inner .1) i h);
+      none-thin = λ i h. thin-sound s i (first-of-sound (λ i. thinVerdict s i) (trancheCount s) (inner .1) i h);
     }
 
 pub accepted-judged : (s : List ℕ) (room : ℕ) → verdict s room ≡ Sound → judged s (needed s) ≡ Sound
@@ -270,14 +271,13 @@ accepted-when s room a =
     simp (
       accepted-words s (a .words),
       le-ltb room (6 * trancheCount s) (a .enough),
-      first-of-all (λ i. thinFault s i) (trancheCount s) (λ i h. simp (a .none-thin i h)),
+      first-of-all (λ i. thinVerdict s i) (trancheCount s) (λ i h. simp (a .none-thin i h)),
     )
 
 -- ---- the numbers: a word's fault is at most 12, so a refusal's number is one of 1 to 14
 
 picked-at-most : (m : ℕ) (b : Bool) (x y : ℕ) → x ≤ m → y ≤ m → cond b x y ≤ m
-picked-at-most m true x y p q = p
-picked-at-most m false x y p q = q
+picked-at-most m b x y p q = at-cond (λ (n : ℕ). n ≤ m) b x y (λ e. p) (λ e. q)
 
 unless-at-most : (m number : ℕ) (good : Bool) → number ≤ m → unless number good ≤ m
 unless-at-most m number good h = picked-at-most m good 0 number (omega arith) h

@@ -9,10 +9,11 @@ pub mod PoolLaws
 pub mod ChargeLaws
 pub mod PointLaws
 pub mod WeightLaws
-pub mod DemandThreeLaw
 pub mod LineLaws
+pub mod DemandThreeLaw
 pub mod SameTerms
 pub mod Independence
 pub mod RowOrder
 pub mod WrittenLines
 pub mod WeighSteps
+pub mod AnswerLaw

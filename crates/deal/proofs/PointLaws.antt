@@ -9,7 +9,7 @@ use lib.Dec.{ltb}
 use borrow.Author.Tests.{lt-ltb, ltb-true}
 use Rattle.numbers.proofs.Tests.{at-cond}
 use Rattle.deal.specs.DealSheet.{trancheCount, amount, class}
-use Rattle.deal.specs.Sum.{where-counted}
+use Rattle.deal.specs.Sum.{whereCounted}
 use Rattle.deal.specs.PointsAndCharge.{poolSums, seniorAmount, point, attachmentPoint, detachmentPoint}
 use Rattle.deal.proofs.SumLaws.{sum-ordered}
 
@@ -26,16 +26,16 @@ point-ordered N x y h =
     omega arith)
     (eq-zero-or-pos N)
 
-counted-more : (c e a x : ℕ) → c ≤ e → where-counted (ltb a c) x ≤ where-counted (ltb a e) x
+counted-more : (c e a x : ℕ) → c ≤ e → whereCounted (ltb a c) x ≤ whereCounted (ltb a e) x
 counted-more c e a x h =
-    at-cond (λ y. y ≤ where-counted (ltb a e) x) (ltb a c) x 0
+    at-cond (λ y. y ≤ whereCounted (ltb a e) x) (ltb a c) x 0
     (λ t. rw (lt-ltb a e (omega (arith, ltb-true a c t))) (le-refl x))
     (λ t. omega arith)
 
 pub senior-amount-ordered : (s : List ℕ) (c e : ℕ) → c ≤ e → seniorAmount s c ≤ seniorAmount s e
 unfolding seniorAmount
 senior-amount-ordered s c e h =
-    sum-ordered (λ j. where-counted (ltb (class s j) c) (amount s j)) (λ j. where-counted (ltb (class s j) e) (amount s j)) (trancheCount s)
+    sum-ordered (λ j. whereCounted (ltb (class s j) c) (amount s j)) (λ j. whereCounted (ltb (class s j) e) (amount s j)) (trancheCount s)
     (λ j l. counted-more c e (class s j) (amount s j) h)
 
 pub attachment-at-most-detachment : (s : List ℕ) (i : ℕ) → attachmentPoint s i ≤ detachmentPoint s i

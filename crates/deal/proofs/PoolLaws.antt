@@ -10,8 +10,9 @@ use borrow.Author.Tests.{leb-true, eqb-true, ne-eqb}
 use Rattle.numbers.proofs.RoundingLaws.{rounded-up-at-most}
 use Rattle.numbers.proofs.Tests.{at-cond}
 use Rattle.deal.specs.DealSheet.{rows, exposure, nominal, status, needed}
-use Rattle.deal.specs.Sum.{where-counted}
-use Rattle.deal.specs.PointsAndCharge.{known, delinquent, weightedExposure, sumsTo, poolSums, SumLimits, baseCharge, lateShare, knownCharge, unknownExposure, mostlyKnown, poolCharge}
+use Rattle.deal.specs.Sum.{whereCounted}
+use Rattle.deal.specs.PointsAndCharge.{known, delinquent, weightedExposure, sumsTo, poolSums, baseCharge, lateShare, knownCharge, unknownExposure, mostlyKnown, poolCharge}
+use Rattle.deal.specs.SumLimits.{SumLimits}
 use Rattle.deal.specs.ApproachFloorCap.{poolAverage, terms}
 use Rattle.deal.specs.Refusals.{judged}
 use Rattle.deal.specs.declared.Sums.{Sums}
@@ -50,18 +51,18 @@ pool-average-at-most q l = rounded-up-at-most (100 * q .all .weighted) (q .all .
 
 -- ---- a number where it counts
 
-pub counted-at-most : (counts : Bool) (x : ℕ) → where-counted counts x ≤ x
+pub counted-at-most : (counts : Bool) (x : ℕ) → whereCounted counts x ≤ x
 counted-at-most true x = le-refl x
 counted-at-most false x = omega arith
 
-pub counted-within : (counts : Bool) (x m : ℕ) → x ≤ m → where-counted counts x ≤ m
+pub counted-within : (counts : Bool) (x m : ℕ) → x ≤ m → whereCounted counts x ≤ m
 counted-within counts x m h = omega (arith, counted-at-most counts x)
 
-pub counted-scaled : (counts : Bool) (x y m : ℕ) → x ≤ m * y → where-counted counts x ≤ m * where-counted counts y
+pub counted-scaled : (counts : Bool) (x y m : ℕ) → x ≤ m * y → whereCounted counts x ≤ m * whereCounted counts y
 counted-scaled true x y m h = h
 counted-scaled false x y m h = omega arith
 
-pub counted-among : (some more : Bool) (x : ℕ) → (some ≡ true → more ≡ true) → where-counted some x ≤ where-counted more x
+pub counted-among : (some more : Bool) (x : ℕ) → (some ≡ true → more ≡ true) → whereCounted some x ≤ whereCounted more x
 counted-among true more x h = rw (h refl) (le-refl x)
 counted-among false more x h = omega arith
 
@@ -83,21 +84,21 @@ module _ (s : List ℕ) (accepted : judged s (needed s) ≡ Sound) where
         exposure-most =
             omega (arith, sum-at-most (λ i. exposure s i) 10000000000 n (λ i l. row-limits s i accepted (omega arith) .exposure-most));
         known-among-all =
-            sum-ordered (λ i. where-counted (known s i) (exposure s i)) (λ i. exposure s i) n
+            sum-ordered (λ i. whereCounted (known s i) (exposure s i)) (λ i. exposure s i) n
             (λ i l. counted-at-most (known s i) (exposure s i));
         weighted-most =
             sum-scaled (λ i. weightedExposure s i) (λ i. exposure s i) 1250 n (λ i l. row-weighted i (omega arith));
         known-weighted-most =
-            sum-scaled (λ i. where-counted (known s i) (weightedExposure s i)) (λ i. where-counted (known s i) (exposure s i)) 1250 n
+            sum-scaled (λ i. whereCounted (known s i) (weightedExposure s i)) (λ i. whereCounted (known s i) (exposure s i)) 1250 n
             (λ i l. counted-scaled (known s i) (weightedExposure s i) (exposure s i) 1250 (row-weighted i (omega arith)));
         known-nominal-most =
             omega (
               arith,
-              sum-at-most (λ i. where-counted (known s i) (nominal s i)) 10000000000 n
+              sum-at-most (λ i. whereCounted (known s i) (nominal s i)) 10000000000 n
                   (λ i l. counted-within (known s i) (nominal s i) 10000000000 (row-limits s i accepted (omega arith) .nominal-most)),
             );
         late-among-known =
-            sum-ordered (λ i. where-counted (delinquent s i) (nominal s i)) (λ i. where-counted (known s i) (nominal s i)) n
+            sum-ordered (λ i. whereCounted (delinquent s i) (nominal s i)) (λ i. whereCounted (known s i) (nominal s i)) n
             (λ i l. counted-among (delinquent s i) (known s i) (nominal s i) (late-known i));
       }
 
@@ -150,7 +151,7 @@ known-positive s accepted most =
       positive,
       omega (
         arith,
-        sum-scaled (λ i. where-counted (known s i) (exposure s i)) (λ i. where-counted (known s i) (nominal s i)) 10000000000 (rows s)
+        sum-scaled (λ i. whereCounted (known s i) (exposure s i)) (λ i. whereCounted (known s i) (nominal s i)) 10000000000 (rows s)
             (λ i l.
             counted-scaled (known s i) (exposure s i) (nominal s i) 10000000000
             (omega (arith, row-limits s i accepted l))),

@@ -8,7 +8,7 @@ use native.Mathlib.Nat.{add-zero, le-refl}
 use native.Mathlib.Omega.{arith}
 use lib.Dec.{ltb, eqb}
 use Rattle.deal.specs.DealSheet.{word, poolAt, rows, rowAt, exposure, nominal, riskWeight, status, tranchesAt, trancheCount, trancheAt, amount, class}
-use Rattle.deal.specs.Sum.{sum, where-counted}
+use Rattle.deal.specs.Sum.{sum, whereCounted}
 use Rattle.deal.specs.PointsAndCharge.{poolSums, seniorAmount, attachmentPoint, detachmentPoint}
 use Rattle.deal.specs.ApproachFloorCap.{terms, tranche}
 use Rattle.deal.specs.OrderOfRows.{Permutation}
@@ -69,10 +69,10 @@ module _ (s s′ : List ℕ) (π σ : ℕ → ℕ) (counts : SameCounts s s′) 
         sum-moved (λ e n w t. e),
         sum-moved (λ e n w t. n),
         sum-moved (λ e n w t. e * w),
-        sum-moved (λ e n w t. where-counted (not (eqb t 2)) e),
-        sum-moved (λ e n w t. where-counted (not (eqb t 2)) n),
-        sum-moved (λ e n w t. where-counted (not (eqb t 2)) (e * w)),
-        sum-moved (λ e n w t. where-counted (eqb t 1) n),
+        sum-moved (λ e n w t. whereCounted (not (eqb t 2)) e),
+        sum-moved (λ e n w t. whereCounted (not (eqb t 2)) n),
+        sum-moved (λ e n w t. whereCounted (not (eqb t 2)) (e * w)),
+        sum-moved (λ e n w t. whereCounted (eqb t 1) n),
       )
 
 -- ---- what the tranches share
@@ -91,10 +91,10 @@ pub same-senior-amount :
     seniorAmount s′ c ≡ seniorAmount s c
 unfolding seniorAmount
 same-senior-amount s s′ c counts amounts classes =
-    ap (sum (λ j. where-counted (ltb (class s′ j) c) (amount s′ j))) (counts .tranche-count) ∙
+    ap (sum (λ j. whereCounted (ltb (class s′ j) c) (amount s′ j))) (counts .tranche-count) ∙
     sum-same
-    (λ j. where-counted (ltb (class s′ j) c) (amount s′ j))
-    (λ j. where-counted (ltb (class s j) c) (amount s j))
+    (λ j. whereCounted (ltb (class s′ j) c) (amount s′ j))
+    (λ j. whereCounted (ltb (class s j) c) (amount s j))
     (trancheCount s)
     (λ j l. rw (classes j l, amounts j l))
 

@@ -5,7 +5,7 @@ use Prim.Native.Nat.{ℕ, _*_, _≤_}
 use lib.ListN.{length, drop}
 use Rattle.deal.specs.DealSheet.{trancheCount, needed}
 use Rattle.deal.specs.ApproachFloorCap.{terms}
-use Rattle.deal.specs.Refusals.{orElse, firstOf, judged, wordsFollow, thinFault, wordsVerdict, roomFault, verdict}
+use Rattle.deal.specs.Refusals.{orElse, firstOf, judged, wordsFollow, thinVerdict, wordsVerdict, roomVerdict, verdict}
 use Rattle.deal.specs.Results.{Reply, replyOf, replyTo, lines, resultsAfter}
 use Rattle.deal.specs.declared.Answer.the-variants.{Weighed, Refused}
 use Rattle.deal.specs.declared.Refusal.{Refusal}
@@ -21,30 +21,30 @@ or-else-assoc (Faulty r) v w = refl
 -- words, 3 and room first, then thickness
 by-steps :
     (s : List ℕ) (room : ℕ) →
-    verdict s room ≡ orElse (orElse (wordsVerdict s) (roomFault s room)) (firstOf (λ i. thinFault s i) (trancheCount s))
+    verdict s room ≡ orElse (orElse (wordsVerdict s) (roomVerdict s room)) (firstOf (λ i. thinVerdict s i) (trancheCount s))
 unfolding verdict
-by-steps s room = or-else-assoc (wordsVerdict s) (roomFault s room) (firstOf (λ i. thinFault s i) (trancheCount s))
+by-steps s room = or-else-assoc (wordsVerdict s) (roomVerdict s room) (firstOf (λ i. thinVerdict s i) (trancheCount s))
 
 pub refused-on-loading :
-    (s : List ℕ) (room : ℕ) {v : Verdict} {r : Refusal} → v ≡ Faulty r → v ≡ orElse (wordsVerdict s) (roomFault s room) →
+    (s : List ℕ) (room : ℕ) {v : Verdict} {r : Refusal} → v ≡ Faulty r → v ≡ orElse (wordsVerdict s) (roomVerdict s room) →
     verdict s room ≡ Faulty r
 refused-on-loading s room is e = by-steps s room ∙ rw (sym e ∙ is)
 
 pub decided-by-thickness :
-    (s : List ℕ) (room : ℕ) {v w : Verdict} → v ≡ Sound → v ≡ orElse (wordsVerdict s) (roomFault s room) →
-    w ≡ firstOf (λ i. thinFault s i) (trancheCount s) → verdict s room ≡ w
+    (s : List ℕ) (room : ℕ) {v w : Verdict} → v ≡ Sound → v ≡ orElse (wordsVerdict s) (roomVerdict s room) →
+    w ≡ firstOf (λ i. thinVerdict s i) (trancheCount s) → verdict s room ≡ w
 decided-by-thickness s room is e e′ = by-steps s room ∙ rw (sym e ∙ is) (sym e′)
 
 pub words-good :
-    (s : List ℕ) (room : ℕ) {v : Verdict} → v ≡ Sound → v ≡ orElse (wordsVerdict s) (roomFault s room) → judged s (needed s) ≡ Sound
+    (s : List ℕ) (room : ℕ) {v : Verdict} → v ≡ Sound → v ≡ orElse (wordsVerdict s) (roomVerdict s room) → judged s (needed s) ≡ Sound
 unfolding wordsVerdict
 words-good s room is e =
-    or-else-sound (judged s (needed s)) (wordsFollow s) (or-else-sound (wordsVerdict s) (roomFault s room) (sym e ∙ is) .0) .0
+    or-else-sound (judged s (needed s)) (wordsFollow s) (or-else-sound (wordsVerdict s) (roomVerdict s room) (sym e ∙ is) .0) .0
 
 pub room-good :
-    (s : List ℕ) (room : ℕ) {v : Verdict} → v ≡ Sound → v ≡ orElse (wordsVerdict s) (roomFault s room) → 6 * trancheCount s ≤ room
+    (s : List ℕ) (room : ℕ) {v : Verdict} → v ≡ Sound → v ≡ orElse (wordsVerdict s) (roomVerdict s room) → 6 * trancheCount s ≤ room
 room-good s room is e =
-    room-sound s room (or-else-sound (wordsVerdict s) (roomFault s room) (sym e ∙ is) .1)
+    room-sound s room (or-else-sound (wordsVerdict s) (roomVerdict s room) (sym e ∙ is) .1)
 
 pub refused-answer :
     (s old : List ℕ) {r : Refusal} → verdict s (length old) ≡ Faulty r →

@@ -1,4 +1,6 @@
--- 01, "Which approach, then floor, then cap" (CRE40.41 to CRE40.54, CRE41, CRE42): the line of a tranche, as a function of the tranche's own inputs and of the deal's terms alone.
+-- 01, "Which approach, then floor, then cap" (d374 paragraph 31 for due diligence, 42 to 47 for the order of approaches, which CRE40.41 to CRE40.47
+-- give; 85 and 94 for the parameter, 87 and 96 for the floor, 88, 89 and 97 for the cap): the line of a tranche, as a function of the tranche's own
+-- inputs and of the deal's terms alone.
 use mathlib.Core.Bool.{Bool, cond, not, _&&_, _||_}
 use mathlib.Core.List.{List, [], _∷_}
 use Prim.Native.Nat.{ℕ, _*_, _-_, min, max}
@@ -78,9 +80,8 @@ capApplies t d = t .senior && not (d .resecuritisation) && d .composition
 -- "The weight is raised to the floor, then lowered to the cap, also below the floor."
 abbrev pub afterFloorAndCap : Tranche → Terms → ℕ → ℕ
 afterFloorAndCap t d w =
-    cond (capApplies t d)
-    (min (max w (floor (d .resecuritisation))) (d .average))
-    (max w (floor (d .resecuritisation)))
+    let raised = max w (floor (d .resecuritisation)) in
+    cond (capApplies t d) (min raised (d .average)) raised
 
 -- the number of a raw weight (0 where there is none, which no accepted sheet meets: `formula-weighs`, proofs/DemandThreeLaw.antt)
 abbrev pub numberOf : RawWeight → ℕ
@@ -114,7 +115,7 @@ riskWeightedAmount heldAmount w = roundedUp (heldAmount * w) 10000
 abbrev pub capital : ℕ → ℕ → ℕ
 capital heldAmount w = roundedUp (heldAmount * w * 8) 1000000
 
--- ---- the line: "approach, A, D, weight, risk-weighted amount, capital"
+-- ---- the line: "approach (0 fallback, 1 SEC-ERBA, 2 SEC-SA), A, D, weight, risk-weighted amount, capital"
 
 unfoldable pub line : Tranche → Terms → Line
 line t d = record {
@@ -122,12 +123,12 @@ line t d = record {
   attachment = t .attachment;
   detachment = t .detachment;
   weight = weight t d;
-  amount = riskWeightedAmount (t .held) (weight t d);
+  rwa = riskWeightedAmount (t .held) (weight t d);
   capital = capital (t .held) (weight t d);
 }
 
 abbrev pub wordsOf : Line → List ℕ
-wordsOf l = l .approach ∷ l .attachment ∷ l .detachment ∷ l .weight ∷ l .amount ∷ l .capital ∷ []
+wordsOf l = l .approach ∷ l .attachment ∷ l .detachment ∷ l .weight ∷ l .rwa ∷ l .capital ∷ []
 
 unfoldable pub lineWords : Tranche → Terms → List ℕ
 lineWords t d = wordsOf (line t d)

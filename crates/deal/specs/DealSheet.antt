@@ -10,10 +10,8 @@ use lib.ListN.{getD}
 abbrev pub word : List ℕ → ℕ → ℕ
 word s p = getD s p 0
 
--- ---- "Facts, count 4: pool kind (0 SA, 1 IRB, 2 mixed); re-securitisation; due diligence held; pool composition known."
-
-abbrev pub poolKind : List ℕ → ℕ
-poolKind s = word s 1
+-- ---- "Facts, count 4: pool kind (0 SA, 1 IRB, 2 mixed); re-securitisation; due diligence held; pool composition known." The count is at place
+-- 0, the pool kind at place 1.
 
 abbrev pub resecuritisation : List ℕ → Bool
 resecuritisation s = eqb (word s 2) 1
@@ -24,7 +22,7 @@ dueDiligence s = eqb (word s 3) 1
 abbrev pub compositionKnown : List ℕ → Bool
 compositionKnown s = eqb (word s 4) 1
 
--- ---- "Pool, count 1 to 1,000. A row: exposure amount and nominal amount; risk weight in whole percent; status"
+-- ---- "Pool, count 1 to 1,000. A row: exposure amount and nominal amount, ...; risk weight in whole percent, ...; status ..."
 
 -- the place of the pool's count
 unfoldable pub poolAt : List ℕ → ℕ
@@ -50,7 +48,7 @@ riskWeight s i = word s (rowAt s i + 2)
 abbrev pub status : List ℕ → ℕ → ℕ
 status s i = word s (rowAt s i + 3)
 
--- ---- "Tranches, count 1 to 32. A row: amount; class; final legal maturity in months; amount held; three rating words."
+-- ---- "Tranches, count 1 to 32. A row: amount, ...; class; final legal maturity in months, ...; amount held, ...; three rating words."
 
 -- the place of the tranches' count
 unfoldable pub tranchesAt : List ℕ → ℕ
@@ -66,7 +64,7 @@ trancheAt s i = tranchesAt s + 1 + 7 * i
 abbrev pub amount : List ℕ → ℕ → ℕ
 amount s i = word s (trancheAt s i)
 
--- "Class 1 is the senior class. Equal classes rank pari passu."
+-- "Class 1 is the senior class. ... Equal classes rank pari passu."
 abbrev pub class : List ℕ → ℕ → ℕ
 class s i = word s (trancheAt s i + 1)
 

@@ -1,16 +1,22 @@
--- 01, "The supervisory formula", demand 3: what is shown of the weight of an accepted SEC-SA tranche with K at least 1 and D above K.
+-- 01, "The formula and its series", demand 3: what the results hold for an accepted SEC-SA tranche with K at least 1 and D above K, where the rules
+-- leave the raw weight open.
 use mathlib.Core.List.{List}
 use mathlib.Core.Path.{_≡_}
-use Prim.Native.Nat.{ℕ, _≤_}
+use Prim.Native.Nat.{ℕ, _+_, _*_, _≤_}
+use lib.ListN.{getD}
 use Rattle.formula.specs.Formula.{Passes}
 use Rattle.deal.specs.DealSheet.{resecuritisation}
 use Rattle.deal.specs.PointsAndCharge.{attachmentPoint, detachmentPoint}
-use Rattle.deal.specs.ApproachFloorCap.{terms, tranche, parameter, afterFloorAndCap, weight}
+use Rattle.deal.specs.ApproachFloorCap.{terms, tranche, parameter, afterFloorAndCap, formulaRawWeight}
+use Rattle.deal.specs.Results.{resultsAfter}
+
+-- the raw weight that tranche i gets
+abbrev pub rawWeightOf : List ℕ → ℕ → ℕ
+rawWeightOf s i = formulaRawWeight (tranche s i) (terms s)
 
 -- "the line's weight is the raw weight the tranche gets, after floor and cap, and some k has its upper end at most that raw weight and its lower
--- end more than that raw weight minus 2"; "A raw weight is a whole number and never above 125,000."
-pub record DemandThree (s : List ℕ) (i : ℕ) : Type 0 where
-  pub raw : ℕ
-  pub passes : Passes (attachmentPoint s i) (detachmentPoint s i) (terms s .charge) (parameter (resecuritisation s)) raw
-  pub at-most : raw ≤ 125000
-  pub weight-is : weight (tranche s i) (terms s) ≡ afterFloorAndCap (tranche s i) (terms s) raw
+-- end more than that raw weight minus 2"; "A raw weight is a whole number and never above 125,000." The weight is the fourth word of the line.
+pub record DemandThree (s old : List ℕ) (i : ℕ) : Type 0 where
+  pub line-weight : getD (resultsAfter s old) (6 * i + 3) 0 ≡ afterFloorAndCap (tranche s i) (terms s) (rawWeightOf s i)
+  pub passes : Passes (attachmentPoint s i) (detachmentPoint s i) (terms s .charge) (parameter (resecuritisation s)) (rawWeightOf s i)
+  pub at-most : rawWeightOf s i ≤ 125000

@@ -3,8 +3,9 @@ pub mod Refusals
 pub mod Judged
 pub mod Sum
 pub mod PointsAndCharge
+pub mod SumLimits
 pub mod ApproachFloorCap
-pub mod DemandThree
 pub mod Results
+pub mod DemandThree
 pub mod OtherRatings
 pub mod OrderOfRows

@@ -1,4 +1,4 @@
--- "No order of loading enters": what it is that a sheet is another with its pool rows in another order.
+-- The order of the pool's rows does not enter: what it is that a sheet is another with its pool rows in another order.
 use mathlib.Core.List.{List}
 use mathlib.Core.Path.{_≡_}
 use Prim.Native.Nat.{ℕ, _+_, _≤_, _<_}

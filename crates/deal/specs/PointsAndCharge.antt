@@ -1,12 +1,13 @@
--- 01, "Points and pool charge" (d374 paragraphs 51 to 53 and 79 to 83; CRE40, CRE41). Points, shares and charges are counted in millionths, amounts in whole currency
--- units, risk weights in percent.
+-- 01, "Points and pool charge" (d374 paragraphs 53 and 54 for A and D, which CRE44.14 and CRE44.15 give; 79 and 80 for the base charge, 81 to 83
+-- for delinquency and unknown status). Points, shares and charges are counted in millionths, amounts in whole currency units, risk weights in
+-- percent.
 use mathlib.Core.Bool.{Bool, cond, not}
 use mathlib.Core.List.{List}
-use Prim.Native.Nat.{ℕ, _+_, _*_, _-_, _/_, _≤_}
+use Prim.Native.Nat.{ℕ, _+_, _*_, _-_, _/_}
 use lib.Dec.{leb, ltb, eqb}
 use Rattle.numbers.specs.Rounding.{roundedUp}
 use Rattle.deal.specs.DealSheet.{rows, exposure, nominal, riskWeight, status, trancheCount, amount, class}
-use Rattle.deal.specs.Sum.{sum, where-counted}
+use Rattle.deal.specs.Sum.{sum, whereCounted}
 use Rattle.deal.specs.declared.Sums.{Sums}
 
 -- ---- the pool's sums
@@ -31,25 +32,15 @@ sumsTo s n = record {
     weighted = sum (λ i. weightedExposure s i) n;
   };
   known = record {
-    exposure = sum (λ i. where-counted (known s i) (exposure s i)) n;
-    nominal = sum (λ i. where-counted (known s i) (nominal s i)) n;
-    weighted = sum (λ i. where-counted (known s i) (weightedExposure s i)) n;
+    exposure = sum (λ i. whereCounted (known s i) (exposure s i)) n;
+    nominal = sum (λ i. whereCounted (known s i) (nominal s i)) n;
+    weighted = sum (λ i. whereCounted (known s i) (weightedExposure s i)) n;
   };
-  late = sum (λ i. where-counted (delinquent s i) (nominal s i)) n;
+  late = sum (λ i. whereCounted (delinquent s i) (nominal s i)) n;
 }
 
 unfoldable pub poolSums : List ℕ → Sums
 poolSums s = sumsTo s (rows s)
-
--- what holds of the sums of any pool: rows of known status are among all rows and delinquent ones among those of known status, no risk weight is
--- above 1250, and no sum of amounts is above 10^13 (1,000 rows of 10^10)
-pub record SumLimits (q : Sums) : Type 0 where
-  pub exposure-most : q .all .exposure ≤ 10000000000000
-  pub known-among-all : q .known .exposure ≤ q .all .exposure
-  pub weighted-most : q .all .weighted ≤ 1250 * q .all .exposure
-  pub known-weighted-most : q .known .weighted ≤ 1250 * q .known .exposure
-  pub known-nominal-most : q .known .nominal ≤ 10000000000000
-  pub late-among-known : q .late ≤ q .known .nominal
 
 -- ---- the pool charge, from the sums
 
@@ -83,7 +74,7 @@ poolCharge q =
 
 -- the amounts of the tranches of a class below c, that is senior to c
 unfoldable pub seniorAmount : List ℕ → ℕ → ℕ
-seniorAmount s c = sum (λ j. where-counted (ltb (class s j) c) (amount s j)) (trancheCount s)
+seniorAmount s c = sum (λ j. whereCounted (ltb (class s j) c) (amount s j)) (trancheCount s)
 
 -- max(0, N − x) × 10^6 / N, rounded down
 abbrev pub point : ℕ → ℕ → ℕ

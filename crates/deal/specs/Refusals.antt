@@ -45,14 +45,13 @@ abbrev pub classInOrder : ℕ → ℕ → ℕ → Bool
 classInOrder i before w = cond (eqb i 0) (eqb w 1) (eqb w before || eqb w (before + 1))
 
 -- "8: a tranche amount outside its limits, or held above the amount. 9: a class out of order. 10: a maturity outside 1 to 1200. 11: a rating code
--- not listed." The columns of tranche i, from 0: amount, class, months, held, three ratings; `before` is the class of the row before, `whole`
--- the tranche's amount
+-- not listed." The columns of tranche i, from 0: amount, class, months, held, three ratings; `before` is the class of the row before
 abbrev pub trancheFault : ℕ → ℕ → ℕ → ℕ → ℕ → ℕ
-trancheFault i before whole column w =
+trancheFault i before trancheAmount column w =
     cond (eqb column 0) (unless 8 (within 1 10000000000000 w))
     (cond (eqb column 1) (unless 9 (classInOrder i before w))
     (cond (eqb column 2) (unless 10 (within 1 1200 w))
-    (cond (eqb column 3) (unless 8 (leb w whole))
+    (cond (eqb column 3) (unless 8 (leb w trancheAmount))
     (unless 11 (listed w)))))
 
 -- a section's row and column at place p, where its count is at place `at` and its rows have `size` words
@@ -106,14 +105,14 @@ abbrev pub wordsFollow : List ℕ → Verdict
 wordsFollow s = cond (ltb (needed s) (length s)) (refused 3 (needed s)) Sound
 
 -- "14: results shorter than six words per tranche; place 0."
-abbrev pub roomFault : List ℕ → ℕ → Verdict
-roomFault s room = cond (ltb room (6 * trancheCount s)) (refused 14 0) Sound
+abbrev pub roomVerdict : List ℕ → ℕ → Verdict
+roomVerdict s room = cond (ltb room (6 * trancheCount s)) (refused 14 0) Sound
 
 -- "13: SEC-SA applies, A equals D, and D is above the pool charge; place of the tranche amount."
-abbrev pub thinFault : List ℕ → ℕ → Verdict
-thinFault s i = cond (thin (tranche s i) (terms s)) (refused 13 (trancheAt s i)) Sound
+abbrev pub thinVerdict : List ℕ → ℕ → Verdict
+thinVerdict s i = cond (thin (tranche s i) (terms s)) (refused 13 (trancheAt s i)) Sound
 
--- the refusals that the words alone decide: 1 to 12, then 3
+-- the refusals that the words alone decide: 1, 2 and 4 to 12, then 3
 unfoldable pub wordsVerdict : List ℕ → Verdict
 wordsVerdict s = orElse (judged s (needed s)) (wordsFollow s)
 
@@ -121,5 +120,5 @@ wordsVerdict s = orElse (judged s (needed s)) (wordsFollow s)
 unfoldable pub verdict : List ℕ → ℕ → Verdict
 verdict s room =
     orElse (wordsVerdict s)
-    (orElse (roomFault s room)
-    (firstOf (λ i. thinFault s i) (trancheCount s)))
+    (orElse (roomVerdict s room)
+    (firstOf (λ i. thinVerdict s i) (trancheCount s)))

@@ -24,11 +24,12 @@ abbrev pub replyOf : Answer → Reply
 replyOf (Weighed n k) = record { number = 0; place = 0; count = n; charge = k }
 replyOf (Refused r) = record { number = r .number; place = r .place; count = 0; charge = 0 }
 
--- the answer that a sheet is due, with room for that many result words
+-- the numbers that a verdict on a sheet is due
 abbrev pub replyFor : List ℕ → Verdict → Reply
 replyFor s Sound = record { number = 0; place = 0; count = trancheCount s; charge = terms s .charge }
 replyFor s (Faulty r) = record { number = r .number; place = r .place; count = 0; charge = 0 }
 
+-- the numbers that a sheet is due, with room for that many result words
 unfoldable pub replyTo : List ℕ → ℕ → Reply
 replyTo s room = replyFor s (verdict s room)
 

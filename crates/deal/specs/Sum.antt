@@ -8,5 +8,5 @@ sum f zero = 0
 sum f (suc n) = sum f n + f n
 
 -- x where it counts, and 0 where not
-abbrev pub where-counted : Bool → ℕ → ℕ
-where-counted counts x = cond counts x 0
+abbrev pub whereCounted : Bool → ℕ → ℕ
+whereCounted counts x = cond counts x 0

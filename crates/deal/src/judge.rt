@@ -4,7 +4,7 @@ ghost use mathlib.Core.Path.{_≡_};
 ghost use Prim.Native.Nat.{_+_, _*_, _-_, _<_};
 ghost use lib.ListN.{length};
 ghost use Rattle.deal.specs.DealSheet.{poolAt, rows, rowAt, tranchesAt, trancheCount, trancheAt, class, needed};
-ghost use Rattle.deal.specs.Refusals.{unless, within, countFault, factFault, statusAllowed, rowFault, classInOrder, trancheFault, judgeWith, orElse, judged, wordsVerdict, roomFault};
+ghost use Rattle.deal.specs.Refusals.{unless, within, countFault, factFault, statusAllowed, rowFault, classInOrder, trancheFault, judgeWith, orElse, judged, wordsVerdict, roomVerdict};
 ghost use Rattle.deal.specs.declared.Verdict.the-variants.{Sound};
 use crate::Refusal;
 use crate::Verdict;
@@ -98,9 +98,9 @@ fn class_in_order(i: u64, before: u64, w: u64) -> bool
     w - 1 == before
 }
 
-// The fault of a tranche row's word, by its column; whole is the tranche's amount.
-fn tranche_fault(i: u64, before: u64, whole: u64, column: u64, w: u64) -> u64
-    ensures { λ r. ⌜ r ≡ trancheFault i before whole column w ⌝ }
+// The fault of a tranche row's word, by its column.
+fn tranche_fault(i: u64, before: u64, amount: u64, column: u64, w: u64) -> u64
+    ensures { λ r. ⌜ r ≡ trancheFault i before amount column w ⌝ }
 {
     if column == 0 {
         return unless(8, within(1, TRANCHE_AMOUNT, w));
@@ -112,7 +112,7 @@ fn tranche_fault(i: u64, before: u64, whole: u64, column: u64, w: u64) -> u64
         return unless(10, within(1, 1200, w));
     }
     if column == 3 {
-        return unless(8, w <= whole);
+        return unless(8, w <= amount);
     }
     unless(11, ratings::is_listed(w))
 }
@@ -219,11 +219,15 @@ fn judge_tranche(s: &[u64], i: u64) -> Verdict
 {
     let at = tranche_at(s, i);
     let before = class_before(s, i);
-    let whole = word_at(s, at);
+    let amount = word_at(s, at);
     let mut column = 0;
     while column < 7 {
         let p = at + column;
-        let verdict = judge_word(s, p, tranche_fault(i, before, whole, column, word_at(s, p)));
+        let verdict = judge_word(
+            s,
+            p,
+            tranche_fault(i, before, amount, column, word_at(s, p)),
+        );
         let Verdict::Sound = verdict else {
             return verdict;
         };
@@ -283,7 +287,7 @@ fn judge_words(s: &[u64]) -> Verdict
 
 // What is judged before the tranches' thickness: the words, and then the room for results.
 pub(crate) fn judge_loading(s: &[u64], room: u64) -> Verdict
-    ensures { λ r. ⌜ r ≡ orElse (wordsVerdict (now (s .entry))) (roomFault (now (s .entry)) room) ⌝ }
+    ensures { λ r. ⌜ r ≡ orElse (wordsVerdict (now (s .entry))) (roomVerdict (now (s .entry)) room) ⌝ }
 {
     let words = judge_words(s);
     let Verdict::Sound = words else {

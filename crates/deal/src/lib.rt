@@ -64,18 +64,19 @@ pub(crate) struct Tranche {
     pub(crate) third: u64,
 }
 
-// A tranche's line, as its six words.
+// A tranche's line, as its six words; rwa is the risk-weighted amount.
 pub(crate) struct Line {
     pub(crate) approach: u64,
     pub(crate) attachment: u64,
     pub(crate) detachment: u64,
     pub(crate) weight: u64,
-    pub(crate) amount: u64,
+    pub(crate) rwa: u64,
     pub(crate) capital: u64,
 }
 
 // Weighs every tranche of a deal sheet: six words per tranche into the results, later words untouched; or one refusal, with the results as they
-// were. Everything is decided before the first word is written.
+// were. Everything is decided before the first word is written. Where 01 leaves the formula's raw weight open, its limits are DemandThree
+// (specs/DemandThree.antt), which holds of these results (demand-three).
 pub fn weigh(sheet: &[u64], results: &mut [u64]) -> Answer
     ensures { λ r. ⌜ replyOf r ≡ replyTo (now (sheet .entry)) (length (now (results .entry))) ⌝ }
     ensures { λ r. ⌜ now (results .exit) ≡ resultsAfter (now (sheet .entry)) (now (results .entry)) ⌝ }

@@ -27,7 +27,7 @@ fn put_line(line: Line, at: usize, results: &mut [u64])
     results[at + 1] = line.attachment;
     results[at + 2] = line.detachment;
     results[at + 3] = line.weight;
-    results[at + 4] = line.amount;
+    results[at + 4] = line.rwa;
     results[at + 5] = line.capital;
 }
 
@@ -43,7 +43,7 @@ fn line_of(s: &[u64], d: Terms, i: u64) -> Line
         attachment: t.attachment,
         detachment: t.detachment,
         weight: w,
-        amount: risk_weighted_amount(t.held, w),
+        rwa: risk_weighted_amount(t.held, w),
         capital: capital(t.held, w),
     }
 }

@@ -2,8 +2,9 @@
 ghost use mathlib.Core.Path.{_≡_};
 ghost use Prim.Native.Nat.{_+_, _<_};
 ghost use Rattle.deal.specs.DealSheet.{rows, needed};
-ghost use Rattle.deal.specs.PointsAndCharge.{SumLimits, sumsTo, poolSums, baseCharge, lateShare, knownCharge, mostlyKnown, poolCharge};
-ghost use Rattle.deal.specs.Sum.{where-counted};
+ghost use Rattle.deal.specs.PointsAndCharge.{sumsTo, poolSums, baseCharge, lateShare, knownCharge, mostlyKnown, poolCharge};
+ghost use Rattle.deal.specs.SumLimits.{SumLimits};
+ghost use Rattle.deal.specs.Sum.{whereCounted};
 ghost use Rattle.deal.specs.ApproachFloorCap.{poolAverage, terms};
 ghost use Rattle.deal.specs.Refusals.{judged};
 ghost use Rattle.deal.specs.declared.Verdict.the-variants.{Sound};
@@ -20,7 +21,7 @@ const MILLION: u64 = 1000000;
 
 // x where it counts, and 0 where not.
 fn where_counted(counts: bool, x: u64) -> u64
-    ensures { λ r. ⌜ r ≡ where-counted counts x ⌝ }
+    ensures { λ r. ⌜ r ≡ whereCounted counts x ⌝ }
 {
     if counts { x } else { 0 }
 }

@@ -5,7 +5,7 @@ ghost use Prim.Native.Nat.{_+_, _≤_, _<_};
 ghost use Rattle.deal.specs.DealSheet.{trancheCount, needed};
 ghost use Rattle.deal.specs.PointsAndCharge.{seniorAmount, point};
 ghost use Rattle.deal.specs.ApproachFloorCap.{terms, tranche, rated, approach, parameter, floor, capApplies, afterFloorAndCap, formulaRawWeight, tableWeight, weight, riskWeightedAmount, capital, thin};
-ghost use Rattle.deal.specs.Refusals.{judged, thinFault, firstOf};
+ghost use Rattle.deal.specs.Refusals.{judged, thinVerdict, firstOf};
 ghost use Rattle.deal.specs.declared.Verdict.the-variants.{Sound};
 use crate::Refusal;
 use crate::Terms;
@@ -240,7 +240,7 @@ fn is_thin(t: Tranche, d: Terms) -> bool
 // The first tranche that is too thin for the formula.
 pub(crate) fn judge_thickness(s: &[u64], d: Terms) -> Verdict
     requires { ⌜ (judged (now s) (needed (now s)) ≡ Sound) × (d ≡ terms (now s)) ⌝ }
-    ensures { λ r. ⌜ r ≡ firstOf (λ i. thinFault (now (s .entry)) i) (trancheCount (now (s .entry))) ⌝ }
+    ensures { λ r. ⌜ r ≡ firstOf (λ i. thinVerdict (now (s .entry)) i) (trancheCount (now (s .entry))) ⌝ }
 {
     let tranches = tranche_count(s);
     let mut i = 0;

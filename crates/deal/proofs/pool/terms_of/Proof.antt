@@ -1,6 +1,6 @@
 -- `terms_of`: the sums of an accepted sheet are within their limits, which the charge and the average ask. No axioms.
 use borrow.Author.Needs.{needs}
-use Rattle.deal.specs.PointsAndCharge.{SumLimits}
+use Rattle.deal.specs.SumLimits.{SumLimits}
 use Rattle.deal.specs.ApproachFloorCap.{terms}
 use Rattle.deal.proofs.PoolLaws.{sum-limits}
 use Rattle.deal.proofs.pool.terms_of.Statement.{statement}

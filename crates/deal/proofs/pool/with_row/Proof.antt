@@ -8,7 +8,7 @@ use native.Mathlib.Omega.{arith}
 use lib.Dec.{eqb}
 use borrow.Author.Needs.{needs}
 use Rattle.deal.specs.DealSheet.{exposure, nominal, riskWeight, status}
-use Rattle.deal.specs.PointsAndCharge.{SumLimits}
+use Rattle.deal.specs.SumLimits.{SumLimits}
 use Rattle.deal.specs.declared.Sums.{Sums}
 use Rattle.deal.proofs.PoolLaws.{counted-at-most, sum-limits-to, nominal-most-to}
 use Rattle.deal.proofs.SheetLimits.{row-limits, rows-within, pool-counted, pool-at-five, accepted-to}

@@ -8,7 +8,7 @@ use native.Mathlib.Omega.{arith}
 use borrow.Author.Needs.{needs}
 use Rattle.deal.specs.DealSheet.{trancheCount, trancheAt}
 use Rattle.deal.specs.ApproachFloorCap.{terms, tranche, thin}
-use Rattle.deal.specs.Refusals.{refused, thinFault, firstOf}
+use Rattle.deal.specs.Refusals.{refused, thinVerdict, firstOf}
 use Rattle.deal.specs.declared.Verdict.the-variants.{Sound}
 use Rattle.deal.proofs.FirstFault.{first-of-next, first-of-stays}
 use Rattle.deal.proofs.SheetLimits.{pool-counted, tranches-counted, tranches-within}
@@ -18,20 +18,20 @@ use Rattle.deal.proofs.tranches.judge_thickness.Tie as tie
 -- ---- the next tranche, where none before it is too thin
 
 next-sound :
-    (s : List ℕ) (i : ℕ) → thin (tranche s i) (terms s) ≡ false → firstOf (λ i. thinFault s i) i ≡ Sound →
-    firstOf (λ i. thinFault s i) (i + 1) ≡ Sound
-next-sound s i thick before = first-of-next (λ i. thinFault s i) i before ∙ rw thick
+    (s : List ℕ) (i : ℕ) → thin (tranche s i) (terms s) ≡ false → firstOf (λ i. thinVerdict s i) i ≡ Sound →
+    firstOf (λ i. thinVerdict s i) (i + 1) ≡ Sound
+next-sound s i thick before = first-of-next (λ i. thinVerdict s i) i before ∙ rw thick
 
 next-faulty :
-    (s : List ℕ) (i place : ℕ) → thin (tranche s i) (terms s) ≡ true → firstOf (λ i. thinFault s i) i ≡ Sound → i < trancheCount s →
-    place ≡ trancheAt s i → refused 13 place ≡ firstOf (λ i. thinFault s i) (trancheCount s)
+    (s : List ℕ) (i place : ℕ) → thin (tranche s i) (terms s) ≡ true → firstOf (λ i. thinVerdict s i) i ≡ Sound → i < trancheCount s →
+    place ≡ trancheAt s i → refused 13 place ≡ firstOf (λ i. thinVerdict s i) (trancheCount s)
 next-faulty s i place found before row place-is =
     sym
-    (first-of-stays (λ i. thinFault s i) (i + 1) (trancheCount s) (record { number = 13; place = place }) (omega arith)
-    (first-of-next (λ i. thinFault s i) i before ∙ rw (found, place-is)))
+    (first-of-stays (λ i. thinVerdict s i) (i + 1) (trancheCount s) (record { number = 13; place = place }) (omega arith)
+    (first-of-next (λ i. thinVerdict s i) i before ∙ rw (found, place-is)))
 
 abbrev Inv-loop : tie.InvT-loop
-Inv-loop s d tranches i₀ i = (i ≤ trancheCount s) × (firstOf (λ i. thinFault s i) i ≡ Sound)
+Inv-loop s d tranches i₀ i = (i ≤ trancheCount s) × (firstOf (λ i. thinVerdict s i) i ≡ Sound)
 
 abbrev μ-loop : tie.MeasureT-loop
 μ-loop s d tranches i₀ i = tranches - i

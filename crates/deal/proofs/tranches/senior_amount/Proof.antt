@@ -9,7 +9,7 @@ use lib.Dec.{ltb}
 use borrow.Author.Needs.{needs}
 use borrow.Author.Tests.{lt-ltb, le-ltb}
 use Rattle.deal.specs.DealSheet.{word, trancheCount, amount, class, needed}
-use Rattle.deal.specs.Sum.{sum, where-counted}
+use Rattle.deal.specs.Sum.{sum, whereCounted}
 use Rattle.deal.specs.PointsAndCharge.{seniorAmount}
 use Rattle.deal.specs.Refusals.{judged}
 use Rattle.deal.specs.declared.Verdict.the-variants.{Sound}
@@ -21,7 +21,7 @@ use Rattle.deal.proofs.tranches.senior_amount.Tie as tie
 
 -- the amount of tranche j where it is senior to the class, and 0 where not
 abbrev senior : List ℕ → ℕ → ℕ → ℕ
-senior s below j = where-counted (ltb (class s j) below) (amount s j)
+senior s below j = whereCounted (ltb (class s j) below) (amount s j)
 
 senior-sum-at-most :
     (s : List ℕ) (below j : ℕ) → judged s (needed s) ≡ Sound → j ≤ trancheCount s → sum (senior s below) j ≤ 10000000000000 * j
