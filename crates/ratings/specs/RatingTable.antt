@@ -1,5 +1,6 @@
--- 01, "The rating table" (CRE42, SEC-ERBA; source document 001): grades, tranche maturity, and the weight by a rating. Figures are in percent,
--- a weight in hundredths of a percent, a thickness in millionths, months are those of the final legal maturity.
+-- 01, "The rating table" (source document 001: CRE42.2 for short-term grades, CRE42.4 for the table, CRE42.5 for maturity and thickness, CRE42.7 for
+-- the comparison with the senior figure, CRE42.8 for several ratings; CRE40.22 and CRE40.23 for the tranche maturity). Figures are in percent, a
+-- weight in hundredths of a percent, a thickness in millionths; months are those of the final legal maturity.
 use mathlib.Core.Bool.{Bool, cond, _&&_, _||_}
 use mathlib.Core.List.{List, [], _∷_}
 use Prim.Native.Nat.{ℕ, _+_, _*_, _-_, min, max}
