@@ -1,12 +1,12 @@
 -- The verdict on a sheet in the order in which it is found, and what answer and results it makes. No axioms.
 use mathlib.Core.List.{List, _++_}
-use mathlib.Core.Path.{_≡_, refl, _∙_, sym, ap}
+use mathlib.Core.Path.{_≡_, refl, _∙_, sym}
 use Prim.Native.Nat.{ℕ, _*_, _≤_}
 use lib.ListN.{length, drop}
 use Rattle.deal.specs.DealSheet.{trancheCount, needed}
 use Rattle.deal.specs.ApproachFloorCap.{terms}
 use Rattle.deal.specs.Refusals.{orElse, firstOf, judged, wordsFollow, thinVerdict, wordsVerdict, roomVerdict, verdict}
-use Rattle.deal.specs.Results.{Reply, replyOf, replyTo, lines, resultsAfter}
+use Rattle.deal.specs.Results.{replyOf, replyTo, lines, resultsAfter}
 use Rattle.deal.specs.declared.Answer.the-variants.{Weighed, Refused}
 use Rattle.deal.specs.declared.Refusal.{Refusal}
 use Rattle.deal.specs.declared.Verdict.{Verdict}

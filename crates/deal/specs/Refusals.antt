@@ -7,7 +7,6 @@ use lib.ListN.{length}
 use Rattle.ratings.specs.RatingTable.{listed}
 use Rattle.deal.specs.DealSheet.{word, resecuritisation, poolAt, tranchesAt, trancheCount, trancheAt, amount, class, needed}
 use Rattle.deal.specs.ApproachFloorCap.{terms, tranche, thin}
-use Rattle.deal.specs.declared.Refusal.{Refusal}
 use Rattle.deal.specs.declared.Verdict.{Verdict}
 use Rattle.deal.specs.declared.Verdict.the-variants.{Sound, Faulty}
 

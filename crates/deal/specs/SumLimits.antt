@@ -1,6 +1,6 @@
 -- Limits on a pool's sums, which the functions on them need so that nothing overflows. No reader has to trust this file: `sum-limits`
 -- (proofs/PoolLaws.antt) says that the sums of every sheet whose words are good keep them.
-use Prim.Native.Nat.{ℕ, _*_, _≤_}
+use Prim.Native.Nat.{_*_, _≤_}
 use Rattle.deal.specs.declared.Sums.{Sums}
 
 -- rows of known status are among all rows and delinquent ones among those of known status, no risk weight is above 1250, and no amount that is

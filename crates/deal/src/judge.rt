@@ -1,7 +1,6 @@
 // The judgement of a sheet's words, from place 0 upward; then words that follow, then the room for results. Nothing is written here.
-ghost use mathlib.Core.Bool.{Bool};
 ghost use mathlib.Core.Path.{_≡_};
-ghost use Prim.Native.Nat.{_+_, _*_, _-_, _<_};
+ghost use Prim.Native.Nat.{_+_, _-_, _<_};
 ghost use lib.ListN.{length};
 ghost use Rattle.deal.specs.DealSheet.{poolAt, rows, rowAt, tranchesAt, trancheCount, trancheAt, class, needed};
 ghost use Rattle.deal.specs.Refusals.{unless, within, countFault, factFault, statusAllowed, rowFault, classInOrder, trancheFault, judgeWith, orElse, judged, wordsVerdict, roomVerdict};

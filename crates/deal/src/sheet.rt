@@ -1,6 +1,6 @@
 // Where the words of a sheet stand. A place is worked out only once the counts before it are good.
 ghost use mathlib.Core.Path.{_≡_};
-ghost use Prim.Native.Nat.{_+_, _*_, _≤_};
+ghost use Prim.Native.Nat.{_+_, _≤_};
 ghost use Rattle.deal.specs.DealSheet.{word, poolAt, rows, rowAt, tranchesAt, trancheCount, trancheAt};
 ghost use Rattle.deal.specs.Refusals.{judged};
 ghost use Rattle.deal.specs.declared.Verdict.the-variants.{Sound};

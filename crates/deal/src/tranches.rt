@@ -1,5 +1,4 @@
 // A tranche: its points, approach, weight and amounts.
-ghost use mathlib.Core.Bool.{Bool};
 ghost use mathlib.Core.Path.{_≡_};
 ghost use Prim.Native.Nat.{_+_, _≤_, _<_};
 ghost use Rattle.deal.specs.DealSheet.{trancheCount, needed};

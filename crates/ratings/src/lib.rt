@@ -1,6 +1,5 @@
-ghost use mathlib.Core.Bool.{Bool, true, false};
 ghost use mathlib.Core.Path.{_≡_};
-ghost use Prim.Native.Nat.{_+_, _*_, _-_, _≤_, _<_, min, max};
+ghost use Prim.Native.Nat.{_+_, _≤_, _<_};
 ghost use Rattle.ratings.specs.RatingTable.{ratingTable, figure, longTerm, shortTerm, present, listed, maturityFifths, linear, longTermExact, shortTermExact, exactWeight, weightByRating, weightByRatings};
 
 mod table;

@@ -1,7 +1,7 @@
 -- `write_lines`: after i turns the results are the first i lines and the rest of what was there. No axioms.
 use mathlib.Core.List.{_++_}
 use mathlib.Core.Path.{_≡_, _∙_, ap}
-use Prim.Native.Nat.{_+_, _*_, _-_, _≤_}
+use Prim.Native.Nat.{_*_, _-_, _≤_}
 use native.Mathlib.Omega.{arith}
 use borrow.Author.Needs.{needs}
 use lib.ListN.{length, drop}
