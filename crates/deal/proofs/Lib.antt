@@ -8,6 +8,7 @@ pub mod SumPermuted
 pub mod PoolLaws
 pub mod ChargeLaws
 pub mod PointLaws
+pub mod SeniorAmountsLaw
 pub mod WeightLaws
 pub mod LineLaws
 pub mod DemandThreeLaw

@@ -4,6 +4,7 @@ pub mod Judged
 pub mod Sum
 pub mod PointsAndCharge
 pub mod SumLimits
+pub mod SeniorAmounts
 pub mod ApproachFloorCap
 pub mod Results
 pub mod DemandThree

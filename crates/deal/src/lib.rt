@@ -86,11 +86,12 @@ pub fn weigh(sheet: &[u64], results: &mut [u64]) -> Answer
         return Answer::Refused(r);
     }
     let terms = pool::terms_of(sheet);
-    let thickness = tranches::judge_thickness(sheet, terms);
+    let senior = tranches::senior_amounts(sheet);
+    let thickness = tranches::judge_thickness(sheet, terms, senior);
     if let Verdict::Faulty(r) = thickness {
         return Answer::Refused(r);
     }
-    lines::write_lines(sheet, terms, results);
+    lines::write_lines(sheet, terms, senior, results);
     Answer::Weighed {
         count: sheet::tranche_count(sheet),
         charge: terms.charge,

@@ -2,8 +2,9 @@
 ghost use mathlib.Core.Path.{_≡_};
 ghost use Prim.Native.Nat.{_+_, _≤_, _<_};
 ghost use Rattle.deal.specs.DealSheet.{trancheCount, needed};
-ghost use Rattle.deal.specs.PointsAndCharge.{seniorAmount, point};
+ghost use Rattle.deal.specs.PointsAndCharge.{point};
 ghost use Rattle.deal.specs.ApproachFloorCap.{terms, tranche, rated, approach, parameter, floor, capApplies, afterFloorAndCap, formulaRawWeight, tableWeight, weight, riskWeightedAmount, capital, thin};
+ghost use Rattle.deal.specs.SeniorAmounts.{SeniorAmounts};
 ghost use Rattle.deal.specs.Refusals.{judged, thinVerdict, firstOf};
 ghost use Rattle.deal.specs.declared.Verdict.the-variants.{Sound};
 use crate::Refusal;
@@ -39,22 +40,24 @@ impl Resecuritisation {
 // 1250%, the highest weight and that of the fallback.
 const HIGHEST: u64 = 125000;
 
-// The amounts of the tranches of a class below this one, which are senior to it.
-fn senior_amount(s: &[u64], class: u64) -> u64
+// The amounts senior to each class: at c, those of the tranches of a class below c, for c up to one more than the last class. Classes rise by at
+// most one from row to row, so one pass in the rows' order fills every place. There are at most 32 classes.
+pub(crate) fn senior_amounts(s: &[u64]) -> [u64; 34]
     requires { ⌜ judged (now s) (needed (now s)) ≡ Sound ⌝ }
-    ensures { λ r. ⌜ r ≡ seniorAmount (now (s .entry)) class ⌝ }
+    ensures { λ r. ⌜ SeniorAmounts (now (s .entry)) r ⌝ }
 {
     let tranches = tranche_count(s);
+    let mut amounts = [0u64; 34];
     let mut sum = 0;
     let mut j = 0;
     while j < tranches {
         let at = tranche_at(s, j);
-        if word_at(s, at + 1) < class {
-            sum += word_at(s, at);
-        }
+        let class = word_at(s, at + 1);
+        sum += word_at(s, at);
+        amounts[(class + 1) as usize] = sum;
         j += 1;
     }
-    sum
+    amounts
 }
 
 // What is left of the pool's nominal beneath an amount of more senior tranches, as a share of it in millionths, rounded down.
@@ -66,15 +69,15 @@ fn point(nominal: u64, amount: u64) -> u64
 }
 
 // What is tranche i's own.
-pub(crate) fn tranche_of(s: &[u64], d: Terms, i: u64) -> Tranche
-    requires { ⌜ (judged (now s) (needed (now s)) ≡ Sound) × (d ≡ terms (now s)) × (i < trancheCount (now s)) ⌝ }
+pub(crate) fn tranche_of(s: &[u64], d: Terms, senior: [u64; 34], i: u64) -> Tranche
+    requires { ⌜ (judged (now s) (needed (now s)) ≡ Sound) × (d ≡ terms (now s)) × SeniorAmounts (now s) senior × (i < trancheCount (now s)) ⌝ }
     ensures { λ r. ⌜ r ≡ tranche (now (s .entry)) i ⌝ }
 {
     let at = tranche_at(s, i);
     let class = word_at(s, at + 1);
     Tranche {
-        attachment: point(d.nominal, senior_amount(s, class + 1)),
-        detachment: point(d.nominal, senior_amount(s, class)),
+        attachment: point(d.nominal, senior[(class + 1) as usize]),
+        detachment: point(d.nominal, senior[class as usize]),
         senior: class == 1,
         months: word_at(s, at + 2),
         held: word_at(s, at + 3),
@@ -237,14 +240,14 @@ fn is_thin(t: Tranche, d: Terms) -> bool
 }
 
 // The first tranche that is too thin for the formula.
-pub(crate) fn judge_thickness(s: &[u64], d: Terms) -> Verdict
-    requires { ⌜ (judged (now s) (needed (now s)) ≡ Sound) × (d ≡ terms (now s)) ⌝ }
+pub(crate) fn judge_thickness(s: &[u64], d: Terms, senior: [u64; 34]) -> Verdict
+    requires { ⌜ (judged (now s) (needed (now s)) ≡ Sound) × (d ≡ terms (now s)) × SeniorAmounts (now s) senior ⌝ }
     ensures { λ r. ⌜ r ≡ firstOf (λ i. thinVerdict (now (s .entry)) i) (trancheCount (now (s .entry))) ⌝ }
 {
     let tranches = tranche_count(s);
     let mut i = 0;
     while i < tranches {
-        if is_thin(tranche_of(s, d, i), d) {
+        if is_thin(tranche_of(s, d, senior, i), d) {
             return Verdict::Faulty(Refusal {
                 number: 13,
                 place: tranche_at(s, i),

@@ -22,17 +22,25 @@ enum-told c = search needs
 terms-of-requires : tie.Need-terms-of-requires
 terms-of-requires c κs = words-good _ _ (c .enum-told .given .1) (c .before .before .judge-loading .ensures)
 
+senior-amounts-requires : tie.Need-senior-amounts-requires
+senior-amounts-requires c κs =
+    let told = c .before in
+    words-good _ _ (told .enum-told .given .1) (told .before .before .judge-loading .ensures)
+
 judge-thickness-requires : tie.Need-judge-thickness-requires
 judge-thickness-requires c κs =
-    let told = c .before in
-    (words-good _ _ (told .enum-told .given .1) (told .before .before .judge-loading .ensures), c .terms-of .ensures)
+    let told = c .before .before in (
+      words-good _ _ (told .enum-told .given .1) (told .before .before .judge-loading .ensures),
+      c .before .terms-of .ensures,
+      c .senior-amounts .ensures,
+    )
 
 enum-known-thickness : tie.Need-enum-known-thickness
 enum-known-thickness c = search needs
 
 returns-2 : tie.Need-returns-2
 returns-2 c =
-    let told = c .before .before .before .before .before in
+    let told = c .before .before .before .before .before .before in
     refused-answer _ _
     (decided-by-thickness _ _ (told .enum-told .given .1) (told .before .before .judge-loading .ensures)
     (c .before .before .before .judge-thickness .ensures) ∙
@@ -43,16 +51,18 @@ enum-told-2 c = search needs
 
 write-lines-requires : tie.Need-write-lines-requires
 write-lines-requires c κs =
-    let told = c .before .before .before .before .before in
+    let table = c .before .before .before .before in
+    let told = table .before .before in
     let loaded = told .before .before .judge-loading .ensures in (
       words-good _ _ (told .enum-told .given .1) loaded,
-      c .before .before .before .before .terms-of .ensures,
+      table .before .terms-of .ensures,
+      table .senior-amounts .ensures,
       room-good _ _ (told .enum-told .given .1) loaded,
     )
 
 tranche-count-requires : tie.Need-tranche-count-requires
 tranche-count-requires c κs =
-    let told = c .before .before .before .before .before .before .before .before in
+    let told = c .before .before .before .before .before .before .before .before .before in
     pool-counted _ (words-good _ _ (told .enum-told .given .1) (told .before .before .judge-loading .ensures))
 
 same-length : tie.Need-same-length
@@ -61,12 +71,12 @@ same-length c = search needs
 returns-3 : tie.Need-returns-3
 returns-3 c =
     let thickness = c .before .before .before .before .before in
-    let told = thickness .before .before .before .before in
+    let told = thickness .before .before .before .before .before in
     weighed-answer _ _
     (decided-by-thickness _ _ (told .enum-told .given .1) (told .before .before .judge-loading .ensures) (thickness .before .before .judge-thickness .ensures) ∙
     thickness .enum-told2 .given .1)
     (c .tranche-count .ensures)
-    (ap (λ (d : Terms). d .charge) (thickness .before .before .before .terms-of .ensures))
+    (ap (λ (d : Terms). d .charge) (thickness .before .before .before .before .terms-of .ensures))
     (c .before .before .before .write-lines .ensures)
 
 pub weigh-spec : {M : Type 1} → statement M
@@ -78,6 +88,7 @@ weigh-spec =
     returns
     enum-told
     terms-of-requires
+    senior-amounts-requires
     judge-thickness-requires
     enum-known-thickness
     returns-2

@@ -26,7 +26,7 @@ within :
 unfolding tranche
 within c =
     let start = c .before .before .before in
-    let limits = tranche-limits (start .args .s .now) (start .args .i) (start .pre .0) (start .pre .2) in (
+    let limits = tranche-limits (start .args .s .now) (start .args .i) (start .pre .0) (start .pre .3) in (
       omega (arith, ap (λ (t : Tranche). t .held) (c .before .tranche-of .ensures), limits),
       rw (c .weight .ensures) (weight-at-most _ _),
     )

@@ -13,11 +13,11 @@ use Rattle.deal.proofs.lines.write_lines.Statement.{statement}
 use Rattle.deal.proofs.lines.write_lines.Tie as tie
 
 abbrev Inv-loop : tie.InvT-loop
-Inv-loop s d results₀ tranches i₀ results i =
+Inv-loop s d senior results₀ tranches i₀ results i =
     (i ≤ trancheCount s) × (results ≡ lines s i ++ drop (6 * i) results₀)
 
 abbrev μ-loop : tie.MeasureT-loop
-μ-loop s d results₀ tranches i₀ results i = tranches - i
+μ-loop s d senior results₀ tranches i₀ results i = tranches - i
 
 tranche-count-requires : tie.Need-tranche-count-requires Inv-loop μ-loop
 tranche-count-requires c κs = pool-counted _ (c .before .before .pre .0)
@@ -28,7 +28,7 @@ loop-holds c = (omega arith, lines-none _ _)
 line-of-requires : tie.Need-line-of-requires Inv-loop μ-loop
 line-of-requires c κs =
     let start = c .before .before .before .before .before in
-    (start .pre .0, start .pre .1, omega arith)
+    (start .pre .0, start .pre .1, start .pre .2, omega arith)
 
 mul-put-line : tie.Need-mul-put-line Inv-loop μ-loop
 mul-put-line c = search needs
