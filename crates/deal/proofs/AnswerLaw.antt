@@ -4,7 +4,7 @@ use mathlib.Core.Path.{_≡_, _∙_, sym, ap}
 use Prim.Native.Nat.{ℕ}
 use native.Mathlib.Omega.{arith}
 use Rattle.deal.specs.DealSheet.{trancheCount}
-use Rattle.deal.specs.ApproachFloorCap.{terms}
+use Rattle.deal.specs.Lines.{terms}
 use Rattle.deal.specs.Refusals.{verdict}
 use Rattle.deal.specs.Results.{Reply, replyOf, replyTo}
 use Rattle.deal.specs.declared.Answer.{Answer}

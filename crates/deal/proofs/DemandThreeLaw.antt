@@ -16,17 +16,18 @@ use Rattle.formula.specs.declared.RawWeight.the-variants.{Weight}
 use Rattle.formula.proofs.RawWeightLaw.{raw-weight-is}
 use Rattle.deal.specs.DealSheet.{resecuritisation, trancheCount, needed}
 use Rattle.deal.specs.PointsAndCharge.{attachmentPoint, detachmentPoint}
-use Rattle.deal.specs.ApproachFloorCap.{terms, tranche, approach, parameter, afterFloorAndCap, numberOf, formulaRawWeight, weight, line, lineWords, thin}
+use Rattle.weights.specs.ApproachFloorCap.{approach, parameter, afterFloorAndCap, numberOf, formulaRawWeight, weight, thin}
+use Rattle.deal.specs.Lines.{terms, tranche, line, lineWords}
 use Rattle.deal.specs.DemandThree.{rawWeightOf, DemandThree}
 use Rattle.deal.specs.Refusals.{judged, verdict}
-use Rattle.deal.specs.declared.Terms.{Terms}
-use Rattle.deal.specs.declared.Tranche.{Tranche}
+use Rattle.weights.specs.declared.Terms.{Terms}
+use Rattle.weights.specs.declared.Tranche.{Tranche}
 use Rattle.deal.specs.declared.Verdict.the-variants.{Sound}
 use Rattle.deal.proofs.PointLaws.{attachment-at-most-detachment, detachment-at-most-million}
 use Rattle.deal.proofs.PoolLaws.{charge-at-most-million}
 use Rattle.deal.proofs.JudgedLaws.{accepted-means, accepted-judged}
 use Rattle.deal.proofs.LineLaws.{results-line}
-use Rattle.deal.proofs.WeightLaws.{formula-weight}
+use Rattle.weights.proofs.WeightLaws.{formula-weight}
 
 -- ---- no accepted tranche is too thin
 

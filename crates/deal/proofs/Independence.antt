@@ -7,7 +7,7 @@ use native.Mathlib.Omega.{arith}
 use lib.ListN.{length, getD}
 use Rattle.deal.specs.DealSheet.{word, rowAt, tranchesAt, trancheCount, trancheAt, needed}
 use Rattle.deal.specs.PointsAndCharge.{poolSums}
-use Rattle.deal.specs.ApproachFloorCap.{terms, tranche, lineWords}
+use Rattle.deal.specs.Lines.{terms, tranche, lineWords}
 use Rattle.deal.specs.Refusals.{judged, verdict}
 use Rattle.deal.specs.Results.{resultsAfter}
 use Rattle.deal.specs.OtherRatings.{SameButOtherRatings}

@@ -13,7 +13,8 @@ use borrow.Author.Tests.{ltb-true, ltb-false, eqb-false, lt-ltb, le-ltb, eq-eqb,
 use Rattle.numbers.proofs.Tests.{at-cond}
 use Rattle.ratings.specs.RatingTable.{listed}
 use Rattle.deal.specs.DealSheet.{word, resecuritisation, poolAt, tranchesAt, trancheCount, trancheAt, amount, class, needed}
-use Rattle.deal.specs.ApproachFloorCap.{terms, tranche, thin}
+use Rattle.weights.specs.ApproachFloorCap.{thin}
+use Rattle.deal.specs.Lines.{terms, tranche}
 use Rattle.deal.specs.Refusals.{unless, within, factFault, statusAllowed, rowFault, classInOrder, trancheFault, rowOf, columnOf, fault, refused, judgeWith, judge, orElse, firstOf, judged, wordsFollow, roomVerdict, thinVerdict, wordsVerdict, verdict}
 use Rattle.deal.specs.Judged.{GoodWord, GoodBelow, BadHere, bad, missing, FirstBad, WordsGood, WordsRefusal, first-bad, words-follow, TrancheThin, Why, by-words, by-room, by-thinness, Accepted}
 use Rattle.deal.specs.declared.Refusal.{Refusal}

@@ -9,7 +9,6 @@ pub mod PoolLaws
 pub mod ChargeLaws
 pub mod PointLaws
 pub mod SeniorAmountsLaw
-pub mod WeightLaws
 pub mod LineLaws
 pub mod DemandThreeLaw
 pub mod SameTerms

@@ -9,12 +9,12 @@ use native.Mathlib.Omega.{arith}
 use lib.ListN.{length, getD, drop, length-append, length-drop, List·getD-append}
 use lib.Seq.{getD-append-add, getD-drop}
 use Rattle.deal.specs.DealSheet.{trancheCount}
-use Rattle.deal.specs.ApproachFloorCap.{terms, tranche, lineWords}
+use Rattle.deal.specs.Lines.{terms, tranche, lineWords}
 use Rattle.deal.specs.Refusals.{verdict}
 use Rattle.deal.specs.Results.{lines, resultsFor, resultsAfter}
 use Rattle.deal.specs.declared.Refusal.{Refusal}
-use Rattle.deal.specs.declared.Terms.{Terms}
-use Rattle.deal.specs.declared.Tranche.{Tranche}
+use Rattle.weights.specs.declared.Terms.{Terms}
+use Rattle.weights.specs.declared.Tranche.{Tranche}
 use Rattle.deal.specs.declared.Verdict.{Verdict}
 use Rattle.deal.specs.declared.Verdict.the-variants.{Sound, Faulty}
 use Rattle.deal.proofs.JudgedLaws.{accepted-means}

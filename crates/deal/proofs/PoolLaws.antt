@@ -13,7 +13,7 @@ use Rattle.deal.specs.DealSheet.{rows, exposure, nominal, status, needed
 use Rattle.deal.specs.Sum.{whereCounted}
 use Rattle.deal.specs.PointsAndCharge.{known, delinquent, weightedExposure, sumsTo, poolSums, baseCharge, lateShare, knownCharge, unknownExposure, mostlyKnown, poolCharge}
 use Rattle.deal.specs.SumLimits.{SumLimits}
-use Rattle.deal.specs.ApproachFloorCap.{poolAverage, terms}
+use Rattle.deal.specs.Lines.{poolAverage, terms}
 use Rattle.deal.specs.Refusals.{judged}
 use Rattle.deal.specs.declared.Sums.{Sums}
 use Rattle.deal.specs.declared.Verdict.the-variants.{Sound}
@@ -121,8 +121,8 @@ pub average-at-most : (s : List ℕ) → judged s (needed s) ≡ Sound → terms
 unfolding terms
 average-at-most s accepted = pool-average-at-most (poolSums s) (sum-limits s accepted)
 
-pub nominal-within : (s : List ℕ) → judged s (needed s) ≡ Sound → (1 ≤ terms s .nominal) × (terms s .nominal ≤ 10000000000000)
-unfolding terms poolSums
+pub nominal-within : (s : List ℕ) → judged s (needed s) ≡ Sound → (1 ≤ poolSums s .all .nominal) × (poolSums s .all .nominal ≤ 10000000000000)
+unfolding poolSums
 nominal-within s accepted =
     let counts = rows-within s (pool-counted s accepted) in (
       omega (arith, sum-at-least (λ i. nominal s i) 1 (rows s) (λ i l. row-limits s i accepted l .nominal-least)),

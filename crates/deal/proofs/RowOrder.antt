@@ -10,7 +10,7 @@ use lib.ListN.{length}
 use borrow.Author.Tests.{lt-ltb}
 use Rattle.deal.specs.DealSheet.{word, resecuritisation, poolAt, rows, rowAt, tranchesAt, trancheCount, trancheAt, needed}
 use Rattle.deal.specs.PointsAndCharge.{poolSums}
-use Rattle.deal.specs.ApproachFloorCap.{terms, tranche}
+use Rattle.deal.specs.Lines.{terms, tranche}
 use Rattle.deal.specs.Refusals.{rowOf, columnOf, fault, judge, judged, verdict}
 use Rattle.deal.specs.Results.{replyTo, resultsAfter}
 use Rattle.deal.specs.Judged.{Accepted}

@@ -10,7 +10,7 @@ use lib.Dec.{ltb, eqb}
 use Rattle.deal.specs.DealSheet.{word, poolAt, rows, rowAt, exposure, nominal, riskWeight, status, tranchesAt, trancheCount, trancheAt, amount, class}
 use Rattle.deal.specs.Sum.{sum, whereCounted}
 use Rattle.deal.specs.PointsAndCharge.{poolSums, seniorAmount, attachmentPoint, detachmentPoint}
-use Rattle.deal.specs.ApproachFloorCap.{terms, tranche}
+use Rattle.deal.specs.Lines.{terms, tranche}
 use Rattle.deal.specs.OrderOfRows.{Permutation}
 use Rattle.deal.proofs.SumLaws.{sum-same}
 use Rattle.deal.proofs.SumPermuted.{sum-permuted}

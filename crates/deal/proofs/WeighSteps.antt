@@ -4,7 +4,7 @@ use mathlib.Core.Path.{_≡_, refl, _∙_, sym}
 use Prim.Native.Nat.{ℕ, _*_, _≤_}
 use lib.ListN.{length, drop}
 use Rattle.deal.specs.DealSheet.{trancheCount, needed}
-use Rattle.deal.specs.ApproachFloorCap.{terms}
+use Rattle.deal.specs.Lines.{terms}
 use Rattle.deal.specs.Refusals.{orElse, firstOf, judged, wordsFollow, thinVerdict, wordsVerdict, roomVerdict, verdict}
 use Rattle.deal.specs.Results.{replyOf, replyTo, lines, resultsAfter}
 use Rattle.deal.specs.declared.Answer.the-variants.{Weighed, Refused}

@@ -6,7 +6,7 @@ use native.Mathlib.Numerals.{add-one}
 use native.Mathlib.Omega.{arith}
 use lib.ListN.{length, drop, length-append, length-drop}
 use lib.Seq.{sets, sets-eq, take-at, drop-append-add, drop-drop}
-use Rattle.deal.specs.ApproachFloorCap.{terms, tranche, line, wordsOf, lineWords}
+use Rattle.deal.specs.Lines.{terms, tranche, line, wordsOf, lineWords}
 use Rattle.deal.specs.Results.{lines}
 use Rattle.deal.specs.declared.Line.{Line}
 use Rattle.deal.proofs.LineLaws.{length-line, length-lines}

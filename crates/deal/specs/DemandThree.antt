@@ -7,7 +7,8 @@ use lib.ListN.{getD}
 use Rattle.formula.specs.Formula.{Passes}
 use Rattle.deal.specs.DealSheet.{resecuritisation}
 use Rattle.deal.specs.PointsAndCharge.{attachmentPoint, detachmentPoint}
-use Rattle.deal.specs.ApproachFloorCap.{terms, tranche, parameter, afterFloorAndCap, formulaRawWeight}
+use Rattle.weights.specs.ApproachFloorCap.{parameter, afterFloorAndCap, formulaRawWeight}
+use Rattle.deal.specs.Lines.{terms, tranche}
 use Rattle.deal.specs.Results.{resultsAfter}
 
 -- the raw weight that tranche i gets

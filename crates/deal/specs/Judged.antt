@@ -6,7 +6,8 @@ use mathlib.Core.Path.{_≡_}
 use Prim.Native.Nat.{ℕ, _*_, _≤_, _<_}
 use lib.ListN.{length}
 use Rattle.deal.specs.DealSheet.{trancheCount, trancheAt, needed}
-use Rattle.deal.specs.ApproachFloorCap.{terms, tranche, thin}
+use Rattle.weights.specs.ApproachFloorCap.{thin}
+use Rattle.deal.specs.Lines.{terms, tranche}
 use Rattle.deal.specs.Refusals.{fault}
 use Rattle.deal.specs.declared.Refusal.{Refusal}
 

@@ -5,7 +5,7 @@ pub mod Sum
 pub mod PointsAndCharge
 pub mod SumLimits
 pub mod SeniorAmounts
-pub mod ApproachFloorCap
+pub mod Lines
 pub mod Results
 pub mod DemandThree
 pub mod OtherRatings

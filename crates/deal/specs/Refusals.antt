@@ -6,7 +6,8 @@ use lib.Dec.{leb, ltb, eqb}
 use lib.ListN.{length}
 use Rattle.ratings.specs.RatingTable.{listed}
 use Rattle.deal.specs.DealSheet.{word, resecuritisation, poolAt, tranchesAt, trancheCount, trancheAt, amount, class, needed}
-use Rattle.deal.specs.ApproachFloorCap.{terms, tranche, thin}
+use Rattle.weights.specs.ApproachFloorCap.{thin}
+use Rattle.deal.specs.Lines.{terms, tranche}
 use Rattle.deal.specs.declared.Verdict.{Verdict}
 use Rattle.deal.specs.declared.Verdict.the-variants.{Sound, Faulty}
 

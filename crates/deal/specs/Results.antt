@@ -3,7 +3,7 @@ use mathlib.Core.List.{List, [], _++_}
 use Prim.Native.Nat.{ℕ, zero, suc, _*_}
 use lib.ListN.{length, drop}
 use Rattle.deal.specs.DealSheet.{trancheCount}
-use Rattle.deal.specs.ApproachFloorCap.{terms, tranche, lineWords}
+use Rattle.deal.specs.Lines.{terms, tranche, lineWords}
 use Rattle.deal.specs.Refusals.{verdict}
 use Rattle.deal.specs.declared.Answer.{Answer}
 use Rattle.deal.specs.declared.Answer.the-variants.{Weighed, Refused}

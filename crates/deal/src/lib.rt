@@ -40,28 +40,10 @@ pub(crate) struct Sums {
     pub(crate) late: u64,
 }
 
-// What the tranches of a deal share: whether due diligence is held, whether it is a re-securitisation, whether the pool's composition is known,
-// whether the status of its rows is known but for up to 5% of exposure, its nominal, its charge, and its average risk weight.
-pub(crate) struct Terms {
-    pub(crate) diligence: bool,
-    pub(crate) resecuritisation: bool,
-    pub(crate) composition: bool,
-    pub(crate) known: bool,
+// The amounts that points are taken from: the pool's nominal, and for each class c the amounts of the tranches of a class below c.
+pub(crate) struct Amounts {
     pub(crate) nominal: u64,
-    pub(crate) charge: u64,
-    pub(crate) average: u64,
-}
-
-// What is a tranche's own: its points, whether it is of the senior class, its months to maturity, the amount held and its three ratings.
-pub(crate) struct Tranche {
-    pub(crate) attachment: u64,
-    pub(crate) detachment: u64,
-    pub(crate) senior: bool,
-    pub(crate) months: u64,
-    pub(crate) held: u64,
-    pub(crate) first: u64,
-    pub(crate) second: u64,
-    pub(crate) third: u64,
+    pub(crate) senior: [u64; 34],
 }
 
 // A tranche's line, as its six words; rwa is the risk-weighted amount.
@@ -85,13 +67,17 @@ pub fn weigh(sheet: &[u64], results: &mut [u64]) -> Answer
     if let Verdict::Faulty(r) = loaded {
         return Answer::Refused(r);
     }
-    let terms = pool::terms_of(sheet);
-    let senior = tranches::senior_amounts(sheet);
-    let thickness = tranches::judge_thickness(sheet, terms, senior);
+    let sums = pool::pool_sums(sheet);
+    let terms = pool::terms_of(sheet, sums);
+    let amounts = Amounts {
+        nominal: sums.all.nominal,
+        senior: tranches::senior_amounts(sheet),
+    };
+    let thickness = tranches::judge_thickness(sheet, terms, amounts);
     if let Verdict::Faulty(r) = thickness {
         return Answer::Refused(r);
     }
-    lines::write_lines(sheet, terms, senior, results);
+    lines::write_lines(sheet, terms, amounts, results);
     Answer::Weighed {
         count: sheet::tranche_count(sheet),
         charge: terms.charge,

@@ -5,19 +5,20 @@ ghost use Prim.Native.Nat.{_+_, _*_, _≤_, _<_};
 ghost use lib.ListN.{length, drop};
 ghost use lib.Seq.{sets};
 ghost use Rattle.deal.specs.DealSheet.{trancheCount, needed};
-ghost use Rattle.deal.specs.ApproachFloorCap.{terms, tranche, line, wordsOf};
-ghost use Rattle.deal.specs.SeniorAmounts.{SeniorAmounts};
+ghost use Rattle.deal.specs.Lines.{terms, tranche, line, wordsOf};
+ghost use Rattle.deal.specs.SeniorAmounts.{PointAmounts};
 ghost use Rattle.deal.specs.Refusals.{judged};
 ghost use Rattle.deal.specs.Results.{lines};
 ghost use Rattle.deal.specs.declared.Verdict.the-variants.{Sound};
+use crate::Amounts;
 use crate::Line;
-use crate::Terms;
 use crate::sheet::tranche_count;
-use crate::tranches::approach;
 use crate::tranches::capital;
 use crate::tranches::risk_weighted_amount;
 use crate::tranches::tranche_of;
-use crate::tranches::weight;
+use weights::Terms;
+use weights::approach;
+use weights::weight;
 
 // Writes the six words of a line from a place on.
 fn put_line(line: Line, at: usize, results: &mut [u64])
@@ -33,11 +34,11 @@ fn put_line(line: Line, at: usize, results: &mut [u64])
 }
 
 // The line of tranche i.
-fn line_of(s: &[u64], d: Terms, senior: [u64; 34], i: u64) -> Line
-    requires { ⌜ (judged (now s) (needed (now s)) ≡ Sound) × (d ≡ terms (now s)) × SeniorAmounts (now s) senior × (i < trancheCount (now s)) ⌝ }
+fn line_of(s: &[u64], d: Terms, a: Amounts, i: u64) -> Line
+    requires { ⌜ (judged (now s) (needed (now s)) ≡ Sound) × (d ≡ terms (now s)) × PointAmounts (now s) a × (i < trancheCount (now s)) ⌝ }
     ensures { λ r. ⌜ r ≡ line (tranche (now (s .entry)) i) (terms (now (s .entry))) ⌝ }
 {
-    let t = tranche_of(s, d, senior, i);
+    let t = tranche_of(s, a, i);
     let w = weight(t, d);
     Line {
         approach: approach(t, d),
@@ -50,14 +51,14 @@ fn line_of(s: &[u64], d: Terms, senior: [u64; 34], i: u64) -> Line
 }
 
 // Writes the line of every tranche, in order.
-pub(crate) fn write_lines(s: &[u64], d: Terms, senior: [u64; 34], results: &mut [u64])
-    requires { ⌜ (judged (now s) (needed (now s)) ≡ Sound) × (d ≡ terms (now s)) × SeniorAmounts (now s) senior × (6 * trancheCount (now s) ≤ length (now results)) ⌝ }
+pub(crate) fn write_lines(s: &[u64], d: Terms, a: Amounts, results: &mut [u64])
+    requires { ⌜ (judged (now s) (needed (now s)) ≡ Sound) × (d ≡ terms (now s)) × PointAmounts (now s) a × (6 * trancheCount (now s) ≤ length (now results)) ⌝ }
     ensures { λ r. ⌜ now (results .exit) ≡ lines (now (s .entry)) (trancheCount (now (s .entry))) ++ drop (6 * trancheCount (now (s .entry))) (now (results .entry)) ⌝ }
 {
     let tranches = tranche_count(s);
     let mut i = 0;
     while i < tranches {
-        let line = line_of(s, d, senior, i);
+        let line = line_of(s, d, a, i);
         put_line(line, (6 * i) as usize, &mut *results);
         i += 1;
     }

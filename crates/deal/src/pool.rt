@@ -5,16 +5,16 @@ ghost use Rattle.deal.specs.DealSheet.{rows, needed};
 ghost use Rattle.deal.specs.PointsAndCharge.{sumsTo, poolSums, baseCharge, lateShare, knownCharge, mostlyKnown, poolCharge};
 ghost use Rattle.deal.specs.SumLimits.{SumLimits};
 ghost use Rattle.deal.specs.Sum.{whereCounted};
-ghost use Rattle.deal.specs.ApproachFloorCap.{poolAverage, terms};
+ghost use Rattle.deal.specs.Lines.{poolAverage, terms};
 ghost use Rattle.deal.specs.Refusals.{judged};
 ghost use Rattle.deal.specs.declared.Verdict.the-variants.{Sound};
 use crate::Sums;
-use crate::Terms;
 use crate::Totals;
 use crate::sheet::row_at;
 use crate::sheet::row_count;
 use crate::sheet::word_at;
 use numbers::rounded_up;
+use weights::Terms;
 
 // 1 in the units of shares and charges, millionths.
 const MILLION: u64 = 1000000;
@@ -56,7 +56,7 @@ fn with_row(s: &[u64], sums: Sums, i: u64) -> Sums
 }
 
 // The sums over all rows.
-fn pool_sums(s: &[u64]) -> Sums
+pub(crate) fn pool_sums(s: &[u64]) -> Sums
     requires { ⌜ judged (now s) (needed (now s)) ≡ Sound ⌝ }
     ensures { λ r. ⌜ r ≡ poolSums (now (s .entry)) ⌝ }
 {
@@ -140,17 +140,15 @@ fn pool_average(q: Sums) -> u64
 }
 
 // What the tranches of the deal share.
-pub(crate) fn terms_of(s: &[u64]) -> Terms
-    requires { ⌜ judged (now s) (needed (now s)) ≡ Sound ⌝ }
+pub(crate) fn terms_of(s: &[u64], sums: Sums) -> Terms
+    requires { ⌜ (judged (now s) (needed (now s)) ≡ Sound) × (sums ≡ poolSums (now s)) ⌝ }
     ensures { λ r. ⌜ r ≡ terms (now (s .entry)) ⌝ }
 {
-    let sums = pool_sums(s);
     Terms {
         diligence: word_at(s, 3) == 1,
         resecuritisation: word_at(s, 2) == 1,
         composition: word_at(s, 4) == 1,
         known: mostly_known(sums),
-        nominal: sums.all.nominal,
         charge: pool_charge(sums),
         average: pool_average(sums),
     }

@@ -1,7 +1,12 @@
 -- `weigh`: each refusal is the sheet's verdict and leaves the results; where there is none, the lines are written. No axioms.
-use mathlib.Core.Path.{_∙_, ap}
+use mathlib.Core.Path.{_≡_, _∙_, ap}
 use borrow.Author.Needs.{needs}
-use Rattle.deal.specs.declared.Terms.{Terms}
+use Rattle.weights.specs.declared.Terms.{Terms}
+use Rattle.deal.specs.DealSheet.{needed}
+use Rattle.deal.specs.Refusals.{judged}
+use Rattle.deal.specs.SeniorAmounts.{PointAmounts}
+use Rattle.deal.specs.declared.Sums.{Sums}
+use Rattle.deal.specs.declared.Verdict.the-variants.{Sound}
 use Rattle.deal.proofs.SheetLimits.{pool-counted}
 use Rattle.deal.proofs.WeighSteps.{refused-on-loading, decided-by-thickness, refused-answer, weighed-answer, words-good, room-good}
 use Rattle.deal.proofs.weigh.Statement.{statement}
@@ -19,28 +24,39 @@ returns c = refused-answer _ _ (refused-on-loading _ _ (c .before .loaded .given
 enum-told : tie.Need-enum-told
 enum-told c = search needs
 
+-- behind the first test every word of the sheet is good
+words : (c : tie.After-enum-told) →
+    let s = c .before .before .before .before .before .args .sheet .now in
+    judged s (needed s) ≡ Sound
+words c = words-good _ _ (c .enum-told .given .1) (c .before .before .judge-loading .ensures)
+
+-- the pool's nominal, and the table of senior amounts
+amounts : (c : tie.After-senior-amounts) →
+    PointAmounts (c .before .before .before .before .before .before .before .before .args .sheet .now)
+    (record { nominal = c .before .before .pool-sums .result .all .nominal; senior = c .senior-amounts .result })
+amounts c = record {
+  nominal-is = ap (λ (q : Sums). q .all .nominal) (c .before .before .pool-sums .ensures);
+  senior-is = c .senior-amounts .ensures;
+}
+
+pool-sums-requires : tie.Need-pool-sums-requires
+pool-sums-requires c κs = words c
+
 terms-of-requires : tie.Need-terms-of-requires
-terms-of-requires c κs = words-good _ _ (c .enum-told .given .1) (c .before .before .judge-loading .ensures)
+terms-of-requires c κs = (words (c .before), c .pool-sums .ensures)
 
 senior-amounts-requires : tie.Need-senior-amounts-requires
-senior-amounts-requires c κs =
-    let told = c .before in
-    words-good _ _ (told .enum-told .given .1) (told .before .before .judge-loading .ensures)
+senior-amounts-requires c κs = words (c .before .before)
 
 judge-thickness-requires : tie.Need-judge-thickness-requires
-judge-thickness-requires c κs =
-    let told = c .before .before in (
-      words-good _ _ (told .enum-told .given .1) (told .before .before .judge-loading .ensures),
-      c .before .terms-of .ensures,
-      c .senior-amounts .ensures,
-    )
+judge-thickness-requires c κs = (words (c .before .before .before), c .before .terms-of .ensures, amounts c)
 
 enum-known-thickness : tie.Need-enum-known-thickness
 enum-known-thickness c = search needs
 
 returns-2 : tie.Need-returns-2
 returns-2 c =
-    let told = c .before .before .before .before .before .before in
+    let told = c .before .before .before .before .before .before .before in
     refused-answer _ _
     (decided-by-thickness _ _ (told .enum-told .given .1) (told .before .before .judge-loading .ensures)
     (c .before .before .before .judge-thickness .ensures) ∙
@@ -52,18 +68,15 @@ enum-told-2 c = search needs
 write-lines-requires : tie.Need-write-lines-requires
 write-lines-requires c κs =
     let table = c .before .before .before .before in
-    let told = table .before .before in
-    let loaded = told .before .before .judge-loading .ensures in (
-      words-good _ _ (told .enum-told .given .1) loaded,
+    let told = table .before .before .before in (
+      words told,
       table .before .terms-of .ensures,
-      table .senior-amounts .ensures,
-      room-good _ _ (told .enum-told .given .1) loaded,
+      amounts table,
+      room-good _ _ (told .enum-told .given .1) (told .before .before .judge-loading .ensures),
     )
 
 tranche-count-requires : tie.Need-tranche-count-requires
-tranche-count-requires c κs =
-    let told = c .before .before .before .before .before .before .before .before .before in
-    pool-counted _ (words-good _ _ (told .enum-told .given .1) (told .before .before .judge-loading .ensures))
+tranche-count-requires c κs = pool-counted _ (words (c .before .before .before .before .before .before .before .before .before .before))
 
 same-length : tie.Need-same-length
 same-length c = search needs
@@ -71,7 +84,7 @@ same-length c = search needs
 returns-3 : tie.Need-returns-3
 returns-3 c =
     let thickness = c .before .before .before .before .before in
-    let told = thickness .before .before .before .before .before in
+    let told = thickness .before .before .before .before .before .before in
     weighed-answer _ _
     (decided-by-thickness _ _ (told .enum-told .given .1) (told .before .before .judge-loading .ensures) (thickness .before .before .judge-thickness .ensures) ∙
     thickness .enum-told2 .given .1)
@@ -87,6 +100,7 @@ weigh-spec =
     enum-known-loaded
     returns
     enum-told
+    pool-sums-requires
     terms-of-requires
     senior-amounts-requires
     judge-thickness-requires

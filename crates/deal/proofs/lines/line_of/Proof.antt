@@ -3,15 +3,15 @@ use mathlib.Core.Path.{ap}
 use Prim.Native.Nat.{_≤_}
 use native.Mathlib.Omega.{arith}
 use borrow.Author.Needs.{needs}
-use Rattle.deal.specs.ApproachFloorCap.{tranche, line}
-use Rattle.deal.specs.declared.Tranche.{Tranche}
+use Rattle.deal.specs.Lines.{tranche, line}
+use Rattle.weights.specs.declared.Tranche.{Tranche}
 use Rattle.deal.proofs.SheetLimits.{tranche-limits}
-use Rattle.deal.proofs.WeightLaws.{weight-at-most}
+use Rattle.weights.proofs.WeightLaws.{weight-at-most}
 use Rattle.deal.proofs.lines.line_of.Statement.{statement}
 use Rattle.deal.proofs.lines.line_of.Tie as tie
 
 tranche-of-requires : tie.Need-tranche-of-requires
-tranche-of-requires c κs = search needs
+tranche-of-requires c κs = (c .before .pre .0, c .before .pre .2, c .before .pre .3)
 
 weight-requires : tie.Need-weight-requires
 weight-requires c κs = search needs

@@ -1,16 +1,13 @@
 -- `terms_of`: the sums of an accepted sheet are within their limits, which the charge and the average ask. No axioms.
 use borrow.Author.Needs.{needs}
 use Rattle.deal.specs.SumLimits.{SumLimits}
-use Rattle.deal.specs.ApproachFloorCap.{terms}
+use Rattle.deal.specs.Lines.{terms}
 use Rattle.deal.proofs.PoolLaws.{sum-limits}
 use Rattle.deal.proofs.pool.terms_of.Statement.{statement}
 use Rattle.deal.proofs.pool.terms_of.Tie as tie
 
-limits : (c : tie.After-pool-sums) → SumLimits (c .pool-sums .result)
-limits c = rw (c .pool-sums .ensures) (sum-limits (c .before .before .args .s .now) (c .before .before .pre))
-
-pool-sums-requires : tie.Need-pool-sums-requires
-pool-sums-requires c κs = search needs
+limits : (c : tie.Start) → SumLimits (c .args .sums)
+limits c = rw (c .pre .1) (sum-limits (c .args .s .now) (c .pre .0))
 
 word-at-requires : tie.Need-word-at-requires
 word-at-requires c κs = search needs
@@ -22,13 +19,13 @@ word-at-requires-3 : tie.Need-word-at-requires-3
 word-at-requires-3 c κs = search needs
 
 mostly-known-requires : tie.Need-mostly-known-requires
-mostly-known-requires c κs = limits (c .before .before .before)
+mostly-known-requires c κs = limits (c .before .before .before .before)
 
 pool-charge-requires : tie.Need-pool-charge-requires
-pool-charge-requires c κs = limits (c .before .before .before .before)
+pool-charge-requires c κs = limits (c .before .before .before .before .before)
 
 pool-average-requires : tie.Need-pool-average-requires
-pool-average-requires c κs = limits (c .before .before .before .before .before)
+pool-average-requires c κs = limits (c .before .before .before .before .before .before)
 
 returns : tie.Need-returns
 unfolding terms
@@ -41,14 +38,13 @@ returns c =
       x .before .word-at3 .ensures,
       x .before .before .word-at2 .ensures,
       x .before .before .before .word-at .ensures,
-      x .before .before .before .before .pool-sums .ensures,
+      x .before .before .before .before .before .pre .1,
     )
 
 pub terms-of-spec : {M : Type 1} → statement M
 terms-of-spec =
     tie.close
     (tie.spec
-    pool-sums-requires
     word-at-requires
     word-at-requires-2
     word-at-requires-3

@@ -7,7 +7,8 @@ use Prim.Native.Nat.{ℕ, _+_, _-_, _≤_, _<_}
 use native.Mathlib.Omega.{arith}
 use borrow.Author.Needs.{needs}
 use Rattle.deal.specs.DealSheet.{trancheCount, trancheAt}
-use Rattle.deal.specs.ApproachFloorCap.{terms, tranche, thin}
+use Rattle.weights.specs.ApproachFloorCap.{thin}
+use Rattle.deal.specs.Lines.{terms, tranche}
 use Rattle.deal.specs.Refusals.{refused, thinVerdict, firstOf}
 use Rattle.deal.specs.declared.Verdict.the-variants.{Sound}
 use Rattle.deal.proofs.FirstFault.{first-of-next, first-of-stays}
@@ -31,10 +32,10 @@ next-faulty s i place found before row place-is =
     (first-of-next (λ i. thinVerdict s i) i before ∙ rw (found, place-is)))
 
 abbrev Inv-loop : tie.InvT-loop
-Inv-loop s d senior tranches i₀ i = (i ≤ trancheCount s) × (firstOf (λ i. thinVerdict s i) i ≡ Sound)
+Inv-loop s d a tranches i₀ i = (i ≤ trancheCount s) × (firstOf (λ i. thinVerdict s i) i ≡ Sound)
 
 abbrev μ-loop : tie.MeasureT-loop
-μ-loop s d senior tranches i₀ i = tranches - i
+μ-loop s d a tranches i₀ i = tranches - i
 
 -- what `is_thin` told of the tranche
 told : (c : tie.After-is-thin Inv-loop μ-loop) →
@@ -55,7 +56,7 @@ loop-holds c = (omega arith, refl)
 tranche-of-requires : tie.Need-tranche-of-requires Inv-loop μ-loop
 tranche-of-requires c κs =
     let start = c .before .before .before .before in
-    (start .pre .0, start .pre .1, start .pre .2, omega arith)
+    (start .pre .0, start .pre .2, omega arith)
 
 is-thin-requires : tie.Need-is-thin-requires Inv-loop μ-loop
 is-thin-requires c κs = search needs

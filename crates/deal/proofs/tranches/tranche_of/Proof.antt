@@ -8,11 +8,10 @@ use lib.Dec.{eqb}
 use lib.ListN.{getD}
 use borrow.Author.Needs.{needs}
 use Rattle.deal.specs.DealSheet.{word, trancheCount, trancheAt, class}
-use Rattle.deal.specs.PointsAndCharge.{point, attachmentPoint, detachmentPoint}
-use Rattle.deal.specs.ApproachFloorCap.{terms, tranche}
+use Rattle.deal.specs.PointsAndCharge.{point, poolSums, attachmentPoint, detachmentPoint}
+use Rattle.deal.specs.Lines.{tranche}
 use Rattle.deal.specs.SeniorAmounts.{SeniorAmounts}
-use Rattle.deal.specs.declared.Terms.{Terms}
-use Rattle.deal.specs.declared.Tranche.{Tranche}
+use Rattle.weights.specs.declared.Tranche.{Tranche}
 use Rattle.deal.proofs.SheetLimits.{tranches-counted, tranches-within, tranche-at-most, tranche-limits}
 use Rattle.deal.proofs.PoolLaws.{nominal-within}
 use Rattle.deal.proofs.tranches.tranche_of.Statement.{statement}
@@ -21,13 +20,13 @@ use Rattle.deal.proofs.tranches.tranche_of.Tie as tie
 -- what is made of the words read and of the table is the tranche
 made :
     {senior : List ℕ} (s : List ℕ) (i place own N a d m h x y z : ℕ) → SeniorAmounts s senior → i < trancheCount s →
-    place ≡ trancheAt s i → own ≡ word s (place + 1) → N ≡ terms s .nominal →
+    place ≡ trancheAt s i → own ≡ word s (place + 1) → N ≡ poolSums s .all .nominal →
     a ≡ point N (getD senior (own + 1) 0) → d ≡ point N (getD senior own 0) →
     m ≡ word s (place + 2) → h ≡ word s (place + 3) → x ≡ word s (place + 4) → y ≡ word s (place + 5) → z ≡ word s (place + 6) →
     _≡_ {A = Tranche}
     (record { attachment = a; detachment = d; senior = eqb own 1; months = m; held = h; first = x; second = y; third = z })
     (tranche s i)
-unfolding tranche attachmentPoint detachmentPoint terms
+unfolding tranche attachmentPoint detachmentPoint
 made s i place own N a d m h x y z table row place-is own-is N-is a-is d-is m-is h-is x-is y-is z-is =
     rw (
       a-is,
@@ -47,22 +46,19 @@ made s i place own N a d m h x y z table row place-is own-is N-is a-is d-is m-is
 -- the tranche's place and the five words after it are no high numbers
 place-low : (c : tie.After-tranche-at) → c .tranche-at .result ≤ 4231
 place-low c =
-    let start = c .before .before in
+    let start = c .before .before .before in
     let s = start .args .s .now in
     omega (arith, tranche-at-most s (start .args .i) (tranches-counted s (start .pre .0)) (omega arith))
 
-nominal-is : (c : tie.Start) → c .args .d .nominal ≡ terms (c .args .s .now) .nominal
-nominal-is c = ap (λ (x : Terms). x .nominal) (c .pre .1)
+nominal-least : (c : tie.Start) → 0 < c .args .a .nominal
+nominal-least c = omega (arith, c .pre .1 .nominal-is, nominal-within (c .args .s .now) (c .pre .0))
 
-nominal-least : (c : tie.Start) → 0 < c .args .d .nominal
-nominal-least c = omega (arith, nominal-is c, nominal-within (c .args .s .now) (c .pre .0))
-
-nominal-most : (c : tie.Start) → c .args .d .nominal ≤ 10000000000000
-nominal-most c = omega (arith, nominal-is c, nominal-within (c .args .s .now) (c .pre .0))
+nominal-most : (c : tie.Start) → c .args .a .nominal ≤ 10000000000000
+nominal-most c = omega (arith, c .pre .1 .nominal-is, nominal-within (c .args .s .now) (c .pre .0))
 
 tranche-at-requires : tie.Need-tranche-at-requires
 tranche-at-requires c κs =
-    let start = c .before in
+    let start = c .before .before in
     (tranches-counted (start .args .s .now) (start .pre .0), omega arith)
 
 add-word-at : tie.Need-add-word-at
@@ -73,21 +69,21 @@ word-at-requires c κs = search needs
 
 -- the class is what was read
 own-class : (c : tie.After-word-at) →
-    let start = c .before .before .before in
+    let start = c .before .before .before .before in
     c .word-at .result ≡ class (start .args .s .now) (start .args .i)
 own-class c =
-    let s = c .before .before .before .args .s .now in
+    let s = c .before .before .before .before .args .s .now in
     c .word-at .ensures ∙ ap (λ (p : ℕ). word s (p + 1)) (c .before .tranche-at .ensures)
 
 -- the class is at most 32
 class-low : (c : tie.After-word-at) → c .word-at .result ≤ 32
 class-low c =
-    let start = c .before .before .before in
+    let start = c .before .before .before .before in
     let s = start .args .s .now in
     omega (
       arith,
       own-class c,
-      tranche-limits s (start .args .i) (start .pre .0) (start .pre .3) .class-most,
+      tranche-limits s (start .args .i) (start .pre .0) (start .pre .2) .class-most,
       tranches-within s (tranches-counted s (start .pre .0)),
     )
 
@@ -101,7 +97,7 @@ array-read-point : tie.Need-array-read-point
 array-read-point c = omega (arith, class-low c)
 
 point-requires : tie.Need-point-requires
-point-requires c κs = (nominal-least (c .before .before .before), nominal-most (c .before .before .before))
+point-requires c κs = (nominal-least (c .before .before .before .before), nominal-most (c .before .before .before .before))
 
 mul-point-2 : tie.Need-mul-point-2
 mul-point-2 c = omega (arith, class-low (c .before))
@@ -110,7 +106,7 @@ array-read-point-2 : tie.Need-array-read-point-2
 array-read-point-2 c = omega (arith, class-low (c .before))
 
 point-requires-2 : tie.Need-point-requires-2
-point-requires-2 c κs = (nominal-least (c .before .before .before .before), nominal-most (c .before .before .before .before))
+point-requires-2 c κs = (nominal-least (c .before .before .before .before .before), nominal-most (c .before .before .before .before .before))
 
 add-word-at-2 : tie.Need-add-word-at-2
 add-word-at-2 c = omega (arith, place-low (c .before .before .before))
@@ -146,16 +142,16 @@ returns : tie.Need-returns
 returns c =
     let points = c .before .before .before .before .before in
     let own = points .before .before in
-    let start = own .before .before .before in
-    made (start .args .s .now) (start .args .i) (own .before .tranche-at .result) (own .word-at .result) (start .args .d .nominal)
+    let start = own .before .before .before .before in
+    made (start .args .s .now) (start .args .i) (own .before .tranche-at .result) (own .word-at .result) (start .args .a .nominal)
     (points .before .point .result) (points .point2 .result)
     (c .before .before .before .before .word-at2 .result) (c .before .before .before .word-at3 .result)
     (c .before .before .word-at4 .result) (c .before .word-at5 .result) (c .word-at6 .result)
+    (start .pre .1 .senior-is)
     (start .pre .2)
-    (start .pre .3)
     (own .before .tranche-at .ensures)
     (own .word-at .ensures)
-    (nominal-is start)
+    (start .pre .1 .nominal-is)
     (points .before .point .ensures)
     (points .point2 .ensures)
     (c .before .before .before .before .word-at2 .ensures) (c .before .before .before .word-at3 .ensures)

@@ -2,9 +2,9 @@
 use native.Mathlib.Omega.{arith}
 use borrow.Author.Needs.{needs}
 use borrow.Author.Tests.{eq-eqb, ne-eqb}
-use Rattle.deal.specs.ApproachFloorCap.{thin}
-use Rattle.deal.proofs.tranches.is_thin.Statement.{statement}
-use Rattle.deal.proofs.tranches.is_thin.Tie as tie
+use Rattle.weights.specs.ApproachFloorCap.{thin}
+use Rattle.weights.proofs.is_thin.Statement.{statement}
+use Rattle.weights.proofs.is_thin.Tie as tie
 
 approach-requires : tie.Need-approach-requires
 approach-requires c κs = search needs

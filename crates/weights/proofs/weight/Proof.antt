@@ -2,9 +2,9 @@
 use native.Mathlib.Omega.{arith}
 use borrow.Author.Needs.{needs}
 use borrow.Author.Tests.{eq-eqb, ne-eqb}
-use Rattle.deal.specs.ApproachFloorCap.{weight}
-use Rattle.deal.proofs.tranches.weight.Statement.{statement}
-use Rattle.deal.proofs.tranches.weight.Tie as tie
+use Rattle.weights.specs.ApproachFloorCap.{weight}
+use Rattle.weights.proofs.weight.Statement.{statement}
+use Rattle.weights.proofs.weight.Tie as tie
 
 approach-requires : tie.Need-approach-requires
 approach-requires c κs = search needs

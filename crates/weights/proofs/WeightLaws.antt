@@ -14,9 +14,9 @@ use Rattle.formula.proofs.RawWeightLaw.{raw-weight-is}
 use Rattle.formula.proofs.Limits.{limits-of-test}
 use Rattle.ratings.specs.RatingTable.{ratingTable}
 use Rattle.ratings.proofs.TableLaws.{weight-by-ratings-at-most}
-use Rattle.deal.specs.ApproachFloorCap.{approach, parameter, floor, capApplies, afterFloorAndCap, numberOf, formulaRawWeight, tableWeight, weight}
-use Rattle.deal.specs.declared.Terms.{Terms}
-use Rattle.deal.specs.declared.Tranche.{Tranche}
+use Rattle.weights.specs.ApproachFloorCap.{approach, parameter, floor, capApplies, afterFloorAndCap, numberOf, formulaRawWeight, tableWeight, weight}
+use Rattle.weights.specs.declared.Terms.{Terms}
+use Rattle.weights.specs.declared.Tranche.{Tranche}
 
 -- the raw weight, by the cases of IsRawWeight
 module _ (A D K p : ℕ) where

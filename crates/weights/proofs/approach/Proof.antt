@@ -1,7 +1,7 @@
 -- `approach`: each return by the tests that led there. No axioms.
 use borrow.Author.Needs.{needs}
-use Rattle.deal.proofs.tranches.approach.Statement.{statement}
-use Rattle.deal.proofs.tranches.approach.Tie as tie
+use Rattle.weights.proofs.approach.Statement.{statement}
+use Rattle.weights.proofs.approach.Tie as tie
 
 returns : tie.Need-returns
 returns c = search needs

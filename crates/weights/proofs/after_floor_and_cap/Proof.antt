@@ -1,7 +1,7 @@
 -- `after_floor_and_cap`: the weight is raised first, and lowered where the cap applies. No axioms.
 use borrow.Author.Needs.{needs}
-use Rattle.deal.proofs.tranches.after_floor_and_cap.Statement.{statement}
-use Rattle.deal.proofs.tranches.after_floor_and_cap.Tie as tie
+use Rattle.weights.proofs.after_floor_and_cap.Statement.{statement}
+use Rattle.weights.proofs.after_floor_and_cap.Tie as tie
 
 floor-requires : tie.Need-floor-requires
 floor-requires c κs = search needs

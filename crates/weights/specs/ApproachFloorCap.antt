@@ -1,8 +1,7 @@
 -- 01, "Which approach, then floor, then cap" (d374 paragraph 31 for due diligence, 42 to 47 for the order of approaches, which CRE40.41 to CRE40.47
--- give; 85 and 94 for the parameter, 87 and 96 for the floor, 88, 89 and 97 for the cap): the line of a tranche, as a function of the tranche's own
--- inputs and of the deal's terms alone.
+-- give; 85 and 94 for the parameter, 87 and 96 for the floor, 88, 89 and 97 for the cap): approach and weight of a tranche, as functions of the
+-- tranche's own inputs and of the deal's terms alone. Weights are counted in hundredths of a percent.
 use mathlib.Core.Bool.{Bool, cond, not, _&&_, _||_}
-use mathlib.Core.List.{List, [], _∷_}
 use Prim.Native.Nat.{ℕ, _*_, _-_, min, max}
 use lib.Dec.{ltb, eqb}
 use Rattle.numbers.specs.Rounding.{roundedUp}
@@ -10,43 +9,8 @@ use Rattle.formula.specs.FixedPoint.{rawWeight}
 use Rattle.formula.specs.declared.RawWeight.{RawWeight}
 use Rattle.formula.specs.declared.RawWeight.the-variants.{Weight, NoThickness, OutsideLimits}
 use Rattle.ratings.specs.RatingTable.{ratingTable, present, weightByRatings}
-use Rattle.deal.specs.DealSheet.{resecuritisation, dueDiligence, compositionKnown, class, months, held, firstRating, secondRating, thirdRating}
-use Rattle.deal.specs.PointsAndCharge.{poolSums, mostlyKnown, poolCharge, attachmentPoint, detachmentPoint}
-use Rattle.deal.specs.declared.Line.{Line}
-use Rattle.deal.specs.declared.Sums.{Sums}
-use Rattle.deal.specs.declared.Terms.{Terms}
-use Rattle.deal.specs.declared.Tranche.{Tranche}
-
--- ---- what a line is made of
-
--- "100 × (sum of exposure × risk weight) / (sum of exposure) over all rows, rounded up"
-abbrev pub poolAverage : Sums → ℕ
-poolAverage q = roundedUp (100 * q .all .weighted) (q .all .exposure)
-
--- what the tranches of a deal share
-unfoldable pub terms : List ℕ → Terms
-terms s = record {
-  diligence = dueDiligence s;
-  resecuritisation = resecuritisation s;
-  composition = compositionKnown s;
-  known = mostlyKnown (poolSums s);
-  nominal = poolSums s .all .nominal;
-  charge = poolCharge (poolSums s);
-  average = poolAverage (poolSums s);
-}
-
--- what is a tranche's own: "Class 1 is the senior class."
-unfoldable pub tranche : List ℕ → ℕ → Tranche
-tranche s i = record {
-  attachment = attachmentPoint s i;
-  detachment = detachmentPoint s i;
-  senior = eqb (class s i) 1;
-  months = months s i;
-  held = held s i;
-  first = firstRating s i;
-  second = secondRating s i;
-  third = thirdRating s i;
-}
+use Rattle.weights.specs.declared.Terms.{Terms}
+use Rattle.weights.specs.declared.Tranche.{Tranche}
 
 -- ---- approach
 
@@ -83,7 +47,7 @@ afterFloorAndCap t d w =
     let raised = max w (floor (d .resecuritisation)) in
     cond (capApplies t d) (min raised (d .average)) raised
 
--- the number of a raw weight (0 where there is none, which no accepted sheet meets: `formula-weighs`, proofs/DemandThreeLaw.antt)
+-- the number of a raw weight (0 where there is none, which no accepted sheet meets: `formula-weighs`, DemandThreeLaw.antt of `deal`)
 abbrev pub numberOf : RawWeight → ℕ
 numberOf (Weight w) = w
 numberOf NoThickness = 0
@@ -114,24 +78,6 @@ riskWeightedAmount heldAmount w = roundedUp (heldAmount * w) 10000
 -- "Capital: held × weight × 8 / 10^6, rounded up."
 abbrev pub capital : ℕ → ℕ → ℕ
 capital heldAmount w = roundedUp (heldAmount * w * 8) 1000000
-
--- ---- the line: "approach (0 fallback, 1 SEC-ERBA, 2 SEC-SA), A, D, weight, risk-weighted amount, capital"
-
-unfoldable pub line : Tranche → Terms → Line
-line t d = record {
-  approach = approach t d;
-  attachment = t .attachment;
-  detachment = t .detachment;
-  weight = weight t d;
-  rwa = riskWeightedAmount (t .held) (weight t d);
-  capital = capital (t .held) (weight t d);
-}
-
-abbrev pub wordsOf : Line → List ℕ
-wordsOf l = l .approach ∷ l .attachment ∷ l .detachment ∷ l .weight ∷ l .rwa ∷ l .capital ∷ []
-
-unfoldable pub lineWords : Tranche → Terms → List ℕ
-lineWords t d = wordsOf (line t d)
 
 -- ---- "13: SEC-SA applies, A equals D, and D is above the pool charge"
 

@@ -1,8 +1,8 @@
 -- `table_weight`: the weight by the three ratings at the thickness D − A. No axioms.
 use borrow.Author.Needs.{needs}
-use Rattle.deal.specs.ApproachFloorCap.{tableWeight}
-use Rattle.deal.proofs.tranches.table_weight.Statement.{statement}
-use Rattle.deal.proofs.tranches.table_weight.Tie as tie
+use Rattle.weights.specs.ApproachFloorCap.{tableWeight}
+use Rattle.weights.proofs.table_weight.Statement.{statement}
+use Rattle.weights.proofs.table_weight.Tie as tie
 
 excess-requires : tie.Need-excess-requires
 excess-requires c κs = search needs

@@ -2,8 +2,8 @@
 use mathlib.Core.Bool.{Bool, true, false, not, _&&_}
 use mathlib.Core.Path.{_≡_}
 use borrow.Author.Tests.{not-true, not-false}
-use Rattle.deal.proofs.tranches.cap_applies.Statement.{statement}
-use Rattle.deal.proofs.tranches.cap_applies.Tie as tie
+use Rattle.weights.proofs.cap_applies.Statement.{statement}
+use Rattle.weights.proofs.cap_applies.Tie as tie
 
 last-decides : (a b r : Bool) → a ≡ true → b ≡ false → r ≡ a && not b && r
 last-decides a b r p q = simp (p, q)

@@ -1,8 +1,8 @@
 -- `formula_raw_weight`: the number in each case of the raw weight. No axioms.
 use borrow.Author.Needs.{needs}
-use Rattle.deal.specs.ApproachFloorCap.{formulaRawWeight}
-use Rattle.deal.proofs.tranches.formula_raw_weight.Statement.{statement}
-use Rattle.deal.proofs.tranches.formula_raw_weight.Tie as tie
+use Rattle.weights.specs.ApproachFloorCap.{formulaRawWeight}
+use Rattle.weights.proofs.formula_raw_weight.Statement.{statement}
+use Rattle.weights.proofs.formula_raw_weight.Tie as tie
 
 parameter-requires : tie.Need-parameter-requires
 parameter-requires c κs = search needs

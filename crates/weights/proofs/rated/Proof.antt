@@ -1,7 +1,7 @@
 -- `rated`: each further rating is looked at only where those before it are not present. No axioms.
 use borrow.Author.Needs.{needs}
-use Rattle.deal.proofs.tranches.rated.Statement.{statement}
-use Rattle.deal.proofs.tranches.rated.Tie as tie
+use Rattle.weights.proofs.rated.Statement.{statement}
+use Rattle.weights.proofs.rated.Tie as tie
 
 is-present-requires : tie.Need-is-present-requires
 is-present-requires c κs = search needs

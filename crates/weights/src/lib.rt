@@ -1,0 +1,186 @@
+// Approach and weight of one tranche, from what is its own and what the deal's tranches share.
+ghost use mathlib.Core.Path.{_≡_};
+ghost use Rattle.weights.specs.ApproachFloorCap.{rated, approach, parameter, floor, capApplies, afterFloorAndCap, formulaRawWeight, tableWeight, weight, thin};
+use formula::RawWeight;
+use numbers::excess;
+use numbers::larger;
+use numbers::smaller;
+
+// What the tranches of a deal share: whether due diligence is held, whether it is a re-securitisation, whether the pool's composition is known,
+// whether the status of its rows is known but for up to 5% of exposure, its charge in millionths, and its average risk weight.
+pub struct Terms {
+    pub diligence: bool,
+    pub resecuritisation: bool,
+    pub composition: bool,
+    pub known: bool,
+    pub charge: u64,
+    pub average: u64,
+}
+
+// What is a tranche's own: its points, whether it is of the senior class, its months to maturity, the amount held and its three ratings.
+pub struct Tranche {
+    pub attachment: u64,
+    pub detachment: u64,
+    pub senior: bool,
+    pub months: u64,
+    pub held: u64,
+    pub first: u64,
+    pub second: u64,
+    pub third: u64,
+}
+
+// The kinds of deal, with supervisory parameter in millionths and floor in hundredths of a percent.
+struct Ordinary {}
+
+impl Ordinary {
+    const PARAMETER: u64 = 1000000;
+
+    const FLOOR: u64 = 1500;
+}
+
+struct Resecuritisation {}
+
+impl Resecuritisation {
+    const PARAMETER: u64 = 1500000;
+
+    const FLOOR: u64 = 10000;
+}
+
+// 1250%, the highest weight and that of the fallback.
+const HIGHEST: u64 = 125000;
+
+// Whether any of the tranche's ratings is present.
+fn rated(t: Tranche) -> bool
+    ensures { λ r. ⌜ r ≡ rated t ⌝ }
+{
+    if ratings::is_present(t.first) {
+        return true;
+    }
+    if ratings::is_present(t.second) {
+        return true;
+    }
+    ratings::is_present(t.third)
+}
+
+// The approach: 0 fallback, 1 SEC-ERBA, 2 SEC-SA.
+pub fn approach(t: Tranche, d: Terms) -> u64
+    ensures { λ r. ⌜ r ≡ approach t d ⌝ }
+{
+    if !d.diligence {
+        return 0;
+    }
+    if d.resecuritisation {
+        return 2;
+    }
+    if rated(t) {
+        return 1;
+    }
+    if !d.known {
+        return 0;
+    }
+    2
+}
+
+// The supervisory parameter of the deal's kind.
+fn parameter(resecuritised: bool) -> u64
+    ensures { λ r. ⌜ r ≡ parameter resecuritised ⌝ }
+{
+    if resecuritised {
+        Resecuritisation::PARAMETER
+    } else {
+        Ordinary::PARAMETER
+    }
+}
+
+// The floor of the deal's kind.
+fn floor(resecuritised: bool) -> u64
+    ensures { λ r. ⌜ r ≡ floor resecuritised ⌝ }
+{
+    if resecuritised {
+        Resecuritisation::FLOOR
+    } else {
+        Ordinary::FLOOR
+    }
+}
+
+// Whether the senior cap applies.
+fn cap_applies(t: Tranche, d: Terms) -> bool
+    ensures { λ r. ⌜ r ≡ capApplies t d ⌝ }
+{
+    if !t.senior {
+        return false;
+    }
+    if d.resecuritisation {
+        return false;
+    }
+    d.composition
+}
+
+// A weight raised to the floor, then lowered to the cap.
+fn after_floor_and_cap(t: Tranche, d: Terms, w: u64) -> u64
+    ensures { λ r. ⌜ r ≡ afterFloorAndCap t d w ⌝ }
+{
+    let raised = larger(w, floor(d.resecuritisation));
+    if cap_applies(t, d) {
+        return smaller(raised, d.average);
+    }
+    raised
+}
+
+// The formula's raw weight; 0 where there is none, which no accepted sheet meets.
+fn formula_raw_weight(t: Tranche, d: Terms) -> u64
+    ensures { λ r. ⌜ r ≡ formulaRawWeight t d ⌝ }
+{
+    let raw = formula::raw_weight(
+        t.attachment,
+        t.detachment,
+        d.charge,
+        parameter(d.resecuritisation),
+    );
+    match raw {
+        RawWeight::Weight(w) => w,
+        RawWeight::NoThickness => 0,
+        RawWeight::OutsideLimits => 0,
+    }
+}
+
+// The rating table's weight.
+fn table_weight(t: Tranche) -> u64
+    ensures { λ r. ⌜ r ≡ tableWeight t ⌝ }
+{
+    ratings::weight_by_ratings(
+        t.first,
+        t.second,
+        t.third,
+        t.senior,
+        t.months,
+        excess(t.detachment, t.attachment),
+    )
+}
+
+// The tranche's weight.
+pub fn weight(t: Tranche, d: Terms) -> u64
+    ensures { λ r. ⌜ r ≡ weight t d ⌝ }
+{
+    let by = approach(t, d);
+    if by == 0 {
+        return HIGHEST;
+    }
+    if by == 1 {
+        return after_floor_and_cap(t, d, table_weight(t));
+    }
+    after_floor_and_cap(t, d, formula_raw_weight(t, d))
+}
+
+// Whether SEC-SA applies to a tranche of no thickness above the pool charge.
+pub fn is_thin(t: Tranche, d: Terms) -> bool
+    ensures { λ r. ⌜ r ≡ thin t d ⌝ }
+{
+    if approach(t, d) != 2 {
+        return false;
+    }
+    if t.attachment != t.detachment {
+        return false;
+    }
+    d.charge < t.detachment
+}
