@@ -47,11 +47,11 @@ afterFloorAndCap t d w =
     let raised = max w (floor (d .resecuritisation)) in
     cond (capApplies t d) (min raised (d .average)) raised
 
--- the number of a raw weight (0 where there is none, which no accepted sheet meets: `formula-weighs`, DemandThreeLaw.antt of `deal`)
+-- the number of a raw weight; where there is none, which no accepted sheet meets (`formula-weighs`, DemandThreeLaw.antt of `deal`), the highest
 abbrev pub numberOf : RawWeight → ℕ
 numberOf (Weight w) = w
-numberOf NoThickness = 0
-numberOf OutsideLimits = 0
+numberOf NoThickness = 125000
+numberOf OutsideLimits = 125000
 
 -- "A SEC-SA line's weight is its tranche's raw weight after floor and cap."
 unfoldable pub formulaRawWeight : Tranche → Terms → ℕ

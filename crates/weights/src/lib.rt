@@ -127,7 +127,7 @@ fn after_floor_and_cap(t: Tranche, d: Terms, w: u64) -> u64
     raised
 }
 
-// The formula's raw weight; 0 where there is none, which no accepted sheet meets.
+// The formula's raw weight; the highest weight where there is none, which no accepted sheet meets, so that no caller gets one that is too low.
 fn formula_raw_weight(t: Tranche, d: Terms) -> u64
     ensures { λ r. ⌜ r ≡ formulaRawWeight t d ⌝ }
 {
@@ -139,8 +139,8 @@ fn formula_raw_weight(t: Tranche, d: Terms) -> u64
     );
     match raw {
         RawWeight::Weight(w) => w,
-        RawWeight::NoThickness => 0,
-        RawWeight::OutsideLimits => 0,
+        RawWeight::NoThickness => HIGHEST,
+        RawWeight::OutsideLimits => HIGHEST,
     }
 }
 
