@@ -8,7 +8,7 @@ use Prim.Native.Nat.{ℕ, _-_, _≤_, _<_}
 use native.Mathlib.Nat.{eq-zero-or-pos}
 use native.Mathlib.Omega.{arith}
 use lib.ListN.{length}
-use borrow.Author.Tests.{eq-eqb, lt-ltb}
+use borrow.Author.Tests.{ltb-false, eq-eqb}
 use Rattle.formula.specs.Formula.{Passes, WithinLimits, PassingWeight, IsRawWeight}
 use Rattle.formula.specs.FixedPoint.{rawWeight}
 use Rattle.formula.specs.declared.RawWeight.{RawWeight}
@@ -30,11 +30,12 @@ use Rattle.deal.proofs.WeightLaws.{formula-weight}
 
 -- ---- no accepted tranche is too thin
 
-thin-where :
-    (t : Tranche) (d : Terms) → approach t d ≡ 2 → t .attachment ≡ t .detachment → d .charge < t .detachment → thin t d ≡ true
+thick-where :
+    (t : Tranche) (d : Terms) → approach t d ≡ 2 → t .attachment ≡ t .detachment → thin t d ≡ false → t .detachment ≤ d .charge
 unfolding thin
-thin-where t d by same above =
-    simp (by, eq-eqb (t .attachment) (t .detachment) same, lt-ltb (d .charge) (t .detachment) above)
+thick-where t d by same e =
+    let last = rw (by, eq-eqb (t .attachment) (t .detachment) same) at e in
+    omega (arith, ltb-false, last)
 
 -- where SEC-SA applies and D is above the pool charge, A is below D
 pub attachment-below-detachment :
@@ -45,9 +46,8 @@ attachment-below-detachment s room i accepted row by above =
     ⊎-elim
     (λ e.
     let same : attachmentPoint s i ≡ detachmentPoint s i = omega (arith, attachment-at-most-detachment s i) in
-    let clash : true ≡ false =
-    sym (thin-where (tranche s i) (terms s) by same above) ∙ accepted-means s room accepted .none-thin i row in
-    absurd (let z : _≡_ {A = ℕ} 0 1 = cc in omega arith))
+    let low = thick-where (tranche s i) (terms s) by same (accepted-means s room accepted .none-thin i row) in
+    absurd (omega arith))
     (λ pos. omega arith)
     (eq-zero-or-pos (detachmentPoint s i - attachmentPoint s i))
 

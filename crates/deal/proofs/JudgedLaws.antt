@@ -211,6 +211,23 @@ thin-tranche-of-fault s room r words enough first =
       place-is = here .1 .1;
     }
 
+pub refused-when : (s : List ℕ) (room : ℕ) (r : Refusal) → Why s room r → verdict s room ≡ Faulty r
+unfolding verdict
+refused-when s room r (by-words w) = simp (refused-words s r w)
+refused-when s room r (by-room w) =
+    simp (accepted-words s (w .words), lt-ltb room (6 * trancheCount s) (w .short)) (states 14 0 r (w .number-is) (w .place-is))
+refused-when s room r (by-thinness w) =
+    simp (
+      accepted-words s (w .words),
+      le-ltb room (6 * trancheCount s) (w .enough),
+      faulty-first-of (λ i. thinVerdict s i) (trancheCount s) r (record {
+        at = w .i;
+        below = w .among;
+        faulty = simp (w .is-thin) (states 13 (trancheAt s (w .i)) r (w .number-is) (w .place-is));
+        before = λ j h. simp (w .none-before j h);
+      }),
+    )
+
 pub refused-means : (s : List ℕ) (room : ℕ) (r : Refusal) → verdict s room ≡ Faulty r → Why s room r
 unfolding verdict
 refused-means s room r e =
@@ -233,23 +250,6 @@ refused-means s room r e =
     (first-of-faulty (λ i. thinVerdict s i) (trancheCount s) r (thins .1))))
     (or-else-faulty (roomVerdict s room) (firstOf (λ i. thinVerdict s i) (trancheCount s)) r (rest .1)))
     (or-else-faulty (wordsVerdict s) (orElse (roomVerdict s room) (firstOf (λ i. thinVerdict s i) (trancheCount s))) r e)
-
-pub refused-when : (s : List ℕ) (room : ℕ) (r : Refusal) → Why s room r → verdict s room ≡ Faulty r
-unfolding verdict
-refused-when s room r (by-words w) = simp (refused-words s r w)
-refused-when s room r (by-room w) =
-    simp (accepted-words s (w .words), lt-ltb room (6 * trancheCount s) (w .short)) (states 14 0 r (w .number-is) (w .place-is))
-refused-when s room r (by-thinness w) =
-    simp (
-      accepted-words s (w .words),
-      le-ltb room (6 * trancheCount s) (w .enough),
-      faulty-first-of (λ i. thinVerdict s i) (trancheCount s) r (record {
-        at = w .i;
-        below = w .among;
-        faulty = simp (w .is-thin) (states 13 (trancheAt s (w .i)) r (w .number-is) (w .place-is));
-        before = λ j h. simp (w .none-before j h);
-      }),
-    )
 
 pub accepted-means : (s : List ℕ) (room : ℕ) → verdict s room ≡ Sound → Accepted s room
 unfolding verdict

@@ -7,6 +7,7 @@ use Prim.Native.Nat.{ℕ, _+_, _*_, _-_, _≤_, _<_}
 use native.Mathlib.Nat.{le-refl, mul-le-mul-left}
 use native.Mathlib.Omega.{arith}
 use borrow.Author.Tests.{leb-true, eqb-true, ne-eqb}
+use Rattle.numbers.specs.Rounding.{roundedUp}
 use Rattle.numbers.proofs.RoundingLaws.{rounded-up-at-most}
 use Rattle.numbers.proofs.Tests.{at-cond}
 use Rattle.deal.specs.DealSheet.{rows, exposure, nominal, status, needed}
@@ -21,6 +22,9 @@ use Rattle.deal.proofs.SheetLimits.{row-limits, rows-within, pool-count
 use Rattle.deal.proofs.SumLaws.{sum-at-most, sum-at-least, sum-ordered, sum-scaled}
 
 -- ---- over any sums within their limits
+
+pub rounded-up-same : (x y m n : ℕ) → x ≡ m → y ≡ n → roundedUp x y ≡ roundedUp m n
+rounded-up-same x y m n e f = rw (e, f)
 
 pub base-at-most-million : (q : Sums) → SumLimits q → baseCharge q ≤ 1000000
 base-at-most-million q l = rounded-up-at-most (800 * q .known .weighted) (q .known .exposure) 1000000 (omega arith)

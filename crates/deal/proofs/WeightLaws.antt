@@ -18,6 +18,22 @@ use Rattle.deal.specs.ApproachFloorCap.{approach, parameter, floor, capA
 use Rattle.deal.specs.declared.Terms.{Terms}
 use Rattle.deal.specs.declared.Tranche.{Tranche}
 
+-- ---- the weight by each approach
+
+pub fallback-weight : (t : Tranche) (d : Terms) → approach t d ≡ 0 → weight t d ≡ 125000
+unfolding weight
+fallback-weight t d by = simp by (omega arith)
+
+pub table-weighs : (t : Tranche) (d : Terms) → approach t d ≡ 1 → weight t d ≡ afterFloorAndCap t d (tableWeight t)
+unfolding weight
+table-weighs t d by = simp by
+
+pub formula-weight : (t : Tranche) (d : Terms) → approach t d ≡ 2 → weight t d ≡ afterFloorAndCap t d (formulaRawWeight t d)
+unfolding weight
+formula-weight t d by = simp by
+
+-- ---- no weight is above 125,000
+
 -- the raw weight, by the cases of IsRawWeight
 module _ (A D K p : ℕ) where
   thick-at-most : WithinLimits A D K p → K < D → 1 ≤ K → A < D → numberOf (rawWeight A D K p) ≤ 125000
@@ -82,17 +98,3 @@ weight-at-most t d =
     at-cond (λ x. x ≤ 125000) (eqb (approach t d) 1) _ _
     (λ _. after-floor-and-cap-at-most t d (tableWeight t) (table-weight-at-most t))
     (λ _. after-floor-and-cap-at-most t d (formulaRawWeight t d) (raw-weight-at-most t d)))
-
--- ---- the weight by each approach
-
-pub fallback-weight : (t : Tranche) (d : Terms) → approach t d ≡ 0 → weight t d ≡ 125000
-unfolding weight
-fallback-weight t d by = simp by
-
-pub table-weighs : (t : Tranche) (d : Terms) → approach t d ≡ 1 → weight t d ≡ afterFloorAndCap t d (tableWeight t)
-unfolding weight
-table-weighs t d by = simp by
-
-pub formula-weight : (t : Tranche) (d : Terms) → approach t d ≡ 2 → weight t d ≡ afterFloorAndCap t d (formulaRawWeight t d)
-unfolding weight
-formula-weight t d by = simp by
