@@ -8,7 +8,6 @@ use Prim.Native.Nat.{ℕ, _-_, _≤_, _<_}
 use native.Mathlib.Nat.{eq-zero-or-pos}
 use native.Mathlib.Omega.{arith}
 use lib.ListN.{length}
-use borrow.Author.Tests.{eq-eqb, lt-ltb}
 use Rattle.formula.specs.Formula.{Passes, WithinLimits, PassingWeight, IsRawWeight}
 use Rattle.formula.specs.FixedPoint.{rawWeight}
 use Rattle.formula.specs.declared.RawWeight.{RawWeight}
@@ -16,26 +15,18 @@ use Rattle.formula.specs.declared.RawWeight.the-variants.{Weight}
 use Rattle.formula.proofs.RawWeightLaw.{raw-weight-is}
 use Rattle.deal.specs.DealSheet.{resecuritisation, trancheCount, needed}
 use Rattle.deal.specs.PointsAndCharge.{attachmentPoint, detachmentPoint}
-use Rattle.weights.specs.ApproachFloorCap.{approach, parameter, afterFloorAndCap, numberOf, formulaRawWeight, weight, thin}
+use Rattle.weights.specs.ApproachFloorCap.{approach, parameter, afterFloorAndCap, numberOf, formulaRawWeight, weight}
 use Rattle.deal.specs.Lines.{terms, tranche, line, lineWords}
 use Rattle.deal.specs.DemandThree.{rawWeightOf, DemandThree}
 use Rattle.deal.specs.Refusals.{judged, verdict}
-use Rattle.weights.specs.declared.Terms.{Terms}
-use Rattle.weights.specs.declared.Tranche.{Tranche}
 use Rattle.deal.specs.declared.Verdict.the-variants.{Sound}
 use Rattle.deal.proofs.PointLaws.{attachment-at-most-detachment, detachment-at-most-million}
 use Rattle.deal.proofs.PoolLaws.{charge-at-most-million}
 use Rattle.deal.proofs.JudgedLaws.{accepted-means, accepted-judged}
 use Rattle.deal.proofs.LineLaws.{results-line}
-use Rattle.weights.proofs.WeightLaws.{formula-weight}
+use Rattle.weights.proofs.WeightLaws.{formula-weight, thick-where}
 
 -- ---- no accepted tranche is too thin
-
-thin-where :
-    (t : Tranche) (d : Terms) → approach t d ≡ 2 → t .attachment ≡ t .detachment → d .charge < t .detachment → thin t d ≡ true
-unfolding thin
-thin-where t d by same above =
-    simp (by, eq-eqb (t .attachment) (t .detachment) same, lt-ltb (d .charge) (t .detachment) above)
 
 -- where SEC-SA applies and D is above the pool charge, A is below D
 pub attachment-below-detachment :
@@ -46,9 +37,8 @@ attachment-below-detachment s room i accepted row by above =
     ⊎-elim
     (λ e.
     let same : attachmentPoint s i ≡ detachmentPoint s i = omega (arith, attachment-at-most-detachment s i) in
-    let clash : true ≡ false =
-    sym (thin-where (tranche s i) (terms s) by same above) ∙ accepted-means s room accepted .none-thin i row in
-    absurd (let z : _≡_ {A = ℕ} 0 1 = cc in omega arith))
+    let low = thick-where (tranche s i) (terms s) by same (accepted-means s room accepted .none-thin i row) in
+    absurd (omega arith))
     (λ pos. omega arith)
     (eq-zero-or-pos (detachmentPoint s i - attachmentPoint s i))
 

@@ -15,7 +15,7 @@ use Rattle.ratings.specs.RatingTable.{listed}
 use Rattle.deal.specs.DealSheet.{word, resecuritisation, poolAt, tranchesAt, trancheCount, trancheAt, amount, class, needed}
 use Rattle.weights.specs.ApproachFloorCap.{thin}
 use Rattle.deal.specs.Lines.{terms, tranche}
-use Rattle.deal.specs.Refusals.{unless, within, factFault, statusAllowed, rowFault, classInOrder, trancheFault, rowOf, columnOf, fault, refused, judgeWith, judge, orElse, firstOf, judged, wordsFollow, roomVerdict, thinVerdict, wordsVerdict, verdict}
+use Rattle.deal.specs.Refusals.{unless, within, factFault, statusAllowed, rowFault, classInOrder, heldInLimits, trancheFault, rowOf, columnOf, fault, refused, judgeWith, judge, orElse, firstOf, judged, wordsFollow, roomVerdict, thinVerdict, wordsVerdict, verdict}
 use Rattle.deal.specs.Judged.{GoodWord, GoodBelow, BadHere, bad, missing, FirstBad, WordsGood, WordsRefusal, first-bad, words-follow, TrancheThin, Why, by-words, by-room, by-thinness, Accepted}
 use Rattle.deal.specs.declared.Refusal.{Refusal}
 use Rattle.deal.specs.declared.Verdict.the-variants.{Sound, Faulty}
@@ -212,6 +212,23 @@ thin-tranche-of-fault s room r words enough first =
       place-is = here .1 .1;
     }
 
+pub refused-when : (s : List ℕ) (room : ℕ) (r : Refusal) → Why s room r → verdict s room ≡ Faulty r
+unfolding verdict
+refused-when s room r (by-words w) = simp (refused-words s r w)
+refused-when s room r (by-room w) =
+    simp (accepted-words s (w .words), lt-ltb room (6 * trancheCount s) (w .short)) (states 14 0 r (w .number-is) (w .place-is))
+refused-when s room r (by-thinness w) =
+    simp (
+      accepted-words s (w .words),
+      le-ltb room (6 * trancheCount s) (w .enough),
+      faulty-first-of (λ i. thinVerdict s i) (trancheCount s) r (record {
+        at = w .i;
+        below = w .among;
+        faulty = simp (w .is-thin) (states 13 (trancheAt s (w .i)) r (w .number-is) (w .place-is));
+        before = λ j h. simp (w .none-before j h);
+      }),
+    )
+
 pub refused-means : (s : List ℕ) (room : ℕ) (r : Refusal) → verdict s room ≡ Faulty r → Why s room r
 unfolding verdict
 refused-means s room r e =
@@ -234,23 +251,6 @@ refused-means s room r e =
     (first-of-faulty (λ i. thinVerdict s i) (trancheCount s) r (thins .1))))
     (or-else-faulty (roomVerdict s room) (firstOf (λ i. thinVerdict s i) (trancheCount s)) r (rest .1)))
     (or-else-faulty (wordsVerdict s) (orElse (roomVerdict s room) (firstOf (λ i. thinVerdict s i) (trancheCount s))) r e)
-
-pub refused-when : (s : List ℕ) (room : ℕ) (r : Refusal) → Why s room r → verdict s room ≡ Faulty r
-unfolding verdict
-refused-when s room r (by-words w) = simp (refused-words s r w)
-refused-when s room r (by-room w) =
-    simp (accepted-words s (w .words), lt-ltb room (6 * trancheCount s) (w .short)) (states 14 0 r (w .number-is) (w .place-is))
-refused-when s room r (by-thinness w) =
-    simp (
-      accepted-words s (w .words),
-      le-ltb room (6 * trancheCount s) (w .enough),
-      faulty-first-of (λ i. thinVerdict s i) (trancheCount s) r (record {
-        at = w .i;
-        below = w .among;
-        faulty = simp (w .is-thin) (states 13 (trancheAt s (w .i)) r (w .number-is) (w .place-is));
-        before = λ j h. simp (w .none-before j h);
-      }),
-    )
 
 pub accepted-means : (s : List ℕ) (room : ℕ) → verdict s room ≡ Sound → Accepted s room
 unfolding verdict
@@ -300,7 +300,7 @@ tranche-fault-at-most i before whole column w =
     picked-at-most 12 (eqb column 0) _ _ (unless-at-most 12 8 (within 1 10000000000000 w) (omega arith))
     (picked-at-most 12 (eqb column 1) _ _ (unless-at-most 12 9 (classInOrder i before w) (omega arith))
     (picked-at-most 12 (eqb column 2) _ _ (unless-at-most 12 10 (within 1 1200 w) (omega arith))
-    (picked-at-most 12 (eqb column 3) _ _ (unless-at-most 12 8 (leb w whole) (omega arith))
+    (picked-at-most 12 (eqb column 3) _ _ (unless-at-most 12 8 (heldInLimits whole w) (omega arith))
     (unless-at-most 12 11 (listed w) (omega arith)))))
 
 pub fault-at-most : (s : List ℕ) (p : ℕ) → fault s p ≤ 12

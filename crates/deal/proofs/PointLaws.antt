@@ -41,8 +41,11 @@ senior-amount-ordered s c e h =
 pub attachment-at-most-detachment : (s : List ℕ) (i : ℕ) → attachmentPoint s i ≤ detachmentPoint s i
 unfolding attachmentPoint detachmentPoint
 attachment-at-most-detachment s i =
-    point-ordered (poolSums s .all .nominal) (seniorAmount s (class s i)) (seniorAmount s (class s i + 1))
-    (senior-amount-ordered s (class s i) (class s i + 1) (omega arith))
+    omega (
+      arith,
+      point-ordered (poolSums s .all .nominal) (seniorAmount s (class s i)) (seniorAmount s (class s i + 1))
+          (senior-amount-ordered s (class s i) (class s i + 1) (omega arith)),
+    )
 
 pub detachment-at-most-million : (s : List ℕ) (i : ℕ) → detachmentPoint s i ≤ 1000000
 unfolding detachmentPoint

@@ -105,10 +105,14 @@ module _ (s : List ℕ) (accepted : judged s (needed s) ≡ Sound) where
     up-to-next : (i c : ℕ) → i < j + 1 → c ≤ class s i + 1 → c ≤ class s j + 1
     up-to-next i c l h = omega (arith, classes-sorted i j (omega arith) row)
 
-    pub filled-next : Filled s (set amounts (class s j + 1) (total + amount s j)) (total + amount s j) (j + 1)
+    filled-next : Filled s (set amounts (class s j + 1) (total + amount s j)) (total + amount s j) (j + 1)
     filled-next = record {
       size = length-set amounts (class s j + 1) (total + amount s j) ∙ f .size;
       total-is = omega (arith, f .total-is, sum-next (λ k. amount s k) j);
       at-first = λ c h. kept c (omega (arith, tranche-limits s j accepted row .class-least));
       at-class = λ i c l h. ⊎-elim (λ e. rw e written) (λ below. kept c (omega arith)) (eq-or-lt-of-le (up-to-next i c l h));
     }
+
+    -- the same of a place and a total that are known by their equations
+    pub filled-put : (place new : ℕ) → place ≡ class s j + 1 → new ≡ total + amount s j → Filled s (set amounts place new) new (j + 1)
+    filled-put place new at is = rw (at, is) filled-next

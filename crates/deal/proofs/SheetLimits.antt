@@ -138,8 +138,8 @@ next-in-order : (i before w : ℕ) → 0 < i → classInOrder i before w ≡ tru
 next-in-order i before w h e =
     ⊎-elim
     (λ same. let q = eqb-true w before same in (omega arith, omega arith))
-    (λ more. let q = eqb-true w (before + 1) more in (omega arith, omega arith))
-    (either-true (eqb w before) (eqb w (before + 1)) (rw (ne-eqb i 0 (λ z. omega arith)) at e))
+    (λ more. let q = eqb-true w _ more in (omega arith, omega arith))
+    (either-true (eqb w before) _ (rw (ne-eqb i 0 (λ z. omega arith)) at e))
 
 pub next-class :
     (s : List ℕ) (i : ℕ) → judged s (needed s) ≡ Sound → i + 1 < trancheCount s →
@@ -180,6 +180,5 @@ tranche-limits s i e row =
       months-least = maturities .0;
       months-most = maturities .1;
       held-most =
-          leb-true (held s i) (amount s i)
-          (unless-zero 8 (leb (held s i) (amount s i)) (omega arith) (good-in-tranche s i 3 e row (omega arith)));
+          omega (arith, leb-true (held s i) _ (unless-zero 8 _ (omega arith) (good-in-tranche s i 3 e row (omega arith))));
     }

@@ -4,7 +4,7 @@ use mathlib.Core.List.{List, [], _∷_}
 use Prim.Native.Nat.{ℕ, _*_}
 use lib.Dec.{eqb}
 use Rattle.numbers.specs.Rounding.{roundedUp}
-use Rattle.weights.specs.ApproachFloorCap.{approach, weight, riskWeightedAmount, capital}
+use Rattle.weights.specs.ApproachFloorCap.{approach, weight}
 use Rattle.weights.specs.declared.Terms.{Terms}
 use Rattle.weights.specs.declared.Tranche.{Tranche}
 use Rattle.deal.specs.DealSheet.{resecuritisation, dueDiligence, compositionKnown, class, months, held, firstRating, secondRating, thirdRating}
@@ -39,6 +39,16 @@ tranche s i = record {
   second = secondRating s i;
   third = thirdRating s i;
 }
+
+-- ---- amounts
+
+-- "Risk-weighted amount: held × weight / 10,000, rounded up."
+abbrev pub riskWeightedAmount : ℕ → ℕ → ℕ
+riskWeightedAmount heldAmount w = roundedUp (heldAmount * w) 10000
+
+-- "Capital: held × weight × 8 / 10^6, rounded up."
+abbrev pub capital : ℕ → ℕ → ℕ
+capital heldAmount w = roundedUp (heldAmount * w * 8) 1000000
 
 -- ---- the line: "approach (0 fallback, 1 SEC-ERBA, 2 SEC-SA), A, D, weight, risk-weighted amount, capital"
 

@@ -44,6 +44,10 @@ rowFault resecuritised column w =
 abbrev pub classInOrder : ℕ → ℕ → ℕ → Bool
 classInOrder i before w = cond (eqb i 0) (eqb w 1) (eqb w before || eqb w (before + 1))
 
+-- "amount held, 0 to the tranche amount"
+abbrev pub heldInLimits : ℕ → ℕ → Bool
+heldInLimits trancheAmount w = leb w trancheAmount
+
 -- "8: a tranche amount outside its limits, or held above the amount. 9: a class out of order. 10: a maturity outside 1 to 1200. 11: a rating code
 -- not listed." The columns of tranche i, from 0: amount, class, months, held, three ratings; `before` is the class of the row before
 abbrev pub trancheFault : ℕ → ℕ → ℕ → ℕ → ℕ → ℕ
@@ -51,7 +55,7 @@ trancheFault i before trancheAmount column w =
     cond (eqb column 0) (unless 8 (within 1 10000000000000 w))
     (cond (eqb column 1) (unless 9 (classInOrder i before w))
     (cond (eqb column 2) (unless 10 (within 1 1200 w))
-    (cond (eqb column 3) (unless 8 (leb w trancheAmount))
+    (cond (eqb column 3) (unless 8 (heldInLimits trancheAmount w))
     (unless 11 (listed w)))))
 
 -- a section's row and column at place p, where its count is at place `at` and its rows have `size` words

@@ -78,8 +78,9 @@ pub fn weigh(sheet: &[u64], results: &mut [u64]) -> Answer
         return Answer::Refused(r);
     }
     lines::write_lines(sheet, terms, amounts, results);
+    let count = sheet::tranche_count(sheet);
     Answer::Weighed {
-        count: sheet::tranche_count(sheet),
+        count,
         charge: terms.charge,
     }
 }

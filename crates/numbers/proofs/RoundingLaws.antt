@@ -40,3 +40,6 @@ rounded-up-exact m y pos = rounded-up-is (m * y) y m pos (omega arith) (omega ar
 
 pub rounded-up-zero : (y : ℕ) → roundedUp 0 y ≡ 0
 rounded-up-zero y = omega (arith, rounded-up-at-most 0 y 0 (omega arith))
+
+pub rounded-up-same : (x y m n : ℕ) → x ≡ m → y ≡ n → roundedUp x y ≡ roundedUp m n
+rounded-up-same x y m n e f = rw (e, f)

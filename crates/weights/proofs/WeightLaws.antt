@@ -1,5 +1,5 @@
 -- No weight is above 125,000 (1250%): neither the formula's raw weight, nor the table's, nor either after floor and cap; and which of them is the
--- weight, by approach. No axioms.
+-- weight, by approach; and where a tranche of no thickness lies. No axioms.
 use mathlib.Core.Bool.{Bool, true, false}
 use mathlib.Core.Logic.{⊎-elim}
 use mathlib.Core.Path.{_≡_, refl}
@@ -7,6 +7,7 @@ use Prim.Native.Nat.{ℕ, _-_, _≤_, _<_}
 use native.Mathlib.Nat.{eq-zero-or-pos, le-refl}
 use native.Mathlib.Omega.{arith}
 use lib.Dec.{eqb}
+use borrow.Author.Tests.{ltb-false, eq-eqb}
 use Rattle.numbers.proofs.Tests.{at-cond}
 use Rattle.formula.specs.Formula.{WithinLimits}
 use Rattle.formula.specs.FixedPoint.{withinLimits, rawWeight}
@@ -14,9 +15,25 @@ use Rattle.formula.proofs.RawWeightLaw.{raw-weight-is}
 use Rattle.formula.proofs.Limits.{limits-of-test}
 use Rattle.ratings.specs.RatingTable.{ratingTable}
 use Rattle.ratings.proofs.TableLaws.{weight-by-ratings-at-most}
-use Rattle.weights.specs.ApproachFloorCap.{approach, parameter, floor, capApplies, afterFloorAndCap, numberOf, formulaRawWeight, tableWeight, weight}
+use Rattle.weights.specs.ApproachFloorCap.{approach, parameter, floor, capApplies, afterFloorAndCap, numberOf, formulaRawWeight, tableWeight, weight, thin}
 use Rattle.weights.specs.declared.Terms.{Terms}
 use Rattle.weights.specs.declared.Tranche.{Tranche}
+
+-- ---- the weight by each approach
+
+pub fallback-weight : (t : Tranche) (d : Terms) → approach t d ≡ 0 → weight t d ≡ 125000
+unfolding weight
+fallback-weight t d by = simp by (omega arith)
+
+pub table-weighs : (t : Tranche) (d : Terms) → approach t d ≡ 1 → weight t d ≡ afterFloorAndCap t d (tableWeight t)
+unfolding weight
+table-weighs t d by = simp by
+
+pub formula-weight : (t : Tranche) (d : Terms) → approach t d ≡ 2 → weight t d ≡ afterFloorAndCap t d (formulaRawWeight t d)
+unfolding weight
+formula-weight t d by = simp by
+
+-- ---- no weight is above 125,000
 
 -- the raw weight, by the cases of IsRawWeight
 module _ (A D K p : ℕ) where
@@ -83,16 +100,12 @@ weight-at-most t d =
     (λ _. after-floor-and-cap-at-most t d (tableWeight t) (table-weight-at-most t))
     (λ _. after-floor-and-cap-at-most t d (formulaRawWeight t d) (raw-weight-at-most t d)))
 
--- ---- the weight by each approach
+-- ---- thickness
 
-pub fallback-weight : (t : Tranche) (d : Terms) → approach t d ≡ 0 → weight t d ≡ 125000
-unfolding weight
-fallback-weight t d by = simp by
-
-pub table-weighs : (t : Tranche) (d : Terms) → approach t d ≡ 1 → weight t d ≡ afterFloorAndCap t d (tableWeight t)
-unfolding weight
-table-weighs t d by = simp by
-
-pub formula-weight : (t : Tranche) (d : Terms) → approach t d ≡ 2 → weight t d ≡ afterFloorAndCap t d (formulaRawWeight t d)
-unfolding weight
-formula-weight t d by = simp by
+-- a tranche of no thickness that is not too thin for the formula is not above the pool charge
+pub thick-where :
+    (t : Tranche) (d : Terms) → approach t d ≡ 2 → t .attachment ≡ t .detachment → thin t d ≡ false → t .detachment ≤ d .charge
+unfolding thin
+thick-where t d by same e =
+    let last = rw (by, eq-eqb (t .attachment) (t .detachment) same) at e in
+    omega (arith, ltb-false, last)

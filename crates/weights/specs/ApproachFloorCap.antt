@@ -2,9 +2,8 @@
 -- give; 85 and 94 for the parameter, 87 and 96 for the floor, 88, 89 and 97 for the cap): approach and weight of a tranche, as functions of the
 -- tranche's own inputs and of the deal's terms alone. Weights are counted in hundredths of a percent.
 use mathlib.Core.Bool.{Bool, cond, not, _&&_, _||_}
-use Prim.Native.Nat.{ℕ, _*_, _-_, min, max}
+use Prim.Native.Nat.{ℕ, _-_, min, max}
 use lib.Dec.{ltb, eqb}
-use Rattle.numbers.specs.Rounding.{roundedUp}
 use Rattle.formula.specs.FixedPoint.{rawWeight}
 use Rattle.formula.specs.declared.RawWeight.{RawWeight}
 use Rattle.formula.specs.declared.RawWeight.the-variants.{Weight, NoThickness, OutsideLimits}
@@ -68,16 +67,6 @@ weight t d =
     cond (eqb (approach t d) 0) 125000
     (cond (eqb (approach t d) 1) (afterFloorAndCap t d (tableWeight t))
     (afterFloorAndCap t d (formulaRawWeight t d)))
-
--- ---- amounts
-
--- "Risk-weighted amount: held × weight / 10,000, rounded up."
-abbrev pub riskWeightedAmount : ℕ → ℕ → ℕ
-riskWeightedAmount heldAmount w = roundedUp (heldAmount * w) 10000
-
--- "Capital: held × weight × 8 / 10^6, rounded up."
-abbrev pub capital : ℕ → ℕ → ℕ
-capital heldAmount w = roundedUp (heldAmount * w * 8) 1000000
 
 -- ---- "13: SEC-SA applies, A equals D, and D is above the pool charge"
 

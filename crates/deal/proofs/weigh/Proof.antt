@@ -1,5 +1,6 @@
 -- `weigh`: each refusal is the sheet's verdict and leaves the results; where there is none, the lines are written. No axioms.
 use mathlib.Core.Path.{_≡_, _∙_, ap}
+use native.Mathlib.Omega.{arith}
 use borrow.Author.Needs.{needs}
 use Rattle.weights.specs.declared.Terms.{Terms}
 use Rattle.deal.specs.DealSheet.{needed}
@@ -88,7 +89,7 @@ returns-3 c =
     weighed-answer _ _
     (decided-by-thickness _ _ (told .enum-told .given .1) (told .before .before .judge-loading .ensures) (thickness .before .before .judge-thickness .ensures) ∙
     thickness .enum-told2 .given .1)
-    (c .tranche-count .ensures)
+    (omega (arith, c .tranche-count .ensures))
     (ap (λ (d : Terms). d .charge) (thickness .before .before .before .before .terms-of .ensures))
     (c .before .before .before .write-lines .ensures)
 

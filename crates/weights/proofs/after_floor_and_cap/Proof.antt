@@ -1,4 +1,5 @@
 -- `after_floor_and_cap`: the weight is raised first, and lowered where the cap applies. No axioms.
+use native.Mathlib.Omega.{arith}
 use borrow.Author.Needs.{needs}
 use Rattle.weights.proofs.after_floor_and_cap.Statement.{statement}
 use Rattle.weights.proofs.after_floor_and_cap.Tie as tie
@@ -18,13 +19,8 @@ smaller-requires c κs = search needs
 returns : tie.Need-returns
 returns c =
     let raised = c .before .before .before in
-    simp (
-      ← c .before .before .cap-applies .ensures,
-      c .before .if1 .taken,
-      c .smaller .ensures,
-      raised .larger .ensures,
-      raised .before .floor .ensures,
-    )
+    simp (← c .before .before .cap-applies .ensures, c .before .if1 .taken)
+    (omega (arith, c .smaller .ensures, raised .larger .ensures, raised .before .floor .ensures))
 
 returns-2 : tie.Need-returns-2
 returns-2 c =

@@ -1,4 +1,5 @@
 -- `approach`: each return by the tests that led there. No axioms.
+use native.Mathlib.Omega.{arith}
 use borrow.Author.Needs.{needs}
 use Rattle.weights.proofs.approach.Statement.{statement}
 use Rattle.weights.proofs.approach.Tie as tie
@@ -7,7 +8,7 @@ returns : tie.Need-returns
 returns c = search needs
 
 returns-2 : tie.Need-returns-2
-returns-2 c = search needs
+returns-2 c = simp (c .before .if1 .left, c .if2 .taken) (omega arith)
 
 rated-requires : tie.Need-rated-requires
 rated-requires c κs = search needs
@@ -20,6 +21,7 @@ returns-3 c =
       ← c .before .rated .ensures,
       c .if3 .taken,
     )
+    (omega arith)
 
 returns-4 : tie.Need-returns-4
 returns-4 c =

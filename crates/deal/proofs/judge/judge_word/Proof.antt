@@ -1,14 +1,21 @@
 -- `judge_word`: each return by the tests that led there. No axioms.
+use mathlib.Core.Path.{_≡_}
+use Prim.Native.Nat.{ℕ, _≤_}
 use native.Mathlib.Omega.{arith}
 use lib.ListN.{length}
 use borrow.Author.Tests.{le-ltb, lt-ltb, eq-eqb, ne-eqb}
+use Rattle.deal.specs.Refusals.{judgeWith, refused}
 use Rattle.deal.proofs.judge.judge_word.Statement.{statement}
 use Rattle.deal.proofs.judge.judge_word.Tie as tie
+
+-- a missing word, refused at the sheet's length
+missing : (size p number place : ℕ) → size ≤ p → place ≡ size → refused 1 place ≡ judgeWith size p number
+missing size p number place h e = simp (le-ltb p size h, e)
 
 returns : tie.Need-returns
 returns c =
     let x = c .before .args in
-    simp (le-ltb (x .p) (length (x .s .now)) (omega arith))
+    missing (length (x .s .now)) (x .p) (x .number) _ (omega arith) (omega arith)
 
 returns-2 : tie.Need-returns-2
 returns-2 c =

@@ -1,11 +1,34 @@
 -- `put_line`: six stores in a row are one run of stores. No axioms.
+use mathlib.Core.List.{List}
 use mathlib.Core.Path.{_≡_}
-use Prim.Native.Nat.{suc, _+_}
+use Prim.Native.Nat.{ℕ, suc, _+_}
 use native.Mathlib.Omega.{arith}
 use borrow.Author.Needs.{needs}
-use lib.ListN.{length-set}
+use lib.ListN.{set, length-set}
+use lib.Seq.{sets}
+use Rattle.deal.specs.Lines.{wordsOf}
+use Rattle.deal.specs.declared.Line.{Line}
 use Rattle.deal.proofs.lines.put_line.Statement.{statement}
 use Rattle.deal.proofs.lines.put_line.Tie as tie
+
+-- stores at a place and at the five after it
+six-stores :
+    (r : List ℕ) (l : Line) (at one two three four five : ℕ) →
+    one ≡ at + 1 → two ≡ at + 2 → three ≡ at + 3 → four ≡ at + 4 → five ≡ at + 5 →
+    set
+    (set
+    (set
+    (set (set (set r at (l .approach)) one (l .attachment)) two (l .detachment)) three (l .weight))
+    four (l .rwa))
+    five (l .capital) ≡
+    sets r at (wordsOf l)
+six-stores r l at one two three four five a b c d e =
+    let next : one ≡ suc at = omega arith in
+    let third : two ≡ suc (suc at) = omega arith in
+    let fourth : three ≡ suc (suc (suc at)) = omega arith in
+    let fifth : four ≡ suc (suc (suc (suc at))) = omega arith in
+    let last : five ≡ suc (suc (suc (suc (suc at)))) = omega arith in
+    rw (next, third, fourth, fifth, last)
 
 mul-results : tie.Need-mul-results
 mul-results c = search needs
@@ -63,13 +86,8 @@ same-length c = search needs
 
 returns : tie.Need-returns
 returns c =
-    let at = c .args .at in
-    let one : at + 1 ≡ suc at = omega arith in
-    let two : at + 2 ≡ suc (suc at) = omega arith in
-    let three : at + 3 ≡ suc (suc (suc at)) = omega arith in
-    let four : at + 4 ≡ suc (suc (suc (suc at))) = omega arith in
-    let five : at + 5 ≡ suc (suc (suc (suc (suc at)))) = omega arith in
-    rw (one, two, three, four, five)
+    let x = c .args in
+    six-stores (x .results .now) (x .line) (x .at) _ _ _ _ _ (omega arith) (omega arith) (omega arith) (omega arith) (omega arith)
 
 pub put-line-spec : {M : Type 1} → statement M
 put-line-spec =

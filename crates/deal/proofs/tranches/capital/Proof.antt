@@ -15,7 +15,7 @@ rounded-up-requires : tie.Need-rounded-up-requires
 rounded-up-requires c κs = search needs
 
 returns : tie.Need-returns
-returns c = search needs
+returns c = omega (arith, c .rounded-up .ensures)
 
 pub capital-spec : {M : Type 1} → statement M
 capital-spec = tie.close (tie.spec mul-rounded-up mul-rounded-up-2 rounded-up-requires returns)

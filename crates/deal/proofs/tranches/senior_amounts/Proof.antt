@@ -6,7 +6,7 @@ use native.Mathlib.Omega.{arith}
 use borrow.Author.Needs.{needs}
 use Rattle.deal.specs.DealSheet.{word, trancheCount, amount, class}
 use Rattle.deal.proofs.SheetLimits.{pool-counted, tranches-counted, tranches-within, tranche-at-most, tranche-limits}
-use Rattle.deal.proofs.SeniorAmountsLaw.{Filled, filled-none, filled-next, filled-all, amount-to-most}
+use Rattle.deal.proofs.SeniorAmountsLaw.{Filled, filled-none, filled-put, filled-all, amount-to-most}
 use Rattle.deal.proofs.tranches.senior_amounts.Statement.{statement}
 use Rattle.deal.proofs.tranches.senior_amounts.Tie as tie
 
@@ -98,8 +98,8 @@ loop-again c =
     let at = c .before .before .before .before in
     let start = at .before .before .before in (
       omega arith,
-      rw (own-class (c .before), own-amount c)
-          (filled-next (start .args .s .now) (start .pre) (at .loop .amounts) (at .loop .sum) (at .loop .j) (at .loop .inv .1) (omega arith)),
+      filled-put (start .args .s .now) (start .pre) (at .loop .amounts) (at .loop .sum) (at .loop .j) (at .loop .inv .1) (omega arith) _ _
+          (omega (arith, own-class (c .before))) (omega (arith, own-amount c)),
     )
 
 returns : tie.Need-returns Inv-loop μ-loop

@@ -1,0 +1,22 @@
+-- `late_share`: the numbers that are divided are those of the definition. No axioms.
+use mathlib.Core.Path.{_∙_}
+use Prim.Native.Nat.{_*_}
+use native.Mathlib.Omega.{arith}
+use borrow.Author.Needs.{needs}
+use Rattle.numbers.proofs.RoundingLaws.{rounded-up-same}
+use Rattle.deal.proofs.pool.late_share.Statement.{statement}
+use Rattle.deal.proofs.pool.late_share.Tie as tie
+
+mul-rounded-up : tie.Need-mul-rounded-up
+mul-rounded-up c = search needs
+
+rounded-up-requires : tie.Need-rounded-up-requires
+rounded-up-requires c κs = search needs
+
+returns : tie.Need-returns
+returns c =
+    let q = c .before .before .args .q in
+    c .rounded-up .ensures ∙ rounded-up-same _ _ (q .late * 1000000) (q .known .nominal) (omega arith) (omega arith)
+
+pub late-share-spec : {M : Type 1} → statement M
+late-share-spec = tie.close (tie.spec mul-rounded-up rounded-up-requires returns)
