@@ -7,7 +7,6 @@ use Prim.Native.Nat.{ℕ, _+_, _*_, _-_, _≤_, _<_}
 use native.Mathlib.Nat.{le-refl, mul-le-mul-left}
 use native.Mathlib.Omega.{arith}
 use borrow.Author.Tests.{leb-true, eqb-true, ne-eqb}
-use Rattle.numbers.specs.Rounding.{roundedUp}
 use Rattle.numbers.proofs.RoundingLaws.{rounded-up-at-most}
 use Rattle.numbers.proofs.Tests.{at-cond}
 use Rattle.deal.specs.DealSheet.{rows, exposure, nominal, status, needed}

@@ -12,7 +12,9 @@ use Rattle.deal.specs.PointsAndCharge.{poolSums, mostlyKnown, poolCharge
 use Rattle.deal.specs.declared.Line.{Line}
 use Rattle.deal.specs.declared.Sums.{Sums}
 
--- "100 × (sum of exposure × risk weight) / (sum of exposure) over all rows, rounded up"
+-- ---- what the tranches share, and what is a tranche's own
+
+-- the cap: "100 × (sum of exposure × risk weight) / (sum of exposure) over all rows, rounded up"
 abbrev pub poolAverage : Sums → ℕ
 poolAverage q = roundedUp (100 * q .all .weighted) (q .all .exposure)
 
