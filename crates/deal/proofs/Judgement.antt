@@ -4,6 +4,7 @@ use mathlib.Core.Bool.{Bool, true, false, cond}
 use mathlib.Core.List.{List}
 use mathlib.Core.Path.{_≡_, refl, ap, _∙_}
 use Prim.Native.Nat.{ℕ, _+_, _*_, _-_, _≤_, _<_}
+use native.Mathlib.Nat.{mul-comm, mod-lt, div-add-mod, div-lt-iff-lt-mul}
 use native.Mathlib.Omega.{arith}
 use lib.Dec.{ltb, eqb}
 use lib.ListN.{length}
@@ -120,3 +121,24 @@ fault-of-tranche s i c column =
     fault-in-tranches s p (omega arith) ∙
     ap (λ (j : ℕ). trancheFault j (class s (j - 1)) (amount s j) (columnOf 7 (tranchesAt s) p) (word s p)) row ∙
     ap (λ (k : ℕ). trancheFault i (class s (i - 1)) (amount s i) k (word s p)) is
+
+-- ---- a place in a section of `count` rows of `size` words, whose count is at place `at`, is one of a row's columns
+
+pub record InSection (size at count p : ℕ) : Type 0 where
+  pub i : ℕ
+  pub c : ℕ
+  pub row : i < count
+  pub column : c < size
+  pub place : p ≡ at + 1 + size * i + c
+
+pub in-section : (size at count p : ℕ) → 0 < size → at < p → p < at + 1 + size * count → InSection size at count p
+in-section size at count p some after before =
+    let past = p - (at + 1) in
+    let short : p - (at + 1) < count * size = omega (arith, mul-comm count size) in
+    record {
+      i = rowOf size at p;
+      c = columnOf size at p;
+      row = div-lt-iff-lt-mul some .1 short;
+      column = mod-lt past some;
+      place = omega (arith, div-add-mod past size);
+    }

@@ -3,6 +3,7 @@ pub mod Judgement
 pub mod SheetLimits
 pub mod JudgeSteps
 pub mod JudgedLaws
+pub mod GoodSheetLaw
 pub mod SumLaws
 pub mod SumPermuted
 pub mod PoolLaws

@@ -17,7 +17,7 @@ use Rattle.deal.specs.Lines.{poolAverage, terms}
 use Rattle.deal.specs.Refusals.{judged}
 use Rattle.deal.specs.declared.Sums.{Sums}
 use Rattle.deal.specs.declared.Verdict.the-variants.{Sound}
-use Rattle.deal.proofs.SheetLimits.{row-limits, rows-within, pool-counted}
+use Rattle.deal.proofs.SheetLimits.{good-row, rows-within, pool-counted}
 use Rattle.deal.proofs.SumLaws.{sum-at-most, sum-at-least, sum-ordered, sum-scaled}
 
 -- ---- over any sums within their limits
@@ -70,7 +70,7 @@ counted-among false more x h = omega arith
 
 module _ (s : List ℕ) (accepted : judged s (needed s) ≡ Sound) where
   row-weighted : (i : ℕ) → i < rows s → weightedExposure s i ≤ 1250 * exposure s i
-  row-weighted i row = omega (arith, mul-le-mul-left (exposure s i) (row-limits s i accepted row .weight-most))
+  row-weighted i row = omega (arith, mul-le-mul-left (exposure s i) (good-row s i accepted row .weight-most))
 
   late-known : (i : ℕ) → delinquent s i ≡ true → known s i ≡ true
   late-known i e =
@@ -82,7 +82,7 @@ module _ (s : List ℕ) (accepted : judged s (needed s) ≡ Sound) where
       let counts = rows-within s (pool-counted s accepted) in
       record {
         exposure-most =
-            omega (arith, sum-at-most (λ i. exposure s i) 10000000000 n (λ i l. row-limits s i accepted (omega arith) .exposure-most));
+            omega (arith, sum-at-most (λ i. exposure s i) 10000000000 n (λ i l. good-row s i accepted (omega arith) .exposure-most));
         known-among-all =
             sum-ordered (λ i. whereCounted (known s i) (exposure s i)) (λ i. exposure s i) n
             (λ i l. counted-at-most (known s i) (exposure s i));
@@ -95,7 +95,7 @@ module _ (s : List ℕ) (accepted : judged s (needed s) ≡ Sound) where
             omega (
               arith,
               sum-at-most (λ i. whereCounted (known s i) (nominal s i)) 10000000000 n
-                  (λ i l. counted-within (known s i) (nominal s i) 10000000000 (row-limits s i accepted (omega arith) .nominal-most)),
+                  (λ i l. counted-within (known s i) (nominal s i) 10000000000 (good-row s i accepted (omega arith) .nominal-most)),
             );
         late-among-known =
             sum-ordered (λ i. whereCounted (delinquent s i) (nominal s i)) (λ i. whereCounted (known s i) (nominal s i)) n
@@ -105,7 +105,7 @@ module _ (s : List ℕ) (accepted : judged s (needed s) ≡ Sound) where
   pub nominal-most-to : (n : ℕ) → n ≤ rows s → sumsTo s n .all .nominal ≤ 10000000000000
   nominal-most-to n within =
       let counts = rows-within s (pool-counted s accepted) in
-      omega (arith, sum-at-most (λ i. nominal s i) 10000000000 n (λ i l. row-limits s i accepted (omega arith) .nominal-most))
+      omega (arith, sum-at-most (λ i. nominal s i) 10000000000 n (λ i l. good-row s i accepted (omega arith) .nominal-most))
 
 -- ---- the pool of an accepted sheet
 
@@ -125,7 +125,7 @@ pub nominal-within : (s : List ℕ) → judged s (needed s) ≡ Sound → (1 ≤
 unfolding poolSums
 nominal-within s accepted =
     let counts = rows-within s (pool-counted s accepted) in (
-      omega (arith, sum-at-least (λ i. nominal s i) 1 (rows s) (λ i l. row-limits s i accepted l .nominal-least)),
+      omega (arith, sum-at-least (λ i. nominal s i) 1 (rows s) (λ i l. good-row s i accepted l .nominal-least)),
       nominal-most-to s accepted (rows s) (le-refl (rows s)),
     )
 
@@ -136,7 +136,7 @@ exposure-positive s accepted =
     omega (
       arith,
       rows-within s (pool-counted s accepted),
-      sum-at-least (λ i. exposure s i) 1 (rows s) (λ i l. row-limits s i accepted l .exposure-least),
+      sum-at-least (λ i. exposure s i) 1 (rows s) (λ i l. good-row s i accepted l .exposure-least),
     )
 
 -- what the base charge and the late share are divided by, where they count: a pool of which at most 5% of the exposure is not known has known rows
@@ -154,6 +154,6 @@ known-positive s accepted most =
         sum-scaled (λ i. whereCounted (known s i) (exposure s i)) (λ i. whereCounted (known s i) (nominal s i)) 10000000000 (rows s)
             (λ i l.
             counted-scaled (known s i) (exposure s i) (nominal s i) 10000000000
-            (omega (arith, row-limits s i accepted l))),
+            (omega (arith, good-row s i accepted l))),
       ),
     )

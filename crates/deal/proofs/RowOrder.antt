@@ -3,7 +3,7 @@
 use mathlib.Core.List.{List}
 use mathlib.Core.Logic.{⊎-elim}
 use mathlib.Core.Path.{_≡_, sym, ap, _∙_}
-use Prim.Native.Nat.{ℕ, _+_, _-_, _≤_, _<_}
+use Prim.Native.Nat.{ℕ, _+_, _-_, _<_}
 use native.Mathlib.Nat.{eq-zero-or-pos, le-refl}
 use native.Mathlib.Omega.{arith}
 use lib.ListN.{length}
@@ -11,13 +11,13 @@ use borrow.Author.Tests.{lt-ltb}
 use Rattle.deal.specs.DealSheet.{word, resecuritisation, poolAt, rows, rowAt, tranchesAt, trancheCount, trancheAt, needed}
 use Rattle.deal.specs.PointsAndCharge.{poolSums}
 use Rattle.deal.specs.Lines.{terms, tranche}
-use Rattle.deal.specs.Refusals.{rowOf, columnOf, fault, judge, judged, verdict}
+use Rattle.deal.specs.Refusals.{rowOf, fault, judge, judged, verdict}
 use Rattle.deal.specs.Results.{replyTo, resultsAfter}
 use Rattle.deal.specs.Judged.{Accepted}
 use Rattle.deal.specs.OrderOfRows.{Reordered}
 use Rattle.deal.specs.declared.Verdict.the-variants.{Sound}
 use Rattle.deal.proofs.FirstFault.{first-of-all}
-use Rattle.deal.proofs.Judgement.{good-word, tranches-at-past-rows, fault-of-row}
+use Rattle.deal.proofs.Judgement.{good-word, tranches-at-past-rows, fault-of-row, InSection, in-section}
 use Rattle.deal.proofs.SheetLimits.{accepted-to, pool-at-five}
 use Rattle.deal.proofs.JudgedLaws.{judged-good, accepted-means, accepted-judged, accepted-when}
 use Rattle.deal.proofs.LineLaws.{lines-same, results-accepted}
@@ -90,7 +90,7 @@ module _ (s s′ : List ℕ) (π σ : ℕ → ℕ) (r : Reordered s s′ π σ) 
         (λ past.
         ⊎-elim
         (λ after. in-place (r .same-after p (omega arith)))
-        (λ before. in-row (omega arith) (omega arith))
+        (λ before. in-row (in-section 4 (poolAt s) (rows s) p (omega arith) (omega arith) (omega (arith, tranches-at-past-rows s))))
         (eq-zero-or-pos (tranchesAt s - p)))
         (λ ahead. in-place (r .same-before p (omega arith)))
         (eq-zero-or-pos (rowAt s 0 - p))
@@ -98,17 +98,12 @@ module _ (s s′ : List ℕ) (π σ : ℕ → ℕ) (r : Reordered s s′ π σ) 
         in-place : word s′ p ≡ word s p → fault s′ p ≡ 0
         in-place same = fault-in-place at-five p same ∙ good-word s (needed s) p good l .1
 
-        in-row : rowAt s 0 ≤ p → p < tranchesAt s → fault s′ p ≡ 0
-        in-row past before =
-            let i = rowOf 4 (poolAt s) p in
-            let c = columnOf 4 (poolAt s) p in
-            let place : p ≡ rowAt s (rowOf 4 (poolAt s) p) + columnOf 4 (poolAt s) p = omega arith in
-            let row : rowOf 4 (poolAt s) p < rows s = omega (arith, tranches-at-past-rows s) in
-            let column : columnOf 4 (poolAt s) p < 4 = omega arith in
-            let from = r .permutation .forth i row in
-            ap (fault s′) place ∙
-            fault-moved at-five i c row column ∙
-            good-word s (needed s) (rowAt s (π i) + c) good (omega (arith, tranches-at-past-rows s)) .1
+        in-row : InSection 4 (poolAt s) (rows s) p → fault s′ p ≡ 0
+        in-row at =
+            let from = r .permutation .forth (at .i) (at .row) in
+            ap (fault s′) (at .place) ∙
+            fault-moved at-five (at .i) (at .c) (at .row) (at .column) ∙
+            good-word s (needed s) (rowAt s (π (at .i)) + at .c) good (omega (arith, tranches-at-past-rows s)) .1
 
     order-words : judged s′ (needed s′) ≡ Sound
     unfolding judge

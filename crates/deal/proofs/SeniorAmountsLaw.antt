@@ -17,7 +17,7 @@ use Rattle.deal.specs.PointsAndCharge.{seniorAmount}
 use Rattle.deal.specs.SeniorAmounts.{SeniorAmounts}
 use Rattle.deal.specs.Refusals.{judged}
 use Rattle.deal.specs.declared.Verdict.the-variants.{Sound}
-use Rattle.deal.proofs.SheetLimits.{first-class, next-class, tranches-counted, tranches-within, tranche-limits}
+use Rattle.deal.proofs.SheetLimits.{first-class, next-class-within, class-within, tranches-counted, tranches-within, good-tranche}
 use Rattle.deal.proofs.SumLaws.{sum-next, sum-same, sum-at-most}
 
 -- the amounts of the first n tranches, and of those among them of a class below c
@@ -58,13 +58,13 @@ module _ (s : List ℕ) (accepted : judged s (needed s) ≡ Sound) where
       ⊎-elim
       (λ e. rw e (le-refl _))
       (λ l.
-      let next = rw (add-one j) at (next-class s j accepted (omega arith)) in
+      let next = rw (add-one j) at (next-class-within s j accepted (omega arith)) in
       omega (arith, classes-sorted i j (le-of-suc-le-suc l) (omega arith)))
       (eq-or-lt-of-le h)
 
   pub amount-to-most : (j : ℕ) → j ≤ trancheCount s → amountTo s j ≤ 10000000000000 * j
   amount-to-most j h =
-      sum-at-most (λ k. amount s k) 10000000000000 j (λ k l. tranche-limits s k accepted (omega arith) .amount-most)
+      sum-at-most (λ k. amount s k) 10000000000000 j (λ k l. good-tranche s k accepted (omega arith) .amount-most)
 
   -- all tranches up to j are senior to the class after that of j
   all-senior : (j : ℕ) → j < trancheCount s → amountTo s (j + 1) ≡ seniorTo s (class s j + 1) (j + 1)
@@ -84,7 +84,7 @@ module _ (s : List ℕ) (accepted : judged s (needed s) ≡ Sound) where
       getD amounts c 0 ≡ seniorTo s c j
   filled-before c zero f row h = f .at-first c (omega (arith, first-class s accepted))
   filled-before c (suc j) f row h =
-      let next = rw (add-one j) at (next-class s j accepted (omega arith)) in
+      let next = rw (add-one j) at (next-class-within s j accepted (omega arith)) in
       f .at-class j c (omega arith) (omega arith)
 
   module _ (amounts : List ℕ) (total j : ℕ) (f : Filled s amounts total j) (row : j < trancheCount s) where
@@ -92,7 +92,7 @@ module _ (s : List ℕ) (accepted : judged s (needed s) ≡ Sound) where
     written : getD (set amounts (class s j + 1) (total + amount s j)) (class s j + 1) 0 ≡ seniorTo s (class s j + 1) (j + 1)
     written =
         let within : class s j + 1 < length amounts =
-        omega (arith, f .size, tranche-limits s j accepted row .class-most, tranches-within s (tranches-counted s accepted)) in
+        omega (arith, f .size, class-within s j accepted row .1, tranches-within s (tranches-counted s accepted)) in
         let added : total + amount s j ≡ amountTo s (j + 1) = omega (arith, f .total-is, sum-next (λ k. amount s k) j) in
         getD-set-same amounts (class s j + 1) (total + amount s j) 0 within ∙ added ∙ all-senior j row
 
@@ -109,7 +109,7 @@ module _ (s : List ℕ) (accepted : judged s (needed s) ≡ Sound) where
     filled-next = record {
       size = length-set amounts (class s j + 1) (total + amount s j) ∙ f .size;
       total-is = omega (arith, f .total-is, sum-next (λ k. amount s k) j);
-      at-first = λ c h. kept c (omega (arith, tranche-limits s j accepted row .class-least));
+      at-first = λ c h. kept c (omega (arith, class-within s j accepted row .0));
       at-class = λ i c l h. ⊎-elim (λ e. rw e written) (λ below. kept c (omega arith)) (eq-or-lt-of-le (up-to-next i c l h));
     }
 

@@ -1,5 +1,5 @@
 -- What a sound beginning of a sheet says of its numbers: the counts, the place of each section, and the limits of every row's words. No axioms.
-use mathlib.Core.Bool.{Bool, true, false, _||_}
+use mathlib.Core.Bool.{Bool, true, false, cond, _||_}
 use mathlib.Core.List.{List}
 use mathlib.Core.Logic.{_⊎_, inl, inr, ⊎-elim}
 use mathlib.Core.Path.{_≡_, refl, sym, _∙_}
@@ -10,11 +10,12 @@ use native.Mathlib.Omega.{arith}
 use lib.Dec.{leb, eqb}
 use borrow.Author.Tests.{leb-true, eqb-true, ne-eqb}
 use Rattle.numbers.proofs.Tests.{both-true}
-use Rattle.deal.specs.DealSheet.{word, resecuritisation, poolAt, rows, rowAt, exposure, nominal, riskWeight, tranchesAt, trancheCount, trancheAt, amount, class, months, held, needed}
-use Rattle.deal.specs.Refusals.{unless, within, classInOrder, rowFault, trancheFault, judge, judged}
+use Rattle.deal.specs.DealSheet.{word, resecuritisation, poolAt, rows, rowAt, exposure, nominal, riskWeight, status, tranchesAt, trancheCount, trancheAt, amount, class, months, held, needed}
+use Rattle.deal.specs.Refusals.{unless, within, factFault, statusAllowed, classInOrder, rowFault, trancheFault, judge, judged}
+use Rattle.deal.specs.GoodSheet.{GoodFacts, GoodRow, GoodTranche, NextClass}
 use Rattle.deal.specs.declared.Verdict.the-variants.{Sound}
 use Rattle.deal.proofs.FirstFault.{first-of-prefix}
-use Rattle.deal.proofs.Judgement.{good-word, tranches-at-past-rows, fault-of-fact-count, fault-of-pool-count, fault-of-row, fault-of-tranche-count, fault-of-tranche}
+use Rattle.deal.proofs.Judgement.{good-word, tranches-at-past-rows, fault-of-fact-count, fault-of-fact, fault-of-pool-count, fault-of-row, fault-of-tranche-count, fault-of-tranche}
 
 -- ---- a word with no fault
 
@@ -81,6 +82,35 @@ pub tranche-at-most :
     (s : List ℕ) (i : ℕ) → judged s (tranchesAt s + 1) ≡ Sound → i ≤ trancheCount s → trancheAt s i ≤ 4231
 tranche-at-most s i e h = omega (arith, tranches-at-most s (pool-counted-before s e), tranches-within s e)
 
+-- ---- the facts
+
+fact-code : (p w : ℕ) → 1 < p → factFault p w ≡ 0 → w ≤ 1
+fact-code p w h e = leb-true w 1 (unless-zero 4 (leb w 1) (omega arith) (rw (ne-eqb p 1 (λ z. omega arith)) at e))
+
+zero-alone : (b c : Bool) → _≡_ {A = ℕ} (cond b 0 (cond c 12 4)) 0 → b ≡ true
+zero-alone true c e = refl
+zero-alone false true e = absurd (omega arith)
+zero-alone false false e = absurd (omega arith)
+
+kind-code : (w : ℕ) → factFault 1 w ≡ 0 → w ≡ 0
+kind-code w e = eqb-true w 0 (zero-alone (eqb w 0) (leb w 2) e)
+
+pub good-facts : (s : List ℕ) → judged s (needed s) ≡ Sound → GoodFacts s
+good-facts s e =
+    record {
+      count = four-facts s (accepted-to s 1 (omega arith) e);
+      pool-kind = kind-code (word s 1) (fact 1 (omega arith) (omega arith));
+      resecuritisation-code = fact-code 2 (word s 2) (omega arith) (fact 2 (omega arith) (omega arith));
+      diligence-code = fact-code 3 (word s 3) (omega arith) (fact 3 (omega arith) (omega arith));
+      composition-code = fact-code 4 (word s 4) (omega arith) (fact 4 (omega arith) (omega arith));
+    }
+  where
+    fact : (p : ℕ) → 1 ≤ p → p < 5 → factFault p (word s p) ≡ 0
+    fact p least before =
+        let five = pool-at-five s (accepted-to s 1 (omega arith) e) in
+        sym (fault-of-fact s p least (omega arith)) ∙
+        good-word s (needed s) p e (omega (arith, tranches-at-past-rows s)) .1
+
 -- ---- the pool's rows
 
 good-in-row :
@@ -90,18 +120,12 @@ good-in-row s i c e row column =
     sym (fault-of-row s i c row column) ∙
     good-word s (needed s) (rowAt s i + c) e (omega (arith, tranches-at-past-rows s)) .1
 
-pub record RowLimits (s : List ℕ) (i : ℕ) : Type 0 where
-  pub exposure-least : 1 ≤ exposure s i
-  pub exposure-most : exposure s i ≤ 10000000000
-  pub nominal-least : 1 ≤ nominal s i
-  pub nominal-most : nominal s i ≤ 10000000000
-  pub weight-most : riskWeight s i ≤ 1250
-
-pub row-limits : (s : List ℕ) (i : ℕ) → judged s (needed s) ≡ Sound → i < rows s → RowLimits s i
-row-limits s i e row =
+pub good-row : (s : List ℕ) (i : ℕ) → judged s (needed s) ≡ Sound → i < rows s → GoodRow s i
+good-row s i e row =
     let exposures = no-fault-within 5 1 10000000000 (exposure s i) (omega arith)
     (rw (add-zero (rowAt s i)) at (good-in-row s i 0 e row (omega arith))) in
     let nominals = no-fault-within 5 1 10000000000 (nominal s i) (omega arith) (good-in-row s i 1 e row (omega arith)) in
+    let allowed = unless-zero 7 (statusAllowed (resecuritisation s) (status s i)) (omega arith) (good-in-row s i 3 e row (omega arith)) in
     record {
       exposure-least = exposures .0;
       exposure-most = exposures .1;
@@ -109,6 +133,8 @@ row-limits s i e row =
       nominal-most = nominals .1;
       weight-most = leb-true (riskWeight s i) 1250
           (unless-zero 6 (leb (riskWeight s i) 1250) (omega arith) (good-in-row s i 2 e row (omega arith)));
+      status-ordinary = λ r. leb-true (status s i) 2 (rw r at allowed);
+      status-resecuritised = λ r. eqb-true (status s i) 3 (rw r at allowed);
     }
 
 -- ---- the tranches
@@ -134,51 +160,47 @@ first-class s e =
     eqb-true (class s 0) 1 (class-in-order s 0 e (omega (arith, tranches-within s (tranches-counted s e))))
 
 -- "each next row has the class before it or one more"
-next-in-order : (i before w : ℕ) → 0 < i → classInOrder i before w ≡ true → (before ≤ w) × (w ≤ before + 1)
+next-in-order : (i before w : ℕ) → 0 < i → classInOrder i before w ≡ true → NextClass before w
 next-in-order i before w h e =
     ⊎-elim
-    (λ same. let q = eqb-true w before same in (omega arith, omega arith))
-    (λ more. let q = eqb-true w _ more in (omega arith, omega arith))
+    (λ same. inl (eqb-true w before same))
+    (λ more. let q = eqb-true w _ more in inr (omega arith))
     (either-true (eqb w before) _ (rw (ne-eqb i 0 (λ z. omega arith)) at e))
 
 pub next-class :
-    (s : List ℕ) (i : ℕ) → judged s (needed s) ≡ Sound → i + 1 < trancheCount s →
-    (class s i ≤ class s (i + 1)) × (class s (i + 1) ≤ class s i + 1)
+    (s : List ℕ) (i : ℕ) → judged s (needed s) ≡ Sound → i + 1 < trancheCount s → NextClass (class s i) (class s (i + 1))
 next-class s i e row =
     let back : i + 1 - 1 ≡ i = omega arith in
     next-in-order (i + 1) (class s i) (class s (i + 1)) (omega arith) (rw back at (class-in-order s (i + 1) e row))
 
-class-within :
+pub next-class-within :
+    (s : List ℕ) (i : ℕ) → judged s (needed s) ≡ Sound → i + 1 < trancheCount s →
+    (class s i ≤ class s (i + 1)) × (class s (i + 1) ≤ class s i + 1)
+next-class-within s i e row =
+    ⊎-elim (λ same. (omega arith, omega arith)) (λ more. (omega arith, omega arith)) (next-class s i e row)
+
+pub class-within :
     (s : List ℕ) (i : ℕ) → judged s (needed s) ≡ Sound → i < trancheCount s → (1 ≤ class s i) × (class s i ≤ i + 1)
 class-within s zero e row = (omega (arith, first-class s e), omega (arith, first-class s e))
 class-within s (suc i) e row =
     let before = class-within s i e (omega arith) in
-    let next = rw (add-one i) at (next-class s i e (omega arith)) in
+    let next = rw (add-one i) at (next-class-within s i e (omega arith)) in
     (omega arith, omega arith)
 
-pub record TrancheLimits (s : List ℕ) (i : ℕ) : Type 0 where
-  pub amount-least : 1 ≤ amount s i
-  pub amount-most : amount s i ≤ 10000000000000
-  pub class-least : 1 ≤ class s i
-  pub class-most : class s i ≤ i + 1
-  pub months-least : 1 ≤ months s i
-  pub months-most : months s i ≤ 1200
-  pub held-most : held s i ≤ amount s i
-
-pub tranche-limits : (s : List ℕ) (i : ℕ) → judged s (needed s) ≡ Sound → i < trancheCount s → TrancheLimits s i
-tranche-limits s i e row =
+pub good-tranche : (s : List ℕ) (i : ℕ) → judged s (needed s) ≡ Sound → i < trancheCount s → GoodTranche s i
+good-tranche s i e row =
     let amounts =
     no-fault-within 8 1 10000000000000 (amount s i) (omega arith)
     (rw (add-zero (trancheAt s i)) at (good-in-tranche s i 0 e row (omega arith))) in
-    let classes = class-within s i e row in
     let maturities = no-fault-within 10 1 1200 (months s i) (omega arith) (good-in-tranche s i 2 e row (omega arith)) in
     record {
       amount-least = amounts .0;
       amount-most = amounts .1;
-      class-least = classes .0;
-      class-most = classes .1;
       months-least = maturities .0;
       months-most = maturities .1;
       held-most =
           omega (arith, leb-true (held s i) _ (unless-zero 8 _ (omega arith) (good-in-tranche s i 3 e row (omega arith))));
+      first-listed = unless-zero 11 _ (omega arith) (good-in-tranche s i 4 e row (omega arith));
+      second-listed = unless-zero 11 _ (omega arith) (good-in-tranche s i 5 e row (omega arith));
+      third-listed = unless-zero 11 _ (omega arith) (good-in-tranche s i 6 e row (omega arith));
     }

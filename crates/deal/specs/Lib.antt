@@ -1,6 +1,7 @@
 pub mod DealSheet
 pub mod Refusals
 pub mod Judged
+pub mod GoodSheet
 pub mod Sum
 pub mod PointsAndCharge
 pub mod SumLimits

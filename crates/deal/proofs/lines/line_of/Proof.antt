@@ -5,7 +5,7 @@ use native.Mathlib.Omega.{arith}
 use borrow.Author.Needs.{needs}
 use Rattle.deal.specs.Lines.{tranche, line}
 use Rattle.weights.specs.declared.Tranche.{Tranche}
-use Rattle.deal.proofs.SheetLimits.{tranche-limits}
+use Rattle.deal.proofs.SheetLimits.{good-tranche}
 use Rattle.weights.proofs.WeightLaws.{weight-at-most}
 use Rattle.deal.proofs.lines.line_of.Statement.{statement}
 use Rattle.deal.proofs.lines.line_of.Tie as tie
@@ -26,7 +26,7 @@ within :
 unfolding tranche
 within c =
     let start = c .before .before .before in
-    let limits = tranche-limits (start .args .s .now) (start .args .i) (start .pre .0) (start .pre .3) in (
+    let limits = good-tranche (start .args .s .now) (start .args .i) (start .pre .0) (start .pre .3) in (
       omega (arith, ap (λ (t : Tranche). t .held) (c .before .tranche-of .ensures), limits),
       rw (c .weight .ensures) (weight-at-most _ _),
     )

@@ -11,7 +11,7 @@ use Rattle.deal.specs.DealSheet.{exposure, nominal, riskWeight, status}
 use Rattle.deal.specs.SumLimits.{SumLimits}
 use Rattle.deal.specs.declared.Sums.{Sums}
 use Rattle.deal.proofs.PoolLaws.{counted-at-most, sum-limits-to, nominal-most-to}
-use Rattle.deal.proofs.SheetLimits.{row-limits, rows-within, pool-counted, pool-at-five, accepted-to}
+use Rattle.deal.proofs.SheetLimits.{good-row, rows-within, pool-counted, pool-at-five, accepted-to}
 use Rattle.deal.proofs.SumLaws.{sum-next}
 use Rattle.deal.proofs.pool.with_row.Statement.{statement}
 use Rattle.deal.proofs.pool.with_row.Tie as tie
@@ -66,7 +66,7 @@ small c =
     let x = c .before .before .before .before .before in
     let s = x .args .s .now in
     let i = x .args .i in
-    let row = row-limits s i (x .pre .0) (x .pre .1) in
+    let row = good-row s i (x .pre .0) (x .pre .1) in
     record {
       sums = rw (x .pre .2) (sum-limits-to s (x .pre .0) i (omega arith));
       nominals = rw (x .pre .2) (nominal-most-to s (x .pre .0) i (omega arith));

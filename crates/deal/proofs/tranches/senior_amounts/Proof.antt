@@ -5,7 +5,7 @@ use Prim.Native.Nat.{ℕ, _+_, _-_, _≤_, _<_}
 use native.Mathlib.Omega.{arith}
 use borrow.Author.Needs.{needs}
 use Rattle.deal.specs.DealSheet.{word, trancheCount, amount, class}
-use Rattle.deal.proofs.SheetLimits.{pool-counted, tranches-counted, tranches-within, tranche-at-most, tranche-limits}
+use Rattle.deal.proofs.SheetLimits.{pool-counted, tranches-counted, tranches-within, tranche-at-most, class-within, good-tranche}
 use Rattle.deal.proofs.SeniorAmountsLaw.{Filled, filled-none, filled-put, filled-all, amount-to-most}
 use Rattle.deal.proofs.tranches.senior_amounts.Statement.{statement}
 use Rattle.deal.proofs.tranches.senior_amounts.Tie as tie
@@ -61,7 +61,7 @@ class-low c =
     let start = at .before .before .before in
     let s = start .args .s .now in
     let row : at .loop .j < trancheCount s = omega arith in
-    omega (arith, own-class c, tranche-limits s (at .loop .j) (start .pre) row .class-most, tranches-within s (tranches-counted s (start .pre)))
+    omega (arith, own-class c, class-within s (at .loop .j) (start .pre) row .1, tranches-within s (tranches-counted s (start .pre)))
 
 add-sum : tie.Need-add-sum Inv-loop μ-loop
 add-sum c =
@@ -73,7 +73,7 @@ add-sum c =
       arith,
       own-amount c,
       at .loop .inv .1 .total-is,
-      tranche-limits s (at .loop .j) (start .pre) row .amount-most,
+      good-tranche s (at .loop .j) (start .pre) row .amount-most,
       tranches-within s (tranches-counted s (start .pre)),
       amount-to-most s (start .pre) (at .loop .j) (omega arith),
     )

@@ -12,7 +12,7 @@ use Rattle.deal.specs.PointsAndCharge.{point, poolSums, attachmentPoint,
 use Rattle.deal.specs.Lines.{tranche}
 use Rattle.deal.specs.SeniorAmounts.{SeniorAmounts}
 use Rattle.weights.specs.declared.Tranche.{Tranche}
-use Rattle.deal.proofs.SheetLimits.{tranches-counted, tranches-within, tranche-at-most, tranche-limits}
+use Rattle.deal.proofs.SheetLimits.{tranches-counted, tranches-within, tranche-at-most, class-within}
 use Rattle.deal.proofs.PoolLaws.{nominal-within}
 use Rattle.deal.proofs.tranches.tranche_of.Statement.{statement}
 use Rattle.deal.proofs.tranches.tranche_of.Tie as tie
@@ -83,7 +83,7 @@ class-low c =
     omega (
       arith,
       own-class c,
-      tranche-limits s (start .args .i) (start .pre .0) (start .pre .2) .class-most,
+      class-within s (start .args .i) (start .pre .0) (start .pre .2) .1,
       tranches-within s (tranches-counted s (start .pre .0)),
     )
 
