@@ -17,8 +17,9 @@ use Rattle.deal.specs.DealSheet.{resecuritisation, trancheCount, needed}
 use Rattle.deal.specs.PointsAndCharge.{attachmentPoint, detachmentPoint}
 use Rattle.weights.specs.ApproachFloorCap.{approach, parameter, afterFloorAndCap, numberOf, formulaRawWeight, weight}
 use Rattle.deal.specs.Lines.{terms, tranche, line, lineWords}
-use Rattle.deal.specs.DemandThree.{rawWeightOf, DemandThree}
+use Rattle.deal.specs.DemandThree.{AboveCharge, rawWeightOf, DemandThree, KeepsDemandThree}
 use Rattle.deal.specs.Refusals.{judged, verdict}
+use Rattle.deal.specs.Results.{resultsAfter}
 use Rattle.deal.specs.declared.Verdict.the-variants.{Sound}
 use Rattle.deal.proofs.PointLaws.{attachment-at-most-detachment, detachment-at-most-million}
 use Rattle.deal.proofs.PoolLaws.{charge-at-most-million}
@@ -117,18 +118,20 @@ module _ (s : List ℕ) (room i : ℕ) (accepted : verdict s room ≡ Sound) (ro
       (eq-zero-or-pos (detachmentPoint s i - terms s .charge))
 
 -- Demand 3.
-pub demand-three :
-    (s old : List ℕ) (i : ℕ) → verdict s (length old) ≡ Sound → i < trancheCount s → approach (tranche s i) (terms s) ≡ 2 →
-    1 ≤ terms s .charge → terms s .charge < detachmentPoint s i → DemandThree s old i
+pub demand-three : (s old : List ℕ) (i : ℕ) → AboveCharge s (length old) i → DemandThree s (resultsAfter s old) i
 unfolding lineWords line
-demand-three s old i accepted row by one above =
-    let w = passing s (length old) i accepted row by one above in
+demand-three s old i t =
+    let w = passing s (length old) i (t .accepted) (t .among) (t .sec-sa) (t .charge-least) (t .above) in
     let number = raw-weight-number s i (w .weight) (w .answered) in
     record {
-      line-weight = results-line s old i 3 accepted row (omega arith) ∙ formula-weight (tranche s i) (terms s) by;
+      line-weight = results-line s old i 3 (t .accepted) (t .among) (omega arith) ∙ formula-weight (tranche s i) (terms s) (t .sec-sa);
       passes =
           subst
           (λ (x : ℕ). Passes (attachmentPoint s i) (detachmentPoint s i) (terms s .charge) (parameter (resecuritisation s)) x)
           (sym number) (w .passes);
       at-most = subst (λ (x : ℕ). x ≤ 125000) (sym number) (w .at-most);
     }
+
+-- Whatever results a sheet is due keep it.
+pub keeps-demand-three : (s old new : List ℕ) → new ≡ resultsAfter s old → KeepsDemandThree s (length old) new
+keeps-demand-three s old new e i t = subst (λ (x : List ℕ). DemandThree s x i) (sym e) (demand-three s old i t)

@@ -1,7 +1,8 @@
--- Laws of the points: none is above 1,000,000, more senior tranches give no higher point, and A is at most D. They hold for every list of words,
--- accepted or not. No axioms.
+-- Laws of the points: none is above 1,000,000, more senior tranches give no higher point, A is at most D, and tranches of one class have the same
+-- points. They hold for every list of words, accepted or not. No axioms.
 use mathlib.Core.List.{List}
 use mathlib.Core.Logic.{⊎-elim}
+use mathlib.Core.Path.{_≡_}
 use Prim.Native.Nat.{ℕ, _+_, _*_, _-_, _≤_, _<_}
 use native.Mathlib.Nat.{eq-zero-or-pos, le-refl, div-zero, div-le-of-le-mul, div-mul-le-self, lt-div-mul-add, lt-of-mul-lt-mul-right}
 use native.Mathlib.Omega.{arith}
@@ -50,3 +51,10 @@ attachment-at-most-detachment s i =
 pub detachment-at-most-million : (s : List ℕ) (i : ℕ) → detachmentPoint s i ≤ 1000000
 unfolding detachmentPoint
 detachment-at-most-million s i = point-at-most (poolSums s .all .nominal) (seniorAmount s (class s i))
+
+-- "Equal classes rank pari passu."
+pub pari-passu :
+    (s : List ℕ) (i j : ℕ) → class s i ≡ class s j →
+    (attachmentPoint s i ≡ attachmentPoint s j) × (detachmentPoint s i ≡ detachmentPoint s j)
+unfolding attachmentPoint detachmentPoint
+pari-passu s i j e = (rw e, rw e)

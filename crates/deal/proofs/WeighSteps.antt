@@ -6,6 +6,7 @@ use lib.ListN.{length, drop}
 use Rattle.deal.specs.DealSheet.{trancheCount, needed}
 use Rattle.deal.specs.Lines.{terms}
 use Rattle.deal.specs.Refusals.{orElse, firstOf, judged, wordsFollow, thinVerdict, wordsVerdict, roomVerdict, verdict}
+use Rattle.deal.specs.DemandThree.{KeepsDemandThree}
 use Rattle.deal.specs.Results.{replyOf, replyTo, lines, resultsAfter}
 use Rattle.deal.specs.declared.Answer.the-variants.{Weighed, Refused}
 use Rattle.deal.specs.declared.Refusal.{Refusal}
@@ -13,6 +14,7 @@ use Rattle.deal.specs.declared.Verdict.{Verdict}
 use Rattle.deal.specs.declared.Verdict.the-variants.{Sound, Faulty}
 use Rattle.deal.proofs.FirstFault.{or-else-sound}
 use Rattle.deal.proofs.JudgedLaws.{room-sound}
+use Rattle.deal.proofs.DemandThreeLaw.{keeps-demand-three}
 
 or-else-assoc : (u v w : Verdict) → orElse u (orElse v w) ≡ orElse (orElse u v) w
 or-else-assoc Sound v w = refl
@@ -48,13 +50,17 @@ room-good s room is e =
 
 pub refused-answer :
     (s old : List ℕ) {r : Refusal} → verdict s (length old) ≡ Faulty r →
-    (replyOf (Refused r) ≡ replyTo s (length old)) × (old ≡ resultsAfter s old)
+    (replyOf (Refused r) ≡ replyTo s (length old)) × ((old ≡ resultsAfter s old) × KeepsDemandThree s (length old) old)
 unfolding replyTo resultsAfter
-refused-answer s old e = (rw e, rw e)
+refused-answer s old e =
+    let kept : old ≡ resultsAfter s old = rw e in
+    (rw e, (kept, keeps-demand-three s old old kept))
 
 pub weighed-answer :
     (s old : List ℕ) {n k : ℕ} {new : List ℕ} → verdict s (length old) ≡ Sound → n ≡ trancheCount s → k ≡ terms s .charge →
     new ≡ lines s (trancheCount s) ++ drop (6 * trancheCount s) old →
-    (replyOf (Weighed n k) ≡ replyTo s (length old)) × (new ≡ resultsAfter s old)
+    (replyOf (Weighed n k) ≡ replyTo s (length old)) × ((new ≡ resultsAfter s old) × KeepsDemandThree s (length old) new)
 unfolding replyTo resultsAfter
-weighed-answer s old e count charge written = (rw (e, count, charge), rw e written)
+weighed-answer s old {new = new} e count charge written =
+    let due : new ≡ resultsAfter s old = rw e written in
+    (rw (e, count, charge), (due, keeps-demand-three s old new due))

@@ -1,15 +1,24 @@
--- 01, "The formula and its series", demand 3: what the results hold for an accepted SEC-SA tranche with K at least 1 and D above K, where the rules
+-- 01, "The formula and its series", demand 3: what the results hold for every accepted SEC-SA tranche with K at least 1 and D above K, where the rules
 -- leave the raw weight open.
 use mathlib.Core.List.{List}
 use mathlib.Core.Path.{_≡_}
-use Prim.Native.Nat.{ℕ, _+_, _*_, _≤_}
+use Prim.Native.Nat.{ℕ, _+_, _*_, _≤_, _<_}
 use lib.ListN.{getD}
 use Rattle.formula.specs.Formula.{Passes}
-use Rattle.deal.specs.DealSheet.{resecuritisation}
+use Rattle.deal.specs.DealSheet.{resecuritisation, trancheCount}
 use Rattle.deal.specs.PointsAndCharge.{attachmentPoint, detachmentPoint}
-use Rattle.weights.specs.ApproachFloorCap.{parameter, afterFloorAndCap, formulaRawWeight}
+use Rattle.weights.specs.ApproachFloorCap.{approach, parameter, afterFloorAndCap, formulaRawWeight}
 use Rattle.deal.specs.Lines.{terms, tranche}
-use Rattle.deal.specs.Results.{resultsAfter}
+use Rattle.deal.specs.Refusals.{verdict}
+use Rattle.deal.specs.declared.Verdict.the-variants.{Sound}
+
+-- "every accepted SEC-SA tranche with K at least 1 and D above K"; "A tranche is accepted where its sheet gets no refusal."
+pub record AboveCharge (s : List ℕ) (room i : ℕ) : Type 0 where
+  pub accepted : verdict s room ≡ Sound
+  pub among : i < trancheCount s
+  pub sec-sa : approach (tranche s i) (terms s) ≡ 2
+  pub charge-least : 1 ≤ terms s .charge
+  pub above : terms s .charge < detachmentPoint s i
 
 -- the raw weight that tranche i gets
 abbrev pub rawWeightOf : List ℕ → ℕ → ℕ
@@ -17,7 +26,11 @@ rawWeightOf s i = formulaRawWeight (tranche s i) (terms s)
 
 -- "the line's weight is the raw weight the tranche gets, after floor and cap, and some k has its upper end at most that raw weight and its lower
 -- end more than that raw weight minus 2"; "A raw weight is a whole number and never above 125,000." The weight is the fourth word of the line.
-pub record DemandThree (s old : List ℕ) (i : ℕ) : Type 0 where
-  pub line-weight : getD (resultsAfter s old) (6 * i + 3) 0 ≡ afterFloorAndCap (tranche s i) (terms s) (rawWeightOf s i)
+pub record DemandThree (s results : List ℕ) (i : ℕ) : Type 0 where
+  pub line-weight : getD results (6 * i + 3) 0 ≡ afterFloorAndCap (tranche s i) (terms s) (rawWeightOf s i)
   pub passes : Passes (attachmentPoint s i) (detachmentPoint s i) (terms s .charge) (parameter (resecuritisation s)) (rawWeightOf s i)
   pub at-most : rawWeightOf s i ≤ 125000
+
+-- what results of that many words hold of all such tranches
+abbrev pub KeepsDemandThree : List ℕ → ℕ → List ℕ → Type 0
+KeepsDemandThree s room results = (i : ℕ) → AboveCharge s room i → DemandThree s results i

@@ -1,5 +1,6 @@
 ghost use mathlib.Core.Path.{_≡_};
 ghost use lib.ListN.{length};
+ghost use Rattle.deal.specs.DemandThree.{KeepsDemandThree};
 ghost use Rattle.deal.specs.Results.{replyOf, replyTo, resultsAfter};
 
 mod judge;
@@ -57,11 +58,12 @@ pub(crate) struct Line {
 }
 
 // Weighs every tranche of a deal sheet: six words per tranche into the results, later words untouched; or one refusal, with the results as they
-// were. Everything is decided before the first word is written. Where 01 leaves the formula's raw weight open, its limits are DemandThree
-// (specs/DemandThree.antt), which holds of these results (demand-three).
+// were. Everything is decided before the first word is written. The first two promises settle the answer and the results; the third says how the
+// formula's raw weight is limited where 01 leaves it open.
 pub fn weigh(sheet: &[u64], results: &mut [u64]) -> Answer
     ensures { λ r. ⌜ replyOf r ≡ replyTo (now (sheet .entry)) (length (now (results .entry))) ⌝ }
     ensures { λ r. ⌜ now (results .exit) ≡ resultsAfter (now (sheet .entry)) (now (results .entry)) ⌝ }
+    ensures { λ r. ⌜ KeepsDemandThree (now (sheet .entry)) (length (now (results .entry))) (now (results .exit)) ⌝ }
 {
     let loaded = judge::judge_loading(sheet, results.len() as u64);
     if let Verdict::Faulty(r) = loaded {

@@ -1,8 +1,8 @@
--- No weight is above 125,000 (1250%): neither the formula's raw weight, nor the table's, nor either after floor and cap; and which of them is the
--- weight, by approach; and where a tranche of no thickness lies. No axioms.
+-- Which weight a tranche has by each approach, and what it depends on in a re-securitisation; that no weight is above 125,000 (1250%), neither the
+-- formula's raw weight, nor the table's, nor either after floor and cap; and where a tranche of no thickness lies. No axioms.
 use mathlib.Core.Bool.{Bool, true, false}
 use mathlib.Core.Logic.{⊎-elim}
-use mathlib.Core.Path.{_≡_, refl}
+use mathlib.Core.Path.{_≡_, refl, _∙_}
 use Prim.Native.Nat.{ℕ, _-_, _≤_, _<_}
 use native.Mathlib.Nat.{eq-zero-or-pos, le-refl}
 use native.Mathlib.Omega.{arith}
@@ -15,7 +15,7 @@ use Rattle.formula.proofs.RawWeightLaw.{raw-weight-is}
 use Rattle.formula.proofs.Limits.{limits-of-test}
 use Rattle.ratings.specs.RatingTable.{ratingTable}
 use Rattle.ratings.proofs.TableLaws.{weight-by-ratings-at-most}
-use Rattle.weights.specs.ApproachFloorCap.{approach, parameter, floor, capApplies, afterFloorAndCap, numberOf, formulaRawWeight, tableWeight, weight, thin}
+use Rattle.weights.specs.ApproachFloorCap.{approach, parameter, floor, capApplies, afterFloorAndCap, numberOf, formulaRawWeight, tableWeight, weight, WeightByFormula, thin}
 use Rattle.weights.specs.declared.Terms.{Terms}
 use Rattle.weights.specs.declared.Tranche.{Tranche}
 
@@ -32,6 +32,28 @@ table-weighs t d by = simp by
 pub formula-weight : (t : Tranche) (d : Terms) → approach t d ≡ 2 → weight t d ≡ afterFloorAndCap t d (formulaRawWeight t d)
 unfolding weight
 formula-weight t d by = simp by
+
+pub weight-by-formula : (t : Tranche) (d : Terms) {w : ℕ} → w ≡ weight t d → approach t d ≡ 2 → WeightByFormula t d w
+unfolding formulaRawWeight
+weight-by-formula t d e by =
+    let p = parameter (d .resecuritisation) in
+    record {
+      raw = rawWeight (t .attachment) (t .detachment) (d .charge) p;
+      is-raw = raw-weight-is (t .attachment) (t .detachment) (d .charge) p;
+      weight-is = e ∙ formula-weight t d by;
+    }
+
+-- "Ratings in a re-securitisation are checked and not used.": two tranches of the same points, both senior or neither, have the same approach and
+-- weight
+pub ratings-not-used :
+    (t t′ : Tranche) (d : Terms) → d .resecuritisation ≡ true → t′ .attachment ≡ t .attachment → t′ .detachment ≡ t .detachment →
+    t′ .senior ≡ t .senior → (approach t′ d ≡ approach t d) × (weight t′ d ≡ weight t d)
+unfolding weight formulaRawWeight
+ratings-not-used t t′ d r same-attachment same-detachment same-senior = (simp r, by-diligence (d .diligence) refl)
+  where
+    by-diligence : (b : Bool) → d .diligence ≡ b → weight t′ d ≡ weight t d
+    by-diligence true e = simp (r, e, same-attachment, same-detachment, same-senior)
+    by-diligence false e = simp (r, e)
 
 -- ---- no weight is above 125,000
 

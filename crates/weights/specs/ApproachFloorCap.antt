@@ -2,9 +2,11 @@
 -- give; 85 and 94 for the parameter, 87 and 96 for the floor, 88, 89 and 97 for the cap): approach and weight of a tranche, as functions of the
 -- tranche's own inputs and of the deal's terms alone. Weights are counted in hundredths of a percent.
 use mathlib.Core.Bool.{Bool, cond, not, _&&_, _||_}
+use mathlib.Core.Path.{_≡_}
 use Prim.Native.Nat.{ℕ, _-_, min, max}
 use lib.Dec.{ltb, eqb}
 use Rattle.formula.specs.FixedPoint.{rawWeight}
+use Rattle.formula.specs.Formula.{IsRawWeight}
 use Rattle.formula.specs.declared.RawWeight.{RawWeight}
 use Rattle.formula.specs.declared.RawWeight.the-variants.{Weight, NoThickness, OutsideLimits}
 use Rattle.ratings.specs.RatingTable.{ratingTable, present, weightByRatings}
@@ -67,6 +69,13 @@ weight t d =
     cond (eqb (approach t d) 0) 125000
     (cond (eqb (approach t d) 1) (afterFloorAndCap t d (tableWeight t))
     (afterFloorAndCap t d (formulaRawWeight t d)))
+
+-- What a weight by SEC-SA keeps: it is an answer of the formula, by `IsRawWeight`, after floor and cap. Where K is at least 1 and D above K this
+-- limits the raw weight, which the rules leave open, and says how; elsewhere it settles it.
+pub record WeightByFormula (t : Tranche) (d : Terms) (w : ℕ) : Type 0 where
+  pub raw : RawWeight
+  pub is-raw : IsRawWeight (t .attachment) (t .detachment) (d .charge) (parameter (d .resecuritisation)) raw
+  pub weight-is : w ≡ afterFloorAndCap t d (numberOf raw)
 
 -- ---- "13: SEC-SA applies, A equals D, and D is above the pool charge"
 

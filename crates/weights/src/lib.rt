@@ -1,6 +1,6 @@
 // Approach and weight of one tranche, from what is its own and what the deal's tranches share.
 ghost use mathlib.Core.Path.{_≡_};
-ghost use Rattle.weights.specs.ApproachFloorCap.{rated, approach, parameter, floor, capApplies, afterFloorAndCap, formulaRawWeight, tableWeight, weight, thin};
+ghost use Rattle.weights.specs.ApproachFloorCap.{rated, approach, parameter, floor, capApplies, afterFloorAndCap, formulaRawWeight, tableWeight, weight, WeightByFormula, thin};
 use formula::RawWeight;
 use numbers::excess;
 use numbers::larger;
@@ -158,9 +158,10 @@ fn table_weight(t: Tranche) -> u64
     )
 }
 
-// The tranche's weight.
+// The tranche's weight. By SEC-SA it is a raw weight after floor and cap; where the rules leave the raw weight open, the second promise limits it.
 pub fn weight(t: Tranche, d: Terms) -> u64
     ensures { λ r. ⌜ r ≡ weight t d ⌝ }
+    ensures { λ r. ⌜ (approach t d ≡ 2 → WeightByFormula t d r) ⌝ }
 {
     let by = approach(t, d);
     if by == 0 {

@@ -1,17 +1,26 @@
 -- `weight`: each approach with its own weight. No axioms.
+use mathlib.Core.Path.{_≡_}
+use Prim.Native.Nat.{ℕ}
 use native.Mathlib.Omega.{arith}
 use borrow.Author.Needs.{needs}
 use borrow.Author.Tests.{eq-eqb, ne-eqb}
-use Rattle.weights.specs.ApproachFloorCap.{weight}
+use Rattle.weights.specs.ApproachFloorCap.{approach, weight, WeightByFormula}
+use Rattle.weights.specs.declared.Terms.{Terms}
+use Rattle.weights.specs.declared.Tranche.{Tranche}
+use Rattle.weights.proofs.WeightLaws.{weight-by-formula}
 use Rattle.weights.proofs.weight.Statement.{statement}
 use Rattle.weights.proofs.weight.Tie as tie
+
+-- the second promise follows from the first
+both : {t : Tranche} {d : Terms} {w : ℕ} → w ≡ weight t d → (w ≡ weight t d) × (approach t d ≡ 2 → WeightByFormula t d w)
+both {t} {d} e = (e, λ by. weight-by-formula t d e by)
 
 approach-requires : tie.Need-approach-requires
 approach-requires c κs = search needs
 
 returns : tie.Need-returns
 unfolding weight
-returns c = simp (← c .before .approach .ensures, eq-eqb (c .before .approach .result) 0 (omega arith))
+returns c = both (simp (← c .before .approach .ensures, eq-eqb (c .before .approach .result) 0 (omega arith)))
 
 table-weight-requires : tie.Need-table-weight-requires
 table-weight-requires c κs = search needs
@@ -24,13 +33,14 @@ unfolding weight
 returns-2 c =
     let at = c .before .before .before .before in
     let by = at .approach .result in
-    simp (
+    both
+    (simp (
       ← at .approach .ensures,
       ne-eqb by 0 (c .before .before .before .if1 .left),
       eq-eqb by 1 (omega arith),
       c .after-floor-and-cap .ensures,
       c .before .table-weight .ensures,
-    )
+    ))
 
 formula-raw-weight-requires : tie.Need-formula-raw-weight-requires
 formula-raw-weight-requires c κs = search needs
@@ -43,13 +53,14 @@ unfolding weight
 returns-3 c =
     let at = c .before .before .before .before in
     let by = at .approach .result in
-    simp (
+    both
+    (simp (
       ← at .approach .ensures,
       ne-eqb by 0 (c .before .before .before .if1 .left),
       ne-eqb by 1 (c .before .before .if2 .left),
       c .after-floor-and-cap2 .ensures,
       c .before .formula-raw-weight .ensures,
-    )
+    ))
 
 pub weight-spec : {M : Type 1} → statement M
 weight-spec =

@@ -28,7 +28,7 @@ within c =
     let start = c .before .before .before in
     let limits = good-tranche (start .args .s .now) (start .args .i) (start .pre .0) (start .pre .3) in (
       omega (arith, ap (λ (t : Tranche). t .held) (c .before .tranche-of .ensures), limits),
-      rw (c .weight .ensures) (weight-at-most _ _),
+      rw (c .weight .ensures .0) (weight-at-most _ _),
     )
 
 risk-weighted-amount-requires : tie.Need-risk-weighted-amount-requires
@@ -45,7 +45,7 @@ returns c =
       c .capital .ensures,
       c .before .risk-weighted-amount .ensures,
       c .before .before .approach .ensures,
-      c .before .before .before .weight .ensures,
+      c .before .before .before .weight .ensures .0,
       after-tranche .tranche-of .ensures,
       after-tranche .before .before .pre .1,
     )
