@@ -1,7 +1,7 @@
 -- A sheet keeps the limits of 01's "The deal sheet" just when each word that it needs is there and has no fault, and none follows. No axioms.
-use mathlib.Core.Bool.{Bool, true, false, _||_}
+use mathlib.Core.Bool.{Bool, true, false}
 use mathlib.Core.List.{List}
-use mathlib.Core.Logic.{_⊎_, inl, inr, ⊎-elim}
+use mathlib.Core.Logic.{inl, inr, ⊎-elim}
 use mathlib.Core.Path.{_≡_, refl, ap, _∙_}
 use Prim.Native.Nat.{ℕ, zero, suc, _+_, _-_, _≤_, _<_}
 use native.Mathlib.Nat.{add-zero, eq-or-lt-of-le, eq-zero-or-pos}
@@ -9,6 +9,7 @@ use native.Mathlib.Numerals.{add-one}
 use native.Mathlib.Omega.{arith}
 use lib.Dec.{eqb}
 use borrow.Author.Tests.{le-leb, eq-eqb, ne-eqb}
+use Rattle.numbers.proofs.Tests.{true-either}
 use Rattle.deal.specs.DealSheet.{word, resecuritisation, poolAt, rows, rowAt, exposure, nominal, riskWeight, status, tranchesAt, trancheCount, trancheAt, amount, class, months, held, needed}
 use Rattle.deal.specs.Refusals.{within, factFault, statusAllowed, rowFault, classInOrder, trancheFault, fault}
 use Rattle.deal.specs.Judged.{WordsGood}
@@ -65,18 +66,13 @@ row-sound s i (suc (suc (suc zero))) g column =
     simp (status-sound (resecuritisation s) (status s i) (g .status-ordinary) (g .status-resecuritised))
 row-sound s i (suc (suc (suc (suc c)))) g column = absurd (omega arith)
 
-or-true : (a b : Bool) → (a ≡ true) ⊎ (b ≡ true) → a || b ≡ true
-or-true true b e = refl
-or-true false b (inl e) = absurd (let z : _≡_ {A = ℕ} 0 1 = cc in omega arith)
-or-true false b (inr e) = e
-
 class-sound : (s : List ℕ) (i : ℕ) → GoodSheet s → i < trancheCount s → classInOrder i (class s (i - 1)) (class s i) ≡ true
 class-sound s zero g row = eq-eqb (class s 0) 1 (g .class-of-first)
 class-sound s (suc i) g row =
     let next = rw (add-one i) at (g .class-of-next i (omega arith)) in
     let back : suc i - 1 ≡ i = omega arith in
     rw (ne-eqb (suc i) 0 (λ z. omega arith), back)
-    (or-true (eqb (class s (suc i)) (class s i)) (eqb (class s (suc i)) (class s i + 1))
+    (true-either (eqb (class s (suc i)) (class s i)) (eqb (class s (suc i)) (class s i + 1))
     (⊎-elim (λ same. inl (eq-eqb _ _ same)) (λ more. inr (eq-eqb _ _ more)) next))
 
 tranche-sound :

@@ -1,7 +1,7 @@
 -- What a sound beginning of a sheet says of its numbers: the counts, the place of each section, and the limits of every row's words. No axioms.
-use mathlib.Core.Bool.{Bool, true, false, cond, _||_}
+use mathlib.Core.Bool.{Bool, true, false, cond}
 use mathlib.Core.List.{List}
-use mathlib.Core.Logic.{_⊎_, inl, inr, ⊎-elim}
+use mathlib.Core.Logic.{inl, inr, ⊎-elim}
 use mathlib.Core.Path.{_≡_, refl, sym, _∙_}
 use Prim.Native.Nat.{ℕ, zero, suc, _+_, _-_, _≤_, _<_}
 use native.Mathlib.Nat.{add-zero}
@@ -9,7 +9,7 @@ use native.Mathlib.Numerals.{add-one}
 use native.Mathlib.Omega.{arith}
 use lib.Dec.{leb, eqb}
 use borrow.Author.Tests.{leb-true, eqb-true, ne-eqb}
-use Rattle.numbers.proofs.Tests.{both-true}
+use Rattle.numbers.proofs.Tests.{both-true, either-true}
 use Rattle.deal.specs.DealSheet.{word, resecuritisation, poolAt, rows, rowAt, exposure, nominal, riskWeight, status, tranchesAt, trancheCount, trancheAt, amount, class, months, held, needed}
 use Rattle.deal.specs.Refusals.{unless, within, factFault, statusAllowed, classInOrder, rowFault, trancheFault, judge, judged}
 use Rattle.deal.specs.GoodSheet.{GoodFacts, GoodRow, GoodTranche, NextClass}
@@ -144,10 +144,6 @@ good-in-tranche :
     trancheFault i (class s (i - 1)) (amount s i) c (word s (trancheAt s i + c)) ≡ 0
 good-in-tranche s i c e row column =
     sym (fault-of-tranche s i c column) ∙ good-word s (needed s) (trancheAt s i + c) e (omega arith) .1
-
-either-true : (a b : Bool) → a || b ≡ true → (a ≡ true) ⊎ (b ≡ true)
-either-true true b e = inl refl
-either-true false b e = inr e
 
 class-in-order :
     (s : List ℕ) (i : ℕ) → judged s (needed s) ≡ Sound → i < trancheCount s →

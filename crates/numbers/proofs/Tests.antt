@@ -1,6 +1,6 @@
--- Laws of tests and of what they pick: two tests that say the same, both of two, neither of two, and a picked number. No axioms.
+-- Laws of tests and of what they pick: both, neither or either of two, two tests that say the same, and a picked number. No axioms.
 use mathlib.Core.Bool.{Bool, true, false, cond, _&&_, _||_}
-use mathlib.Core.Logic.{⊎-elim}
+use mathlib.Core.Logic.{_⊎_, inl, inr, ⊎-elim}
 use mathlib.Core.Path.{_≡_, refl, _∙_, sym}
 use Prim.Native.Nat.{ℕ, _-_, _≤_, _<_}
 use native.Mathlib.Nat.{eq-zero-or-pos, lt-of-not-le, not-le-of-lt}
@@ -21,6 +21,15 @@ pub neither-true : (a b : Bool) → a || b ≡ false → (a ≡ false) × (b ≡
 neither-true true true e = (e, e)
 neither-true true false e = (e, refl)
 neither-true false b e = (refl, e)
+
+pub either-true : (a b : Bool) → a || b ≡ true → (a ≡ true) ⊎ (b ≡ true)
+either-true true b e = inl refl
+either-true false b e = inr e
+
+pub true-either : (a b : Bool) → (a ≡ true) ⊎ (b ≡ true) → a || b ≡ true
+true-either true b e = refl
+true-either false b (inl e) = absurd (let z : _≡_ {A = ℕ} 0 1 = cc in omega arith)
+true-either false b (inr e) = e
 
 pub same-leb : (a b m n : ℕ) → (a ≤ b → m ≤ n) → (m ≤ n → a ≤ b) → leb a b ≡ leb m n
 same-leb a b m n forth back =

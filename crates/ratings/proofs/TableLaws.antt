@@ -5,7 +5,7 @@ use mathlib.Core.List.{List, []}
 use mathlib.Core.Logic.{_⊎_, inl, inr, ⊎-elim}
 use mathlib.Core.Path.{_≡_, ap}
 use Prim.Native.Nat.{ℕ, _+_, _*_, _-_, min, max, _≤_, _<_}
-use native.Mathlib.Nat.{eq-zero-or-pos, le-refl, max-le, mul-le-mul, mul-le-mul-right}
+use native.Mathlib.Nat.{eq-zero-or-pos, le-refl, mul-le-mul, mul-le-mul-right}
 use native.Mathlib.Omega.{arith}
 use lib.Dec.{T, leb, eqb, leb→le, eqb→eq}
 use lib.ListN.{getD}
@@ -140,8 +140,12 @@ module _ (table : List (List ℕ)) (t : T (figuresAtMost 1250 table)) where
       weightByRatings table first second third senior months thickness ≤ 125000
   unfolding weightByRatings
   weight-by-ratings-at-most first second third senior months thickness =
-      max-le (weight-by-rating-at-most first senior months thickness)
-      (max-le (weight-by-rating-at-most second senior months thickness) (weight-by-rating-at-most third senior months thickness))
+      omega (
+        arith,
+        weight-by-rating-at-most first senior months thickness,
+        weight-by-rating-at-most second senior months thickness,
+        weight-by-rating-at-most third senior months thickness,
+      )
 
 -- ---- the weight by one rating
 
@@ -187,6 +191,15 @@ module _ (table : List (List ℕ)) where
 
 -- ---- the weight by three ratings
 
+pub each-rating-counts :
+    (table : List (List ℕ)) (first second third : ℕ) (senior : Bool) (months thickness : ℕ) →
+    let w = weightByRatings table first second third senior months thickness in
+    (weightByRating table first senior months thickness ≤ w) ×
+    (weightByRating table second senior months thickness ≤ w) ×
+    (weightByRating table third senior months thickness ≤ w)
+unfolding weightByRatings
+each-rating-counts table first second third senior months thickness = (omega arith, omega arith, omega arith)
+
 -- the highest of three numbers is one of them
 pick-one : (a b c : ℕ) → (pick a b c ≡ a) ⊎ ((pick a b c ≡ b) ⊎ (pick a b c ≡ c))
 pick-one a b c =
@@ -195,25 +208,15 @@ pick-one a b c =
     (λ l. inr (⊎-elim (λ e. inl (omega arith)) (λ m. inr (omega arith)) (eq-zero-or-pos (c - b))))
     (eq-zero-or-pos (max b c - a))
 
-module _ (table : List (List ℕ)) where
-  pub each-rating-counts :
-      (first second third : ℕ) (senior : Bool) (months thickness : ℕ) →
-      let w = weightByRatings table first second third senior months thickness in
-      (weightByRating table first senior months thickness ≤ w) ×
-      (weightByRating table second senior months thickness ≤ w) ×
-      (weightByRating table third senior months thickness ≤ w)
-  unfolding weightByRatings
-  each-rating-counts first second third senior months thickness = (omega arith, omega arith, omega arith)
-
-  pub one-rating-counts :
-      (first second third : ℕ) (senior : Bool) (months thickness : ℕ) →
-      let w = weightByRatings table first second third senior months thickness in
-      (w ≡ weightByRating table first senior months thickness) ⊎
-      ((w ≡ weightByRating table second senior months thickness) ⊎
-      (w ≡ weightByRating table third senior months thickness))
-  unfolding weightByRatings
-  one-rating-counts first second third senior months thickness =
-      pick-one
-      (weightByRating table first senior months thickness)
-      (weightByRating table second senior months thickness)
-      (weightByRating table third senior months thickness)
+pub one-rating-counts :
+    (table : List (List ℕ)) (first second third : ℕ) (senior : Bool) (months thickness : ℕ) →
+    let w = weightByRatings table first second third senior months thickness in
+    (w ≡ weightByRating table first senior months thickness) ⊎
+    ((w ≡ weightByRating table second senior months thickness) ⊎
+    (w ≡ weightByRating table third senior months thickness))
+unfolding weightByRatings
+one-rating-counts table first second third senior months thickness =
+    pick-one
+    (weightByRating table first senior months thickness)
+    (weightByRating table second senior months thickness)
+    (weightByRating table third senior months thickness)
