@@ -18,3 +18,4 @@ pub mod RowOrder
 pub mod WrittenLines
 pub mod WeighSteps
 pub mod AnswerLaw
+pub mod ReplyLaws

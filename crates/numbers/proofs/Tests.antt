@@ -43,7 +43,7 @@ same-leb a b m n forth back =
     (eq-zero-or-pos (m - n))
 
 -- what holds of each of two numbers where it is picked holds of the picked one
-pub at-cond : (P : ℕ → Type 0) (b : Bool) (x y : ℕ) → (b ≡ true → P x) → (b ≡ false → P y) → P (cond b x y)
+pub at-cond : {A : Type 0} (P : A → Type 0) (b : Bool) (x y : A) → (b ≡ true → P x) → (b ≡ false → P y) → P (cond b x y)
 at-cond P true x y p q = p refl
 at-cond P false x y p q = q refl
 
