@@ -8,6 +8,7 @@ use native.Mathlib.Omega.{arith}
 use lib.ListN.{length, take, drop, getD, set}
 use lib.Seq.{drop-cons, drop-drop, drop-length, take-add, set-at, append-snoc, sets, sets-eq}
 use Rattle.files.specs.FileForm.{lowestFirst, wordAt, wordsTo, bytesOf, fileBytes}
+use Rattle.files.proofs.Pieces.{sets-sets}
 use Rattle.files.proofs.FileLaws.{length-words-to, length-bytes-of, length-file-bytes}
 
 -- ---- a word of a file
@@ -72,12 +73,6 @@ pub no-byte-left : (bytes : List ℕ) (at i rest : ℕ) → 8 ≡ i → bytes �
 unfolding bytesOf
 no-byte-left bytes at i rest all = rw (← all)
 
-sets-append : (xs ys l : List ℕ) (i : ℕ) → sets l i (xs ++ ys) ≡ sets (sets l i xs) (i + length xs) ys
-sets-append [] ys l i = rw add-zero
-sets-append (x ∷ xs) ys l i =
-    let next : suc i + length xs ≡ i + suc (length xs) = omega arith in
-    rw (← next) (sets-append xs ys (set l i x) (suc i))
-
 pub word-stored :
     (ws bytes : List ℕ) (i at : ℕ) {after : List ℕ} → i < length ws → at ≡ 8 * i → after ≡ sets bytes at (bytesOf 8 (getD ws i 0)) →
     sets after (8 * (i + 1)) (fileBytes (drop (i + 1) ws)) ≡ sets bytes (8 * i) (fileBytes (drop i ws))
@@ -85,7 +80,7 @@ unfolding fileBytes
 word-stored ws bytes i at within place stored =
     let w = getD ws i 0 in
     let next : 8 * i + length (bytesOf 8 w) ≡ 8 * suc i = omega (arith, length-bytes-of 8 w) in
-    rw (stored, place, add-one, drop-cons ws i 0) (rw (← next) (sym (sets-append (bytesOf 8 w) (fileBytes (drop (suc i) ws)) bytes (8 * i))))
+    rw (stored, place, add-one, drop-cons ws i 0) (rw (← next) (sets-sets bytes (8 * i) (bytesOf 8 w) (fileBytes (drop (suc i) ws))))
 
 -- after the last turn no word is left
 pub no-word-left : (ws bytes : List ℕ) (i : ℕ) → length ws ≡ i → bytes ≡ sets bytes (8 * i) (fileBytes (drop i ws))

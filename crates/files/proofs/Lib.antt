@@ -1,2 +1,4 @@
 pub mod FileLaws
+pub mod Pieces
 pub mod FileSteps
+pub mod DecimalLaws

@@ -1,1 +1,2 @@
 pub mod FileForm
+pub mod Decimal

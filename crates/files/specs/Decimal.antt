@@ -1,0 +1,25 @@
+-- Words in decimal, as the report prints them and as a desk writes them. A text is the list of its bytes, which are codes of ASCII.
+use mathlib.Core.Bool.{cond}
+use mathlib.Core.List.{List, [], _∷_, _++_}
+use Prim.Native.Nat.{ℕ, zero, suc, _+_, _*_, _-_, _/_, _%_}
+use lib.Dec.{ltb}
+
+abbrev pub newline : ℕ
+newline = 10
+
+abbrev pub space : ℕ
+space = 32
+
+-- the digits of n, the highest first and no 0 before the first, where n has at most k digits; 48 is the code of the digit 0
+unfoldable pub digits : ℕ → ℕ → List ℕ
+digits zero n = []
+digits (suc k) n = cond (ltb n 10) [] (digits k (n / 10)) ++ (48 + n % 10) ∷ []
+
+-- a word in decimal: a number of 64 bits has at most 20 digits
+unfoldable pub decimal : ℕ → List ℕ
+decimal n = digits 20 n
+
+-- the number that digits make after a number v
+unfoldable pub valueFrom : ℕ → List ℕ → ℕ
+valueFrom v [] = v
+valueFrom v (d ∷ ds) = valueFrom (10 * v + (d - 48)) ds

@@ -1,0 +1,4 @@
+pub mod TextLaws
+pub mod LineSteps
+pub mod ReportLaws
+pub mod CheckedDealsLaw

@@ -1,0 +1,145 @@
+-- The text of a file, from what `deal::weigh` answers for its words, and that it fits TEXT_ROOM bytes. No axioms.
+use mathlib.Core.Bool.{Bool, true, false, cond}
+use mathlib.Core.List.{List, _++_}
+use mathlib.Core.Path.{_≡_, refl, sym, ap, _∙_}
+use Prim.Native.Nat.{ℕ, _+_, _*_, _/_, _≤_, _<_}
+use native.Mathlib.Nat.{zero-add}
+use native.Mathlib.Omega.{arith}
+use lib.Dec.{eqb}
+use lib.ListN.{length, getD, take, drop, length-append}
+use lib.Seq.{sets, sets-eq, length-sets, take-at}
+use borrow.Author.Tests.{le-leb, lt-leb, ne-eqb, eqb-true}
+use Rattle.numbers.proofs.Tests.{at-cond}
+use Rattle.deal.proofs.LineLaws.{length-lines, results-length}
+use Rattle.deal.proofs.ReplyLaws.{reply-count-within, refused-number, reply-results, reply-amounts}
+use Rattle.deal.specs.Results.{Reply, replyOf, replyTo, lines, resultsAfter}
+use Rattle.deal.specs.declared.Answer.the-variants.{Weighed, Refused}
+use Rattle.deal.specs.declared.Refusal.{Refusal}
+use Rattle.files.specs.FileForm.{goodLength, fileWords, wordsAfter}
+use Rattle.files.proofs.FileLaws.{length-words-to, load-accepts, load-takes}
+use Rattle.report.specs.ReportText.{refusalLine, dealText, textFor, resultRoom, sheetText, fileText, textRoom, writtenFor, textAfter}
+use Rattle.report.specs.declared.Written.the-variants.{Whole, NoRoom}
+use Rattle.report.proofs.TextLaws.{length-deal-text, length-refusal-line, deal-text-of-lines}
+
+-- ---- the words of a file
+
+-- a file of good length has no more words than are lent for them
+pub file-words-fit :
+    (file old : List ℕ) {after : List ℕ} → length old ≡ 4231 → goodLength file ≡ true → after ≡ wordsAfter file old → length file / 8 ≤ length after
+file-words-fit file old room good is =
+    omega (
+      arith,
+      ap length (is ∙ load-accepts file old good),
+      length-append (fileWords file) (drop (length file / 8) old),
+      length-words-to file (length file / 8),
+    )
+
+-- ---- the text of a sheet
+
+-- what is written of the results is the text of the sheet's lines
+weighed-text :
+    (s old : List ℕ) (n k : ℕ) → length old ≡ resultRoom → replyOf (Weighed n k) ≡ replyTo s (length old) →
+    dealText k n (resultsAfter s old) ≡ sheetText s
+unfolding sheetText
+weighed-text s old n k room same =
+    let number = ap (λ (a : Reply). a .number) same in
+    let count = ap (λ (a : Reply). a .count) same in
+    let charge = ap (λ (a : Reply). a .charge) same in
+    let zero-number : replyTo s (length old) .number ≡ 0 = sym number in
+    rw (reply-results s old zero-number, ← room, ← number, ← count, ← charge)
+    (deal-text-of-lines k n (lines s n) (drop (6 * n) old) (omega (arith, length-lines s n)))
+
+-- and there is room for it, with sums of its amounts that fit 64 bits
+pub weighed-lines :
+    (s old after : List ℕ) (n k : ℕ) → length old ≡ resultRoom → replyOf (Weighed n k) ≡ replyTo s (length old) → after ≡ resultsAfter s old →
+    (n ≤ 32) × (6 * n ≤ length after) × ((i c : ℕ) → i < n → 4 ≤ c → c < 6 → getD after (6 * i + c) 0 ≤ 125000000000000)
+weighed-lines s old after n k room same is =
+    let number : replyTo s (length old) .number ≡ 0 = sym (ap (λ (a : Reply). a .number) same) in
+    let count = ap (λ (a : Reply). a .count) same in
+    let within = reply-count-within s (length old) number in (
+      omega arith,
+      omega (arith, ap length is, results-length s old),
+      λ i c l least most. rw is (reply-amounts s old i c number (omega arith) least most),
+    )
+
+refused-text :
+    (s : List ℕ) (r : Refusal) → replyOf (Refused r) ≡ replyTo s resultRoom → refusalLine (r .number) (r .place) ≡ sheetText s
+unfolding sheetText
+refused-text s r same =
+    let number = ap (λ (a : Reply). a .number) same in
+    let place = ap (λ (a : Reply). a .place) same in
+    rw (← number, ← place, ne-eqb (r .number) 0 (refused-number s resultRoom r same))
+
+-- ---- the text of a file
+
+loaded-text : (file : List ℕ) → goodLength file ≡ true → fileText file ≡ sheetText (fileWords file)
+unfolding fileText
+loaded-text file good = rw good
+
+pub bad-length-text : (file : List ℕ) → goodLength file ≡ false → fileText file ≡ refusalLine 15 0
+unfolding fileText
+bad-length-text file bad = rw bad
+
+-- from the words that were loaded, the answer for them and the results
+pub weighed-file :
+    (file lent old : List ℕ) (n k : ℕ) {loaded after : List ℕ} → length old ≡ resultRoom → goodLength file ≡ true → loaded ≡ wordsAfter file lent →
+    replyOf (Weighed n k) ≡ replyTo (take (length file / 8) loaded) (length old) → after ≡ resultsAfter (take (length file / 8) loaded) old →
+    dealText k n after ≡ fileText file
+weighed-file file lent old n k {loaded} room good is same results =
+    let words = ap (take (length file / 8)) is ∙ load-takes file lent good in
+    rw results (weighed-text (take (length file / 8) loaded) old n k room same) ∙ ap sheetText words ∙ sym (loaded-text file good)
+
+pub refused-file :
+    (file lent : List ℕ) (r : Refusal) {loaded : List ℕ} → goodLength file ≡ true → loaded ≡ wordsAfter file lent →
+    replyOf (Refused r) ≡ replyTo (take (length file / 8) loaded) resultRoom → refusalLine (r .number) (r .place) ≡ fileText file
+refused-file file lent r {loaded} good is same =
+    let words = ap (take (length file / 8)) is ∙ load-takes file lent good in
+    refused-text (take (length file / 8) loaded) r same ∙ ap sheetText words ∙ sym (loaded-text file good)
+
+-- what is written at the start of a buffer, under another name
+pub written-as :
+    {r : ℕ} {out : List ℕ} (old text named : List ℕ) → r ≡ length text → out ≡ sets old 0 text → text ≡ named →
+    (r ≡ length named) × (out ≡ sets old 0 named)
+written-as old text named size is same = (rw (← same) size, rw (← same) is)
+
+sheet-text-fits : (s : List ℕ) → length (sheetText s) ≤ textRoom
+unfolding sheetText
+sheet-text-fits s =
+    let a = replyTo s resultRoom in
+    at-cond (λ (t : List ℕ). length t ≤ textRoom) (eqb (a .number) 0) _ _
+    (λ zero-number. length-deal-text (a .charge) (a .count) (lines s (a .count)) (reply-count-within s resultRoom (eqb-true _ _ zero-number) .1))
+    (λ _. length-refusal-line (a .number) (a .place))
+
+pub file-text-fits : (file : List ℕ) → length (fileText file) ≤ textRoom
+unfolding fileText
+file-text-fits file =
+    at-cond (λ (t : List ℕ). length t ≤ textRoom) (goodLength file) _ _
+    (λ _. sheet-text-fits (fileWords file))
+    (λ _. length-refusal-line 15 0)
+
+-- ---- the text in a lent buffer
+
+-- a text composed at the start of a scratch buffer lies within it
+pub composed-fits :
+    (file scratch : List ℕ) (size : ℕ) {whole : List ℕ} → length scratch ≡ textRoom → size ≡ length (fileText file) → whole ≡ sets scratch 0 (fileText file) →
+    size ≤ length whole
+composed-fits file scratch size room measured is =
+    omega (arith, ap length is, length-sets scratch 0 (fileText file), file-text-fits file)
+
+-- no room for it: nothing is written
+pub text-refused :
+    (text old : List ℕ) (size : ℕ) → size ≡ length text → length old < size → (NoRoom size ≡ writtenFor text old) × (old ≡ textAfter text old)
+text-refused text old size measured short = rw (measured, lt-leb (length text) (length old) (omega arith)) (refl, refl)
+
+-- a text written at the start of a buffer that has room for it
+written-at-start : (text old : List ℕ) → length text ≤ length old → sets old 0 text ≡ text ++ drop (length text) old
+written-at-start text old within = sets-eq text old 0 (omega arith) ∙ ap (λ (n : ℕ). text ++ drop n old) (zero-add (length text))
+
+-- room for it: the bytes of the scratch buffer up to its size are the text, and they are copied
+pub text-copied :
+    (text old scratch : List ℕ) (size : ℕ) {whole after : List ℕ} → size ≡ length text → whole ≡ sets scratch 0 text → length text ≤ length scratch →
+    size ≤ length old → after ≡ sets old 0 (take size whole) → (Whole size ≡ writtenFor text old) × (after ≡ textAfter text old)
+text-copied text old scratch size measured is within room copied =
+    let part = ap (take size) (is ∙ written-at-start text scratch within) ∙ take-at text (drop (length text) scratch) size (sym measured) in
+    let fits : length text ≤ length old = omega arith in
+    rw (le-leb (length text) (length old) fits) (ap Whole measured, copied ∙ ap (sets old 0) part ∙ written-at-start text old fits)

@@ -1,0 +1,204 @@
+-- 01, "Checked deals († to be proved)": every † as tests of the meanings themselves, in one list. That all of them hold is one theorem,
+-- `checked-deals` (proofs/CheckedDealsLaw.antt).
+use mathlib.Core.Bool.{Bool, true, false, not, _&&_, _||_}
+use mathlib.Core.List.{List, [], _∷_, _++_}
+use mathlib.Core.Logic.{_⊎_}
+use mathlib.Core.Path.{_≡_}
+use Prim.Native.Nat.{ℕ, _+_, _*_}
+use Prim.Native.String.{String}
+use lib.Dec.{leb, ltb, eqb}
+use Rattle.files.specs.FileForm.{fileBytes}
+use Rattle.formula.specs.FixedPoint.{rawWeight}
+use Rattle.formula.specs.Formula.{lowerExponent, upperExponent, Difference, upperEnd, lowerEnd, Passes}
+use Rattle.formula.specs.Fraction.{Fraction, plus, whole}
+use Rattle.formula.specs.declared.RawWeight.{RawWeight}
+use Rattle.formula.specs.declared.RawWeight.the-variants.{Weight, NoThickness, OutsideLimits}
+use Rattle.ratings.specs.RatingTable.{ratingTable, maturityFifths, weightByRating}
+use Rattle.weights.specs.ApproachFloorCap.{approach, parameter}
+use Rattle.deal.specs.Lines.{terms, tranche, lineWords, poolAverage}
+use Rattle.deal.specs.PointsAndCharge.{poolSums, baseCharge, lateShare}
+use Rattle.deal.specs.Results.{replyTo}
+use Rattle.files.specs.Decimal.{newline}
+use Rattle.report.specs.ReportText.{ascii, resultRoom, fileText}
+
+-- ---- tests
+
+abbrev pub allHold : List Bool → Bool
+allHold [] = true
+allHold (b ∷ bs) = b && allHold bs
+
+abbrev pub sameList : List ℕ → List ℕ → Bool
+sameList [] [] = true
+sameList [] (y ∷ ys) = false
+sameList (x ∷ xs) [] = false
+sameList (x ∷ xs) (y ∷ ys) = eqb x y && sameList xs ys
+
+-- the bytes of a text's lines, each with a newline after it
+abbrev pub textOf : List String → List ℕ
+textOf [] = []
+textOf (l ∷ ls) = ascii l ++ newline ∷ textOf ls
+
+-- the file of a sheet gets this whole text
+abbrev pub prints : List ℕ → List String → Bool
+prints sheet text = sameList (fileText (fileBytes sheet)) (textOf text)
+
+-- a sheet gets no refusal, and this pool charge
+abbrev pub acceptedAt : List ℕ → ℕ → Bool
+acceptedAt sheet charge = eqb (replyTo sheet resultRoom .number) 0 && eqb (replyTo sheet resultRoom .charge) charge
+
+-- the line of a sheet's first tranche has these six words
+abbrev pub firstLine : List ℕ → List ℕ → Bool
+firstLine sheet words = sameList (lineWords (tranche sheet 0) (terms sheet)) words
+
+-- an answer of rawWeight (its inputs are A, D, K and the parameter) is this number,
+abbrev pub isWeight : RawWeight → ℕ → Bool
+isWeight (Weight v) w = eqb v w
+isWeight NoThickness w = false
+isWeight OutsideLimits w = false
+
+-- or one of these two
+abbrev pub isEither : RawWeight → ℕ → ℕ → Bool
+isEither r v w = isWeight r v || isWeight r w
+
+-- "An ordinary securitisation has supervisory parameter 1"
+abbrev pub ordinary : ℕ
+ordinary = parameter false
+
+-- ---- a number that passes: `Passes` of Formula.antt and what it is made of, as tests at one k
+
+-- Admitted
+abbrev pub admitted : Fraction → ℕ → Bool
+admitted q k = leb (2 * q .top) ((k + 2) * q .bottom)
+
+-- AtMost
+abbrev pub atMost : Fraction → Fraction → Bool
+atMost x y = leb (x .top * y .bottom) (y .top * x .bottom)
+
+-- Below
+abbrev pub below : Fraction → Fraction → Bool
+below x y = ltb (x .top * y .bottom) (y .top * x .bottom)
+
+-- EndAtMost
+abbrev pub endAtMost : Difference → ℕ → Bool
+endAtMost e w = atMost (e .minuend) (plus (whole w) (e .subtrahend))
+
+-- EndAboveMinusTwo
+abbrev pub endAboveMinusTwo : Difference → ℕ → Bool
+endAboveMinusTwo e w = below (plus (whole w) (e .subtrahend)) (plus (e .minuend) (whole 2))
+
+-- Counts
+abbrev pub counts : ℕ → ℕ → ℕ → ℕ → ℕ → Bool
+counts A D K p k = admitted (lowerExponent A K p) k && admitted (upperExponent D K p) k
+
+-- Passes
+abbrev pub passesAt : ℕ → ℕ → ℕ → ℕ → ℕ → ℕ → Bool
+passesAt A D K p k w = counts A D K p k && endAtMost (upperEnd A D K p k) w && endAboveMinusTwo (lowerEnd A D K p k) w
+
+-- a number passes just where it is one of these two: shown of both open cases of the list in proofs/CheckedDealsLaw.antt
+pub record JustTwoPass (A D K p v w : ℕ) : Type 0 where
+  pub both : (x : ℕ) → (x ≡ v) ⊎ (x ≡ w) → Passes A D K p x
+  pub no-other : (x : ℕ) → Passes A D K p x → (x ≡ v) ⊎ (x ≡ w)
+
+-- ---- the sheets: facts, pool and tranches, each after its count
+
+-- "Sheet `4 0 0 1 1 2 950 950 100 0 50 50 100 1 3 800 1 72 800 1 0 0 150 2 72 100 9 0 0 50 3 72 50 0 0 0`."
+abbrev pub checkedSheet : List ℕ
+checkedSheet =
+    4 ∷ 0 ∷ 0 ∷ 1 ∷ 1 ∷
+    2 ∷ 950 ∷ 950 ∷ 100 ∷ 0 ∷ 50 ∷ 50 ∷ 100 ∷ 1 ∷
+    3 ∷ 800 ∷ 1 ∷ 72 ∷ 800 ∷ 1 ∷ 0 ∷ 0 ∷ 150 ∷ 2 ∷ 72 ∷ 100 ∷ 9 ∷ 0 ∷ 0 ∷ 50 ∷ 3 ∷ 72 ∷ 50 ∷ 0 ∷ 0 ∷ 0 ∷ []
+
+-- "prints this whole text"
+abbrev pub checkedText : List String
+checkedText =
+    "charge 101000 tranches 3" ∷
+    "1 1 200000 1000000 2000 160 13" ∷
+    "2 1 50000 200000 26350 264 22" ∷
+    "3 2 0 50000 125000 625 50" ∷
+    "total 1049 85" ∷ []
+
+-- one tranche, rated AAA, over loans of 10%
+abbrev pub cappedSheet : List ℕ
+cappedSheet =
+    4 ∷ 0 ∷ 0 ∷ 1 ∷ 1 ∷
+    1 ∷ 1000 ∷ 1000 ∷ 10 ∷ 0 ∷
+    1 ∷ 1000 ∷ 1 ∷ 12 ∷ 1000 ∷ 1 ∷ 0 ∷ 0 ∷ []
+
+-- exposures of 2 at 100% and of 1 at 50%, with one unrated tranche
+abbrev pub twoRowSheet : List ℕ
+twoRowSheet =
+    4 ∷ 0 ∷ 0 ∷ 1 ∷ 1 ∷
+    2 ∷ 2 ∷ 2 ∷ 100 ∷ 0 ∷ 1 ∷ 1 ∷ 50 ∷ 0 ∷
+    1 ∷ 3 ∷ 1 ∷ 12 ∷ 3 ∷ 0 ∷ 0 ∷ 0 ∷ []
+
+-- a paying row of 950 and one of 50 whose status is not known, at 100%, with one unrated tranche
+abbrev pub unknownSheet : List ℕ
+unknownSheet =
+    4 ∷ 0 ∷ 0 ∷ 1 ∷ 1 ∷
+    2 ∷ 950 ∷ 950 ∷ 100 ∷ 0 ∷ 50 ∷ 50 ∷ 100 ∷ 2 ∷
+    1 ∷ 1000 ∷ 1 ∷ 12 ∷ 1000 ∷ 0 ∷ 0 ∷ 0 ∷ []
+
+-- the same with 949 and 51
+abbrev pub moreUnknownSheet : List ℕ
+moreUnknownSheet =
+    4 ∷ 0 ∷ 0 ∷ 1 ∷ 1 ∷
+    2 ∷ 949 ∷ 949 ∷ 100 ∷ 0 ∷ 51 ∷ 51 ∷ 100 ∷ 2 ∷
+    1 ∷ 1000 ∷ 1 ∷ 12 ∷ 1000 ∷ 0 ∷ 0 ∷ 0 ∷ []
+
+-- ---- the checks
+
+unfoldable pub checks : List Bool
+checks =
+    -- "Sheet ... The report program reads it as a file and prints this whole text"
+    prints checkedSheet checkedText ∷
+    -- "Months 1 and 12 give 60; 36 gives 156; 71 gives 296; 72 and 1200 give 300."
+    eqb (maturityFifths 1) 60 ∷
+    eqb (maturityFifths 12) 60 ∷
+    eqb (maturityFifths 36) 156 ∷
+    eqb (maturityFifths 71) 296 ∷
+    eqb (maturityFifths 72) 300 ∷
+    eqb (maturityFifths 1200) 300 ∷
+    -- "Senior AA, 36 months: 3,100." AA has the code 3; the thickness, here 0 and 1, does not count.
+    eqb (weightByRating ratingTable 3 true 36 0) 3100 ∷
+    eqb (weightByRating ratingTable 3 true 36 1000000) 3100 ∷
+    -- "Non-senior A+, 12 months, half thick: 4,000." A+ has the code 5.
+    eqb (weightByRating ratingTable 5 false 12 500000) 4000 ∷
+    -- "Senior AAA over loans of 10%: 1,000."
+    acceptedAt cappedSheet 8000 ∷
+    firstLine cappedSheet (1 ∷ 0 ∷ 1000000 ∷ 1000 ∷ 100 ∷ 8 ∷ []) ∷
+    -- "Rows (2, 100%) and (1, 50%): base 66,667, cap 8,334."
+    acceptedAt twoRowSheet 66667 ∷
+    eqb (baseCharge (poolSums twoRowSheet)) 66667 ∷
+    eqb (poolAverage (poolSums twoRowSheet)) 8334 ∷
+    -- "Base 80,000, none late, 5% unknown: charge 126,000;
+    eqb (baseCharge (poolSums unknownSheet)) 80000 ∷
+    eqb (lateShare (poolSums unknownSheet)) 0 ∷
+    acceptedAt unknownSheet 126000 ∷
+    eqb (approach (tranche unknownSheet 0) (terms unknownSheet)) 2 ∷
+    -- 5.1%: fallback."
+    eqb (baseCharge (poolSums moreUnknownSheet)) 80000 ∷
+    eqb (lateShare (poolSums moreUnknownSheet)) 0 ∷
+    acceptedAt moreUnknownSheet 1000000 ∷
+    firstLine moreUnknownSheet (0 ∷ 0 ∷ 1000000 ∷ 125000 ∷ 12500 ∷ 1000 ∷ []) ∷
+    -- "K = 0, D above 0: raw 0.
+    isWeight (rawWeight 0 1 0 ordinary) 0 ∷
+    isWeight (rawWeight 50000 1000000 0 ordinary) 0 ∷
+    -- K = 0 and D = 0: 125,000."
+    isWeight (rawWeight 0 0 0 ordinary) 125000 ∷
+    -- "D = K: 125,000."
+    isWeight (rawWeight 50000 100000 100000 ordinary) 125000 ∷
+    isWeight (rawWeight 100000 100000 100000 ordinary) 125000 ∷
+    -- "K = A = 100,000, D = 200,000: 79,016 or 79,017." For k = 8 the upper end is at most 79,016 and the lower end more than 79,017 − 2, so
+    -- these two pass and no others.
+    not (passesAt 100000 200000 100000 ordinary 8 79015) ∷
+    passesAt 100000 200000 100000 ordinary 8 79016 ∷
+    passesAt 100000 200000 100000 ordinary 8 79017 ∷
+    not (passesAt 100000 200000 100000 ordinary 8 79018) ∷
+    -- "K = 100,000, A = 50,000, D = 150,000: 111,684 or 111,685." The same for k = 6.
+    not (passesAt 50000 150000 100000 ordinary 6 111683) ∷
+    passesAt 50000 150000 100000 ordinary 6 111684 ∷
+    passesAt 50000 150000 100000 ordinary 6 111685 ∷
+    not (passesAt 50000 150000 100000 ordinary 6 111686) ∷
+    -- The raw weight given is one of the two, in each of these cases.
+    isEither (rawWeight 100000 200000 100000 ordinary) 79016 79017 ∷
+    isEither (rawWeight 50000 150000 100000 ordinary) 111684 111685 ∷ []

@@ -1,0 +1,61 @@
+// The report on a file: the bytes of a deal sheet's file in, the text that a desk reads out.
+ghost use mathlib.Core.Path.{_≡_};
+ghost use mathlib.Core.List.{_++_};
+ghost use Prim.Native.Nat.{_≤_};
+ghost use lib.ListN.{length, drop};
+ghost use lib.Seq.{sets};
+ghost use Rattle.report.specs.ReportText.{fileText, writtenFor, textAfter, textRoom};
+
+mod lines;
+mod text;
+
+use deal::Answer;
+use files::WORD_LIMIT;
+
+// Bytes that hold every text.
+pub const TEXT_ROOM: usize = 4810;
+
+// Result words that hold the lines of every sheet: six for each of 32 tranches.
+const RESULT_ROOM: usize = 192;
+
+// What became of a text: it was written whole, or there was no room for it and nothing was written. Both hold the text's length.
+pub enum Written {
+    Whole(u64),
+    NoRoom(u64),
+}
+
+// Writes the text of a file, and answers its length.
+fn compose(file: &[u8], out: &mut [u8]) -> usize
+    requires { ⌜ textRoom ≡ length (now out) ⌝ }
+    ensures { λ r. ⌜ r ≡ length (fileText (now (file .entry))) ⌝ }
+    ensures { λ r. ⌜ now (out .exit) ≡ sets (now (out .entry)) 0 (fileText (now (file .entry))) ⌝ }
+{
+    let mut sheet = [0u64; WORD_LIMIT];
+    let loaded = files::load(file, &mut sheet);
+    if !loaded {
+        return text::put_labelled(b"refused ", 15, b" at ", 0, 0, out);
+    }
+    let words = file.len() / 8;
+    let mut results = [0u64; RESULT_ROOM];
+    let answer = deal::weigh(&sheet[..words], &mut results);
+    match answer {
+        Answer::Weighed { count, charge } => lines::put_deal(count, charge, &results, out),
+        Answer::Refused(r) => text::put_labelled(b"refused ", r.number, b" at ", r.place, 0, out),
+    }
+}
+
+// Writes the text of a file to the start of a lent buffer, later bytes untouched; where there is no room for all of it, nothing is written. There is room
+// in a buffer of TEXT_ROOM bytes, whatever the file.
+pub fn report(file: &[u8], text: &mut [u8]) -> Written
+    ensures { λ r. ⌜ r ≡ writtenFor (fileText (now (file .entry))) (now (text .entry)) ⌝ }
+    ensures { λ r. ⌜ now (text .exit) ≡ textAfter (fileText (now (file .entry))) (now (text .entry)) ⌝ }
+    ensures { λ r. ⌜ length (fileText (now (file .entry))) ≤ textRoom ⌝ }
+{
+    let mut whole = [0u8; TEXT_ROOM];
+    let size = compose(file, &mut whole);
+    if text.len() < size {
+        return Written::NoRoom(size as u64);
+    }
+    text::put_bytes(&whole[..size], 0, text);
+    Written::Whole(size as u64)
+}

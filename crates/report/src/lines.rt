@@ -1,0 +1,66 @@
+// The lines of an accepted deal, from the words of its results.
+ghost use mathlib.Core.Path.{_≡_};
+ghost use Prim.Native.Nat.{ℕ, _+_, _*_, _≤_, _<_};
+ghost use lib.ListN.{length, getD};
+ghost use lib.Seq.{sets};
+ghost use Rattle.report.specs.ReportText.{trancheLine, trancheLines, columnSum, dealText, textRoom};
+use crate::text::put_labelled;
+use crate::text::put_number;
+
+// Writes the line of tranche i: its number, then its six words.
+fn put_line(i: u64, results: &[u64], at: usize, out: &mut [u8]) -> usize
+    requires { ⌜ (i < 32) × (6 * i + 6 ≤ length (now results)) × (at + 147 ≤ length (now out)) ⌝ }
+    ensures { λ r. ⌜ r ≡ at + length (trancheLine (now (results .entry)) i) ⌝ }
+    ensures { λ r. ⌜ now (out .exit) ≡ sets (now (out .entry)) at (trancheLine (now (results .entry)) i) ⌝ }
+{
+    let word = (6 * i) as usize;
+    let first = put_number(i + 1, b' ', at, &mut *out);
+    let second = put_number(results[word], b' ', first, &mut *out);
+    let third = put_number(results[word + 1], b' ', second, &mut *out);
+    let fourth = put_number(results[word + 2], b' ', third, &mut *out);
+    let fifth = put_number(results[word + 3], b' ', fourth, &mut *out);
+    let sixth = put_number(results[word + 4], b' ', fifth, &mut *out);
+    put_number(results[word + 5], b'\n', sixth, out)
+}
+
+// Writes the lines of the first n tranches.
+fn put_lines(n: u64, results: &[u64], at: usize, out: &mut [u8]) -> usize
+    requires { ⌜ (n ≤ 32) × (6 * n ≤ length (now results)) × (at + 147 * n ≤ length (now out)) ⌝ }
+    ensures { λ r. ⌜ r ≡ at + length (trancheLines (now (results .entry)) n) ⌝ }
+    ensures { λ r. ⌜ now (out .exit) ≡ sets (now (out .entry)) at (trancheLines (now (results .entry)) n) ⌝ }
+{
+    let mut end = at;
+    let mut i = 0;
+    while i < n {
+        end = put_line(i, results, end, &mut *out);
+        i += 1;
+    }
+    end
+}
+
+// The sum of a column of the six words over the first n tranches, where none is above 1.25 × 10^14.
+fn column_sum(results: &[u64], column: usize, n: u64) -> u64
+    requires { ⌜ (n ≤ 32) × (column < 6) × (6 * n ≤ length (now results)) × ((i : ℕ) → i < n → getD (now results) (6 * i + column) 0 ≤ 125000000000000) ⌝ }
+    ensures { λ r. ⌜ r ≡ columnSum (now (results .entry)) column n ⌝ }
+{
+    let mut sum = 0;
+    let mut i = 0;
+    while i < n {
+        sum += results[(6 * i) as usize + column];
+        i += 1;
+    }
+    sum
+}
+
+// Writes the whole text of an accepted deal, and answers its length.
+pub(crate) fn put_deal(n: u64, charge: u64, results: &[u64], out: &mut [u8]) -> usize
+    requires { ⌜ (n ≤ 32) × (6 * n ≤ length (now results)) × (textRoom ≤ length (now out)) × ((i c : ℕ) → i < n → 4 ≤ c → c < 6 → getD (now results) (6 * i + c) 0 ≤ 125000000000000) ⌝ }
+    ensures { λ r. ⌜ r ≡ length (dealText charge n (now (results .entry))) ⌝ }
+    ensures { λ r. ⌜ now (out .exit) ≡ sets (now (out .entry)) 0 (dealText charge n (now (results .entry))) ⌝ }
+{
+    let charged = put_labelled(b"charge ", charge, b" tranches ", n, 0, &mut *out);
+    let lined = put_lines(n, results, charged, &mut *out);
+    let rwa = column_sum(results, 4, n);
+    let capital = column_sum(results, 5, n);
+    put_labelled(b"total ", rwa, b" ", capital, lined, out)
+}

@@ -1,0 +1,2 @@
+pub mod SheetText
+pub mod Scanning

@@ -1,0 +1,84 @@
+// Reads a sheet that is written by hand, and writes the bytes of its file to standard output. What fails is said in one line on standard error.
+use input::Input;
+use libc::STDERR_FILENO;
+use libc::STDOUT_FILENO;
+use sheet_text::Made;
+use sheet_text::Span;
+
+// A text is read into one byte more than the longest has, so that a longer text is seen to be too long.
+fn main() {
+    let mut text = [0u8; 1048576];
+    write_named(&mut text);
+}
+
+// Reads the text that the argument names, and writes the bytes of its sheet.
+fn write_named(text: &mut [u8]) {
+    let read = input::read_named(
+        b"usage: sheet_words FILE (- for standard input)\n",
+        &mut *text,
+    );
+    match read {
+        Input::Bytes(n) => {
+            if n < text.len() {
+                write_sheet(&text[..n]);
+            } else {
+                io::write_all(STDERR_FILENO, b"the text has more than 1048575 bytes\n");
+            }
+        }
+        Input::Failed => {}
+    }
+}
+
+// Writes the bytes of the sheet that a text makes, or says why it makes none.
+fn write_sheet(text: &[u8]) {
+    let mut bytes = [0u8; files::BYTE_LIMIT];
+    let made = sheet_text::sheet_bytes(text, &mut bytes);
+    match made {
+        Made::Bytes(n) => write_bytes(n, &bytes),
+        Made::NotDecimal(token) => refuse_token(text, token, b" is not a decimal number\n"),
+        Made::TooLarge(token) => refuse_token(text, token, b" is above 64 bits\n"),
+        Made::TooMany(n) => refuse_count(n),
+    }
+}
+
+// Writes the first n bytes of a buffer to standard output.
+fn write_bytes(n: u64, bytes: &[u8]) {
+    let length = input::within(n, bytes);
+    if !io::write_all(STDOUT_FILENO, &bytes[..length]) {
+        io::write_all(
+            STDERR_FILENO,
+            b"sheet_words: standard output can't be written\n",
+        );
+    }
+}
+
+// Says of the token that stands at a place of the text what is wrong with it.
+fn refuse_token(text: &[u8], token: Span, wrong: &[u8]) {
+    let end = input::within(token.end, text);
+    let before = &text[..end];
+    let start = input::within(token.start, before);
+    io::write_all(STDERR_FILENO, b"line ");
+    io::print_decimal(STDERR_FILENO, token.line);
+    io::write_all(STDERR_FILENO, b": ");
+    show_token(&before[start..]);
+    io::write_all(STDERR_FILENO, wrong);
+}
+
+// Writes a token as it stands, of a long one its first 40 bytes.
+fn show_token(token: &[u8]) {
+    if token.len() <= 40 {
+        io::write_all(STDERR_FILENO, token);
+    } else {
+        let shown = input::within(40, token);
+        io::write_all(STDERR_FILENO, &token[..shown]);
+        io::write_all(STDERR_FILENO, b"...");
+    }
+}
+
+// Says that there are more words than a sheet has.
+fn refuse_count(n: u64) {
+    io::print_decimal(STDERR_FILENO, n);
+    io::write_all(STDERR_FILENO, b" words, and a sheet has at most ");
+    io::print_decimal(STDERR_FILENO, files::WORD_LIMIT as u64);
+    io::write_all(STDERR_FILENO, b"\n");
+}

@@ -1,0 +1,48 @@
+// Reads a deal sheet's file, and prints the report on it: the lines of its tranches, or the refusal. What fails is said on standard error.
+use input::Input;
+use libc::STDERR_FILENO;
+use libc::STDOUT_FILENO;
+use report::Written;
+
+// A file is read into one byte more than a sheet has, so that a longer file is seen to be too long.
+fn main() {
+    let mut file = [0u8; files::BYTE_LIMIT + 1];
+    print_named(&mut file);
+}
+
+// Reads the file that the argument names, and writes the report on it.
+fn print_named(file: &mut [u8]) {
+    let read = input::read_named(
+        b"usage: tranche_report FILE (- for standard input)\n",
+        &mut *file,
+    );
+    match read {
+        Input::Bytes(n) => print_report(&file[..n]),
+        Input::Failed => {}
+    }
+}
+
+// Writes the report on a file to standard output. No report is empty.
+fn print_report(file: &[u8]) {
+    let mut text = [0u8; report::TEXT_ROOM];
+    let written = report::report(file, &mut text);
+    let length = input::within(whole_length(written), &text);
+    if length == 0 {
+        io::write_all(STDERR_FILENO, b"tranche_report: no room for the report\n");
+        return;
+    }
+    if !io::write_all(STDOUT_FILENO, &text[..length]) {
+        io::write_all(
+            STDERR_FILENO,
+            b"tranche_report: standard output can't be written\n",
+        );
+    }
+}
+
+// The length of a report that was written whole; 0 where there was no room for it.
+fn whole_length(written: Written) -> u64 {
+    match written {
+        Written::Whole(n) => n,
+        Written::NoRoom(_) => 0,
+    }
+}

@@ -1,0 +1,214 @@
+#!/bin/sh
+# Runs tranche_report and sheet_words as a desk does, and holds standard output, standard error and the exit status of each run to what is due.
+# Prints a line for each case, and stops with 1 at the first difference. The programs are built first: rt check tranche_report sheet_words.
+set -u
+
+root=$(cd "$(dirname "$0")/.." && pwd) || exit 1
+bin=$root/target/bin
+room=$(mktemp -d) || exit 1
+trap 'rm -rf "$room"' EXIT
+cd "$room" || exit 1
+
+# One run: run PROGRAM ARGUMENT..
+run() {
+    program=$1
+    shift
+    "$bin/$program" "$@" > out 2> err
+    echo "$?" > status
+}
+
+# One run with a standard output that takes nothing: run_full PROGRAM FILE
+run_full() {
+    "$bin/$1" "$2" > /dev/full 2> err
+    echo "$?" > status
+    : > out
+}
+
+# What the next cases have to write, in printf's escapes: due STANDARD-OUTPUT STANDARD-ERROR
+due() {
+    printf "$1" > due.out
+    printf "$2" > due.err
+    echo 0 > due.status
+}
+
+# Holds the last run to what is due: held NAME-OF-THE-CASE
+held() {
+    for part in status err out; do
+        if ! cmp -s "due.$part" "$part"; then
+            echo "$1: $part is not what is due"
+            echo "due:"
+            od -c "due.$part"
+            echo "was:"
+            od -c "$part"
+            exit 1
+        fi
+    done
+    echo "$1: ok"
+}
+
+# So many bytes, all the same: bytes NUMBER CHARACTER
+bytes() {
+    dd if=/dev/zero bs="$1" count=1 2> dd.log | tr '\000' "$2"
+}
+
+# So many words, one to a line: words NUMBER
+words() {
+    awk -v n="$1" 'BEGIN { for (i = 0; i < n; i++) print 0 }'
+}
+
+cp "$root/crates/tranche_report/data/deal" deal
+cp "$root/crates/sheet_words/data/deal" deal.txt
+mkdir folder
+
+# ---- what both programs say of their arguments and of a file that can't be read
+
+for name in tranche_report sheet_words; do
+    due '' "usage: $name FILE (- for standard input)\n"
+    run "$name"
+    held "$name: no argument"
+    run "$name" deal deal
+    held "$name: two arguments"
+    run "$name" ''
+    held "$name: an empty argument"
+
+    due '' 'the argument: File name too long\n'
+    run "$name" "$(bytes 5000 a)"
+    held "$name: an argument that is too long"
+
+    due '' 'missing: No such file or directory\n'
+    run "$name" missing
+    held "$name: no such file"
+
+    due '' 'folder: Is a directory\n'
+    run "$name" folder
+    held "$name: a directory"
+
+    due '' 'standard input: Is a directory\n'
+    run "$name" - < folder
+    held "$name: a directory as standard input"
+
+    due '' 'standard input: Bad file descriptor\n'
+    run "$name" - <&-
+    held "$name: no standard input"
+done
+
+# ---- the report
+
+due 'charge 101000 tranches 3\n1 1 200000 1000000 2000 160 13\n2 1 50000 200000 26350 264 22\n3 2 0 50000 125000 625 50\ntotal 1049 85\n' ''
+run tranche_report deal
+held 'tranche_report: the checked deal'
+run tranche_report - < deal
+held 'tranche_report: the checked deal as standard input'
+(dd bs=1 count=101 2> dd.log; sleep 1; cat) < deal | run tranche_report -
+held 'tranche_report: the checked deal from a slow pipe'
+"$bin/sheet_words" deal.txt | run tranche_report -
+held 'tranche_report: the checked deal from sheet_words'
+
+due 'refused 1 at 0\n' ''
+run tranche_report /dev/null
+held 'tranche_report: an empty file'
+
+due 'refused 15 at 0\n' ''
+bytes 7 a > file
+run tranche_report file
+held 'tranche_report: 7 bytes'
+bytes 33849 a > file
+run tranche_report file
+held 'tranche_report: one byte more than a sheet has'
+bytes 33856 a > file
+run tranche_report file
+held 'tranche_report: one word more than a sheet has'
+bytes 1000000 a | run tranche_report -
+held 'tranche_report: a long file from a pipe'
+
+due 'refused 2 at 0\n' ''
+dd if=/dev/zero of=file bs=33848 count=1 2> dd.log
+run tranche_report file
+held 'tranche_report: as many bytes as a sheet has'
+
+due '' "tranche_report: standard output can't be written\n"
+run_full tranche_report deal
+held 'tranche_report: standard output is full'
+
+# ---- sheets written by hand
+
+due '' ''
+cp deal due.out
+run sheet_words deal.txt
+held 'sheet_words: the checked deal'
+run sheet_words - < deal.txt
+held 'sheet_words: the checked deal as standard input'
+(dd bs=1 count=250 2> dd.log; sleep 1; cat) < deal.txt | run sheet_words -
+held 'sheet_words: the checked deal from a slow pipe'
+
+due '' ''
+run sheet_words /dev/null
+held 'sheet_words: an empty text'
+bytes 1048575 ' ' > text
+run sheet_words text
+held 'sheet_words: as many spaces as a text has'
+
+due '' 'the text has more than 1048575 bytes\n'
+bytes 1048576 ' ' > text
+run sheet_words text
+held 'sheet_words: a text that is too long'
+
+due '\001\000\000\000\000\000\000\000\377\377\377\377\377\377\377\377\000\001\000\000\000\000\000\000' ''
+printf '#\n1#2 x\n\t18446744073709551615\r\n000256' > text
+run sheet_words text
+held 'sheet_words: comments, white space and the largest word'
+
+due '' 'line 7: 12x4 is not a decimal number\n'
+printf '4\n0 0\n# 1x\n1\n1\n\n 2 12x4 5y\n' > text
+run sheet_words text
+held 'sheet_words: a token that is no number'
+
+due '' 'line 1: -5 is not a decimal number\n'
+printf '%s' '-5' > text
+run sheet_words text
+held 'sheet_words: a number with a sign'
+
+due '' 'line 7: 99999999999999999999 is above 64 bits\n'
+printf '\n\n\n\n\n\n99999999999999999999\n' > text
+run sheet_words text
+held 'sheet_words: a number above 64 bits'
+
+due '' 'line 1: 18446744073709551616 is above 64 bits\n'
+printf '18446744073709551616' > text
+run sheet_words text
+held 'sheet_words: the first number above 64 bits'
+
+due '' "line 1: $(bytes 40 a) is not a decimal number\n"
+bytes 40 a > text
+run sheet_words text
+held 'sheet_words: a token of 40 characters'
+
+due '' "line 1: $(bytes 40 a)... is not a decimal number\n"
+bytes 41 a > text
+run sheet_words text
+held 'sheet_words: a token of 41 characters'
+
+due '' "line 1: $(bytes 40 9)... is above 64 bits\n"
+bytes 1000 9 > text
+run sheet_words text
+held 'sheet_words: a number of 1000 digits'
+
+due '' ''
+dd if=/dev/zero of=due.out bs=33848 count=1 2> dd.log
+words 4231 > text
+run sheet_words text
+held 'sheet_words: as many words as a sheet has'
+
+due '' '4232 words, and a sheet has at most 4231\n'
+words 4232 > text
+run sheet_words text
+held 'sheet_words: one word more than a sheet has'
+
+due '' '5000 words, and a sheet has at most 4231\n'
+words 5000 > text
+run sheet_words text
+held 'sheet_words: 5000 words'
+
+due '' "sheet_words: standard output can't be written\n"
+run_full sheet_words deal.txt
+held 'sheet_words: standard output is full'
