@@ -61,10 +61,12 @@ room-enough s room enough fourteen = by-cases (verdict s room) refl fourteen
         at-place (bad w) = omega (arith, fault-at-most s (r .place), w .fault-is)
         at-place (missing number place) = omega arith
     of-words r (words-follow w) z = omega (arith, w .number-is)
+
     why : (r : Refusal) → Why s room r → r .number ≡ 14 → ⊥
     why r (by-words w) z = of-words r w z
     why r (by-room w) z = omega (arith, w .short, tranches-within s (tranches-counted s (good-judged s (needed s) (w .words .good))))
     why r (by-thinness w) z = omega (arith, w .number-is)
+
     by-cases : (v : Verdict) → verdict s room ≡ v → replyFor s v .number ≡ 14 → ⊥
     by-cases Sound e z = omega arith
     by-cases (Faulty r) e z = why r (refused-means s room r e) z

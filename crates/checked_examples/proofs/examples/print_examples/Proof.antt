@@ -1,0 +1,46 @@
+-- `print_examples` is safe and ends: i runs from 1 to the number of arguments. No axioms.
+use Prim.Native.Nat.{_-_}
+use borrow.Author.Needs.{needs}
+use Rattle.checked_examples.proofs.examples.print_examples.Statement.{statement}
+use Rattle.checked_examples.proofs.examples.print_examples.Tie as tie
+
+abbrev Inv-loop : tie.InvT-loop
+Inv-loop i₀ i-end i = Unit {0}
+
+abbrev μ-loop : tie.MeasureT-loop
+μ-loop i₀ i-end i = i-end - i
+
+arg-count-requires : tie.Need-arg-count-requires Inv-loop μ-loop
+arg-count-requires c κs = search needs
+
+loop-holds : tie.Need-loop-holds Inv-loop μ-loop
+loop-holds c = search needs
+
+print-example-requires : tie.Need-print-example-requires Inv-loop μ-loop
+print-example-requires c κs = search needs
+
+add-i : tie.Need-add-i Inv-loop μ-loop
+add-i c = search needs
+
+loop-less : tie.Need-loop-less Inv-loop μ-loop
+loop-less c = search needs
+
+loop-again : tie.Need-loop-again Inv-loop μ-loop
+loop-again c = search needs
+
+returns : tie.Need-returns Inv-loop μ-loop
+returns c = search needs
+
+pub print-examples-spec : {M : Type 1} → statement M
+print-examples-spec =
+    tie.close
+    (tie.spec
+    Inv-loop
+    μ-loop
+    arg-count-requires
+    loop-holds
+    print-example-requires
+    add-i
+    loop-less
+    loop-again
+    returns)
