@@ -1,4 +1,4 @@
-// Single figures: tranche maturities, raw weights of the formula, entries of the decay table. The reason for each number of the stored text stands beside it.
+// Single figures: tranche maturities, raw weights of the formula, entries of the decay table. The reason for each number of the stored text stands beside it; values are cut after six decimals.
 use formula::RawWeight;
 use libc::STDOUT_FILENO;
 
@@ -70,45 +70,45 @@ fn print_settled_weights() {
 
 // Writes raw weights of the open cases that 01 names and of published examples: the exact value, rounded up, is the lower of the two that pass.
 fn print_published_weights() {
-    // Exact value 79015.069853; 79,016 or 79,017 passes. 125,000 × (1 - e^(-1)); misread (e^(-u/s) as 0): 125,000.
+    // About 79015.069853; 79,016 or 79,017 passes. 125,000 × (1 - e^(-1)); misread (e^(-u/s) as 0): 125,000.
     print_raw_weight(100000, 200000, 100000, 1000000);
-    // Exact value 111683.667535; 111,684 or 111,685 passes. 125,000 × (0.5 + 1 - e^(-0.5)).
+    // About 111683.667535; 111,684 or 111,685 passes. 125,000 × (0.5 + 1 - e^(-0.5)).
     print_raw_weight(50000, 150000, 100000, 1000000);
-    // Exact value 25145.200828; 25,146 or 25,147 passes. Source document 002, figure 1: about 251%.
+    // About 25145.200828; 25,146 or 25,147 passes. Source document 002, figure 1: about 251%.
     print_raw_weight(100000, 300000, 68000, 1000000);
-    // Exact value 18737.922459; 18,738 or 18,739 passes. Source document 002, two points up: about 187%.
+    // About 18737.922459; 18,738 or 18,739 passes. Source document 002, two points up: about 187%.
     print_raw_weight(120000, 320000, 68000, 1000000);
-    // Exact value 33743.395304; 33,744 or 33,745 passes. Source document 002, two points down: 337%.
+    // About 33743.395304; 33,744 or 33,745 passes. Source document 002, two points down: 337%.
     print_raw_weight(80000, 280000, 68000, 1000000);
-    // Exact value 19999.898699; 20,000 or 20,001 passes. Source document 002: surcharge of 100% on loans of 100%.
+    // About 19999.898699; 20,000 or 20,001 passes. Source document 002: surcharge of 100% on loans of 100%.
     print_raw_weight(0, 1000000, 80000, 1000000);
-    // Exact value 24992.977362; 24,993 or 24,994 passes. Source document 002: surcharge of 150% at parameter 1.5.
+    // About 24992.977362; 24,993 or 24,994 passes. Source document 002: surcharge of 150% at parameter 1.5.
     print_raw_weight(0, 1000000, 80000, 1500000);
-    // Exact value 102007.534926; 102,008 or 102,009 passes. Source document 002: 580% above 15,000 (6.8005 times).
+    // About 102007.534926; 102,008 or 102,009 passes. Source document 002: 580% above 15,000 (6.8005 times).
     print_raw_weight(0, 1000000, 500000, 1000000);
-    // Exact value 108117.145090; 108,118 or 108,119 passes. Source document 002: 621% above 15,000 (7.2078 times).
+    // About 108117.145090; 108,118 or 108,119 passes. Source document 002: 621% above 15,000 (7.2078 times).
     print_raw_weight(0, 1000000, 500000, 1500000);
 }
 
 // Writes raw weights at edges of the formula.
 fn print_edge_weights() {
-    // Exact value 5492.099540; 5,493 or 5,494 passes. l/s = 50/16: 2^32 × e^(-50/16) = 188,707,692.999. With the whole part 188,707,692 and
+    // About 5492.099540; 5,493 or 5,494 passes. l/s = 50/16: 2^32 × e^(-50/16) = 188,707,692.999. With the whole part 188,707,692 and
     // nothing added back the value is 5,487.447, so 5,488: too low.
     print_raw_weight(660000, 660001, 160000, 1000000);
-    // Exact value 6889.371410; 6,890 or 6,891 passes. 625,000 × (e^(-2.8) - e^(-3)). At k = 4 the lower end is about -983: a lower end can be
+    // About 6889.371410; 6,890 or 6,891 passes. 625,000 × (e^(-2.8) - e^(-3)). At k = 4 the lower end is about -983: a lower end can be
     // below 0.
     print_raw_weight(190000, 200000, 50000, 1000000);
-    // Exact value 0.250000; 1 or 2 passes. 125,000 × (1 + 1 - e^(-999,999)) / 10^6, that is 0.25 less a trace.
+    // About 0.250000; 1 or 2 passes. 125,000 × (1 + 1 - e^(-999,999)) / 10^6, that is 0.25 less a trace.
     print_raw_weight(0, 1000000, 1, 1000000);
-    // Exact value 0.000000; 1 or 2 passes. 125,000 × (e^(-999,998) - e^(-999,999)): above 0, so 1 and never 0.
+    // About 0.000000; 1 or 2 passes. 125,000 × (e^(-999,998) - e^(-999,999)): above 0, so 1 and never 0.
     print_raw_weight(999999, 1000000, 1, 1000000);
-    // Exact value 79015.069853; 79,016 or 79,017 passes. The smallest charge: 125,000 × (1 - e^(-1)).
+    // About 79015.069853; 79,016 or 79,017 passes. The smallest charge: 125,000 × (1 - e^(-1)).
     print_raw_weight(1, 2, 1, 1000000);
-    // Exact value 124999.999999; 125,000 passes. Just below 125,000: one number passes, for 125,001 is above the top.
+    // About 124999.999999; 125,000 passes. Just below 125,000: one number passes, for 125,001 is above the top.
     print_raw_weight(0, 1000000, 999999, 1000000);
-    // Exact value 124999.958333; 125,000 passes. The same at the thinnest tranche and parameter 1.5.
+    // About 124999.958333; 125,000 passes. The same at the thinnest tranche and parameter 1.5.
     print_raw_weight(999999, 1000000, 999999, 1500000);
-    // Exact value 64177.182663; 64,178 or 64,179 passes. A thin tranche at the top, parameter 1.5: l/s = 499,999 / 750,000.
+    // About 64177.182663; 64,178 or 64,179 passes. A thin tranche at the top, parameter 1.5: l/s = 499,999 / 750,000.
     print_raw_weight(999999, 1000000, 500000, 1500000);
 }
 

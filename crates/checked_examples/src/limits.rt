@@ -1,4 +1,4 @@
-// What no written sheet can show: results that are too short (14), files of a bad length (15), and the two largest deals.
+// What is not kept as a written sheet: results that are too short (14), files of a bad length (15), and the two largest deals.
 use crate::examples::print_report;
 use deal::Answer;
 use files::BYTE_LIMIT;

@@ -1,5 +1,5 @@
-// Prints what the library gives for figures and deals whose numbers were worked out by hand or by other means, to be held against the stored text: single
-// figures, refusals that no written sheet can get, the two largest deals, and the report on each example that an argument names.
+// Prints what the library gives for figures and deals whose numbers are known, to be held against the stored text: single figures, refusals that no
+// written sheet can get, the two largest deals, and the report on each example that an argument names.
 mod examples;
 mod figures;
 mod limits;

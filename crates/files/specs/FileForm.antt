@@ -52,7 +52,7 @@ fileBytes (w ∷ ws) = bytesOf 8 w ++ fileBytes ws
 
 -- whether the words' bytes fit
 abbrev pub bytesFit : List ℕ → List ℕ → Bool
-bytesFit ws old = leb (length ws) (length old / 8)
+bytesFit ws old = leb (8 * length ws) (length old)
 
 -- lent bytes after the words are stored: their bytes, and the rest as it was; all as it was where they do not fit
 unfoldable pub bytesAfter : List ℕ → List ℕ → List ℕ

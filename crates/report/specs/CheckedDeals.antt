@@ -124,12 +124,12 @@ cappedSheet =
     1 ∷ 1000 ∷ 1000 ∷ 10 ∷ 0 ∷
     1 ∷ 1000 ∷ 1 ∷ 12 ∷ 1000 ∷ 1 ∷ 0 ∷ 0 ∷ []
 
--- exposures of 2 at 100% and of 1 at 50%, with one unrated tranche
+-- exposures of 2 at 100% and of 1 at 50%, with one tranche, rated BBB-, which has 12,000 by the table
 abbrev pub twoRowSheet : List ℕ
 twoRowSheet =
     4 ∷ 0 ∷ 0 ∷ 1 ∷ 1 ∷
     2 ∷ 2 ∷ 2 ∷ 100 ∷ 0 ∷ 1 ∷ 1 ∷ 50 ∷ 0 ∷
-    1 ∷ 3 ∷ 1 ∷ 12 ∷ 3 ∷ 0 ∷ 0 ∷ 0 ∷ []
+    1 ∷ 3 ∷ 1 ∷ 12 ∷ 3 ∷ 10 ∷ 0 ∷ 0 ∷ []
 
 -- a paying row of 950 and one of 50 whose status is not known, at 100%, with one unrated tranche
 abbrev pub unknownSheet : List ℕ
@@ -151,6 +151,8 @@ unfoldable pub checks : List Bool
 checks =
     -- "Sheet ... The report program reads it as a file and prints this whole text"
     prints checkedSheet checkedText ∷
+    -- "eight bytes each, lowest byte first": 950 is 182 + 3 × 256
+    sameList (fileBytes (950 ∷ [])) (182 ∷ 3 ∷ 0 ∷ 0 ∷ 0 ∷ 0 ∷ 0 ∷ 0 ∷ []) ∷
     -- "Months 1 and 12 give 60; 36 gives 156; 71 gives 296; 72 and 1200 give 300."
     eqb (maturityFifths 1) 60 ∷
     eqb (maturityFifths 12) 60 ∷
@@ -170,6 +172,7 @@ checks =
     acceptedAt twoRowSheet 66667 ∷
     eqb (baseCharge (poolSums twoRowSheet)) 66667 ∷
     eqb (poolAverage (poolSums twoRowSheet)) 8334 ∷
+    firstLine twoRowSheet (1 ∷ 0 ∷ 1000000 ∷ 8334 ∷ 3 ∷ 1 ∷ []) ∷
     -- "Base 80,000, none late, 5% unknown: charge 126,000;
     eqb (baseCharge (poolSums unknownSheet)) 80000 ∷
     eqb (lateShare (poolSums unknownSheet)) 0 ∷
@@ -188,13 +191,13 @@ checks =
     -- "D = K: 125,000."
     isWeight (rawWeight 50000 100000 100000 ordinary) 125000 ∷
     isWeight (rawWeight 100000 100000 100000 ordinary) 125000 ∷
-    -- "K = A = 100,000, D = 200,000: 79,016 or 79,017." For k = 8 the upper end is at most 79,016 and the lower end more than 79,017 − 2, so
-    -- these two pass and no others.
+    -- "K = A = 100,000, D = 200,000: 79,016 or 79,017." At k = 8 these two pass and their neighbours do not; that no other passes at any k is
+    -- `open-case-above-charge` (proofs/CheckedDealsLaw.antt).
     not (passesAt 100000 200000 100000 ordinary 8 79015) ∷
     passesAt 100000 200000 100000 ordinary 8 79016 ∷
     passesAt 100000 200000 100000 ordinary 8 79017 ∷
     not (passesAt 100000 200000 100000 ordinary 8 79018) ∷
-    -- "K = 100,000, A = 50,000, D = 150,000: 111,684 or 111,685." The same for k = 6.
+    -- "K = 100,000, A = 50,000, D = 150,000: 111,684 or 111,685." The same at k = 6, and at any k `open-case-around-charge`.
     not (passesAt 50000 150000 100000 ordinary 6 111683) ∷
     passesAt 50000 150000 100000 ordinary 6 111684 ∷
     passesAt 50000 150000 100000 ordinary 6 111685 ∷

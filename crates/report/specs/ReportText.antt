@@ -21,7 +21,7 @@ ascii (c then s) = code c ∷ ascii s
 
 -- ---- lines
 
--- a line of two numbers, each after its words
+-- a line of two numbers, each after its label
 unfoldable pub labelled : String → ℕ → String → ℕ → List ℕ
 labelled first n second m = ascii first ++ decimal n ++ ascii second ++ decimal m ++ newline ∷ []
 
@@ -74,7 +74,7 @@ fileText file = cond (goodLength file) (sheetText (fileWords file)) (refusalLine
 
 -- no text is longer: a first line of two numbers, 32 lines of seven and a last line of two, where a number has at most 20 digits
 abbrev pub textRoom : ℕ
-textRoom = 4810
+textRoom = 58 + 32 * 147 + 48
 
 -- the answer: the text's length, and whether there was room for it
 abbrev pub writtenFor : List ℕ → List ℕ → Written

@@ -45,7 +45,7 @@ pub(crate) fn put_number(n: u64, end: u8, at: usize, out: &mut [u8]) -> usize
     after + 1
 }
 
-// Writes a line of two numbers, each after its words.
+// Writes a line of two numbers, each after its label.
 pub(crate) fn put_labelled(
     first: &[u8],
     n: u64,

@@ -1,7 +1,7 @@
 -- What a text makes whose tokens are all words: too many, or bytes, and the bytes that are stored then. No axioms.
 use mathlib.Core.List.{List, [], _++_, append-nil}
 use mathlib.Core.Path.{_≡_, _∙_, sym}
-use Prim.Native.Nat.{ℕ, _*_, _/_, _≤_, _<_, min}
+use Prim.Native.Nat.{ℕ, _*_, _≤_, _<_, min}
 use native.Mathlib.Omega.{arith}
 use borrow.Author.Tests.{le-leb, lt-leb}
 use lib.ListN.{length, take, drop}
@@ -34,4 +34,4 @@ module _ (text old stored : List ℕ) (n : ℕ) (read : Onward (tokens text) n s
   stores-words within fits =
       let size = length-take-le n stored within in
       let same : take n stored ≡ words (tokens text) = sym (read .kept within ∙ append-nil (take n stored)) in
-      store-accepts (take n stored) old (le-leb (length (take n stored)) (length old / 8) (omega (arith, size))) ∙ rw (size, same)
+      store-accepts (take n stored) old (le-leb (8 * length (take n stored)) (length old) (omega (arith, size))) ∙ rw (size, same)

@@ -1,5 +1,5 @@
--- A text read once from left to right: what a step of the reading makes and what holds at a place of the text. The contracts of the scan's functions cite
--- this.
+-- A text read once from left to right: what a step of the reading makes and what holds at a place of the text. Only contracts of private functions cite
+-- this, so no reader has to trust it.
 use mathlib.Core.Bool.{Bool, false, cond, _||_}
 use mathlib.Core.List.{List, _++_}
 use mathlib.Core.Path.{_≡_}

@@ -68,7 +68,7 @@ allDigits (b ∷ bs) = digit b && allDigits bs
 abbrev pub value : Token → ℕ
 value t = valueFrom 0 (t .characters)
 
--- "a number over 64 bits"
+-- a number over 64 bits
 abbrev pub tooLarge : Token → Bool
 tooLarge t = leb (2 ^ 64) (value t)
 

@@ -5,9 +5,12 @@ use libc::STDOUT_FILENO;
 use sheet_text::Made;
 use sheet_text::Span;
 
+// The most bytes that a text may have.
+const TEXT_LIMIT: usize = 1048575;
+
 // A text is read into one byte more than the longest has, so that a longer text is seen to be too long.
 fn main() {
-    let mut text = [0u8; 1048576];
+    let mut text = [0u8; TEXT_LIMIT + 1];
     write_named(&mut text);
 }
 
@@ -22,7 +25,7 @@ fn write_named(text: &mut [u8]) {
             if n < text.len() {
                 write_sheet(&text[..n]);
             } else {
-                io::write_all(STDERR_FILENO, b"the text has more than 1048575 bytes\n");
+                refuse_length();
             }
         }
         Input::Failed => {}
@@ -73,6 +76,13 @@ fn show_token(token: &[u8]) {
         io::write_all(STDERR_FILENO, &token[..shown]);
         io::write_all(STDERR_FILENO, b"...");
     }
+}
+
+// Says that the text is too long.
+fn refuse_length() {
+    io::write_all(STDERR_FILENO, b"the text has more than ");
+    io::print_decimal(STDERR_FILENO, TEXT_LIMIT as u64);
+    io::write_all(STDERR_FILENO, b" bytes\n");
 }
 
 // Says that there are more words than a sheet has.

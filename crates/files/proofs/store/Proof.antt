@@ -1,6 +1,6 @@
 -- `store`: after i turns the bytes that are left to store are those of the words from i on. No axioms.
 use mathlib.Core.Path.{_≡_, refl, sym, _∙_}
-use Prim.Native.Nat.{_*_, _-_, _/_, _≤_}
+use Prim.Native.Nat.{_*_, _-_, _≤_}
 use native.Mathlib.Omega.{arith}
 use borrow.Author.Tests.{le-leb, lt-leb}
 use lib.ListN.{length, drop}
@@ -21,7 +21,7 @@ abbrev μ-loop : tie.MeasureT-loop
 returns : tie.Need-returns Inv-loop μ-loop
 returns c =
     let x = c .before .before .before .args in
-    let full = lt-leb (length (x .words .now)) (length (x .bytes .now) / 8) (omega arith) in
+    let full = lt-leb (8 * length (x .words .now)) (length (x .bytes .now)) (omega arith) in
     (sym full, sym (store-refuses (x .words .now) (x .bytes .now) full))
 
 loop-holds : tie.Need-loop-holds Inv-loop μ-loop
@@ -64,7 +64,7 @@ returns-2 c =
     let x = c .before .before .before .before .before .args in
     let ws = x .words .now in
     let old = x .bytes .now in
-    let room = le-leb (length ws) (length old / 8) (omega arith) in (
+    let room = le-leb (8 * length ws) (length old) (omega arith) in (
       sym room,
       no-word-left ws (l .bytes) (l .i) (omega arith) ∙ l .inv .2 ∙ all-stored ws old (omega arith) ∙ sym (store-accepts ws old room),
     )

@@ -21,11 +21,8 @@ slice-aggregate-write-sheet c = (rw (c .before .before .before .read .given .1) 
 write-sheet-requires : tie.Need-write-sheet-requires
 write-sheet-requires c κs = search needs
 
-slice-aggregate-write-all : tie.Need-slice-aggregate-write-all
-slice-aggregate-write-all c = search needs
-
-write-all-requires : tie.Need-write-all-requires
-write-all-requires c κs = search needs
+refuse-length-requires : tie.Need-refuse-length-requires
+refuse-length-requires c κs = search needs
 
 enum-told : tie.Need-enum-told
 enum-told c = search needs
@@ -58,8 +55,7 @@ write-named-spec =
     slice-reshare-prefix-write-sheet
     slice-aggregate-write-sheet
     write-sheet-requires
-    slice-aggregate-write-all
-    write-all-requires
+    refuse-length-requires
     enum-told
     same-length
     returns

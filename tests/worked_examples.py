@@ -1,0 +1,230 @@
+#!/usr/bin/env python3
+"""The text that crates/checked_examples must print, worked out from the scope paper (01) alone: exact fractions, exponentials to a hundred digits.
+
+    python3 tests/worked_examples.py | cmp - crates/checked_examples/stdout
+
+Where two raw weights pass, this prints the lower, the exact value rounded up. It needs Python's standard library and is no part of the gate.
+"""
+import os
+from decimal import ROUND_CEILING, Decimal, getcontext
+from fractions import Fraction
+
+getcontext().prec = 100
+getcontext().Emin = -999999999
+
+MILLION = 10**6
+TOP = 125_000
+FALLBACK, ERBA, SA = 0, 1, 2
+SHORT_TERM = {21: 15, 22: 50, 23: 100, 24: 1250}
+
+# Senior 1 year, senior 5 years, non-senior 1 year, non-senior 5 years, in percent.
+RATINGS = {
+    1: (15, 20, 15, 70), 2: (15, 30, 15, 90), 3: (25, 40, 30, 120), 4: (30, 45, 40, 140), 5: (40, 50, 60, 160), 6: (50, 65, 80, 180),
+    7: (60, 70, 120, 210), 8: (75, 90, 170, 260), 9: (90, 105, 220, 310), 10: (120, 140, 330, 420), 11: (140, 160, 470, 580),
+    12: (160, 180, 620, 760), 13: (200, 225, 750, 860), 14: (250, 280, 900, 950), 15: (310, 340, 1050, 1050), 16: (380, 420, 1130, 1130),
+    17: (460, 505, 1250, 1250), 18: (1250, 1250, 1250, 1250),
+}
+
+
+class Refused(Exception):
+    """A refusal: its number and its place."""
+
+
+def up(x, y):
+    """x / y, rounded up."""
+    return -(-x // y)
+
+
+# ---- the sheet, judged word by word
+
+
+def judged(words):
+    """The facts, the pool's rows and the tranches of a sheet, or the first fault of a word, then 3."""
+    place = 0
+
+    def take(fault):
+        nonlocal place
+        if place == len(words):
+            raise Refused(1, place)
+        number = fault(words[place])
+        if number:
+            raise Refused(number, place)
+        place += 1
+        return words[place - 1]
+
+    def within(least, most, number):
+        return lambda w: 0 if least <= w <= most else number
+
+    take(within(4, 4, 2))
+    take(lambda w: 4 if w > 2 else 12 if w else 0)
+    resecuritised, diligence, composition = (take(within(0, 1, 4)) for _ in range(3))
+    rows, tranches, last = [], [], 0
+    for _ in range(take(within(1, 1000, 2))):
+        exposure, nominal = take(within(1, 10**10, 5)), take(within(1, 10**10, 5))
+        weight = take(within(0, 1250, 6))
+        rows.append((exposure, nominal, weight, take(within(3, 3, 7) if resecuritised else within(0, 2, 7))))
+    for _ in range(take(within(1, 32, 2))):
+        at = place
+        amount = take(within(1, 10**13, 8))
+        last = take(within(max(last, 1), last + 1, 9))
+        months, held = take(within(1, 1200, 10)), take(within(0, amount, 8))
+        codes = [take(lambda w: 0 if w == 0 or w in RATINGS or w in SHORT_TERM else 11) for _ in range(3)]
+        tranches.append((at, amount, last, months, held, codes))
+    if place < len(words):
+        raise Refused(3, place)
+    return resecuritised, diligence, composition, rows, tranches
+
+
+# ---- points and pool charge
+
+
+def point(rows, tranches, counted):
+    """What is left of the pool's nominal after the tranches of the classes that count, in millionths, rounded down."""
+    nominal = sum(n for _, n, _, _ in rows)
+    return max(0, nominal - sum(t[1] for t in tranches if counted(t[2]))) * MILLION // nominal
+
+
+def pool_charge(rows):
+    """The pool charge, and whether unknown rows are within 5% of all exposure."""
+    every = sum(e for e, _, _, _ in rows)
+    known = [r for r in rows if r[3] != 2]
+    exposure = sum(e for e, _, _, _ in known)
+    if 20 * (every - exposure) > every:
+        return MILLION, False
+    base = up(800 * sum(e * w for e, _, w, _ in known), exposure)
+    late = up(sum(n for _, n, _, s in known if s == 1) * MILLION, sum(n for _, n, _, _ in known))
+    charge = up((MILLION - late) * base + 500_000 * late, MILLION)
+    return up(exposure * charge + (every - exposure) * MILLION, every), True
+
+
+# ---- the rating table
+
+
+def maturity(months):
+    return max(60, min(300, 4 * months + 12))
+
+
+def weight_by_rating(code, senior, months, thickness):
+    """The weight by one rating, rounded up once."""
+    if code in SHORT_TERM:
+        return 100 * SHORT_TERM[code]
+    fifths = maturity(months)
+    run = [Fraction(one * (300 - fifths) + five * (fifths - 60), 240) for one, five in (RATINGS[code][:2], RATINGS[code][2:])]
+    exact = run[0] if senior else max(run[1] * (1 - Fraction(min(thickness, 500_000), MILLION)), run[0])
+    return up((100 * exact).numerator, (100 * exact).denominator)
+
+
+# ---- the formula
+
+
+def raw_weight(a, d, k, p):
+    """The raw weight: where the formula applies, its exact value rounded up."""
+    if d <= k:
+        return TOP
+    if k == 0:
+        return 0
+    scale = Fraction(p * k, MILLION)
+
+    def decay(x):
+        q = Fraction(x) / scale
+        return (-Decimal(q.numerator) / q.denominator).exp()
+
+    gap = decay(max(a - k, 0)) - decay(d - k)
+    within = max(k - a, 0)
+    exact = TOP * (within + Decimal(scale.numerator) / scale.denominator * gap) / (d - a)
+    whole = exact.to_integral_value(ROUND_CEILING)
+    # A value that a hundred digits can't tell from a whole number lies a trace above 0, or below TOP times (K − A + s) / (D − A).
+    if abs(exact - exact.to_integral_value()) < Decimal(10) ** -60:
+        bound = Fraction(TOP) * (within + scale) / (d - a)
+        return up(bound.numerator, bound.denominator) if a <= k else 1
+    return int(whole)
+
+
+# ---- the report
+
+
+def line(tranche, a, d, charge, known, deal):
+    """The six words of a tranche, or refusal 13."""
+    resecuritised, diligence, composition, rows, _ = deal
+    at, _, rank, months, held, codes = tranche
+    parameter, floor = (1_500_000, 10_000) if resecuritised else (MILLION, 1_500)
+    approach = FALLBACK if not diligence else SA if resecuritised else ERBA if any(codes) else SA if known else FALLBACK
+    if approach == SA and a == d and d > charge:
+        raise Refused(13, at)
+    weight = TOP
+    if approach != FALLBACK:
+        table = [weight_by_rating(c, rank == 1, months, d - a) for c in codes if c]
+        weight = max(floor, max(table) if approach == ERBA else raw_weight(a, d, charge, parameter))
+        if rank == 1 and not resecuritised and composition:
+            weight = min(weight, up(100 * sum(e * w for e, _, w, _ in rows), sum(e for e, _, _, _ in rows)))
+    return approach, a, d, weight, up(held * weight, 10_000), up(held * weight * 8, MILLION)
+
+
+def report(words):
+    """The text of a sheet's file."""
+    try:
+        deal = judged(words)
+        rows, tranches = deal[3:]
+        charge, known = pool_charge(rows)
+        lines = []
+        for t in tranches:
+            a = point(rows, tranches, lambda rank: rank <= t[2])
+            d = point(rows, tranches, lambda rank: rank < t[2])
+            lines.append(line(t, a, d, charge, known, deal))
+    except Refused as r:
+        return "refused %d at %d" % r.args
+    text = ["charge %d tranches %d" % (charge, len(lines))]
+    text += [" ".join(map(str, (i, *words))) for i, words in enumerate(lines, 1)]
+    return "\n".join(text + ["total %d %d" % (sum(w[4] for w in lines), sum(w[5] for w in lines))])
+
+
+# ---- what the program prints, in its order
+
+MONTHS = (1, 12, 36, 71, 72, 1200)
+INPUTS = (
+    (100000, 100000, 100000, 1000000), (50000, 100000, 100000, 1000000), (0, 0, 0, 1000000), (0, 1000000, 0, 1000000), (0, 1, 0, 1500000),
+    (100000, 200000, 100000, 1000000), (50000, 150000, 100000, 1000000), (100000, 300000, 68000, 1000000), (120000, 320000, 68000, 1000000),
+    (80000, 280000, 68000, 1000000), (0, 1000000, 80000, 1000000), (0, 1000000, 80000, 1500000), (0, 1000000, 500000, 1000000),
+    (0, 1000000, 500000, 1500000), (660000, 660001, 160000, 1000000), (190000, 200000, 50000, 1000000), (0, 1000000, 1, 1000000),
+    (999999, 1000000, 1, 1000000), (1, 2, 1, 1000000), (0, 1000000, 999999, 1000000), (999999, 1000000, 999999, 1500000),
+    (999999, 1000000, 500000, 1500000),
+)
+PLACES = (0, 1, 16, 50, 354, 355)
+THIN = [4, 0, 0, 1, 1, 2, 6000000, 6000000, 100, 0, 4000000, 4000000, 100, 0]
+THIN += [3, 8999991, 1, 60, 0, 1, 0, 0, 5, 2, 60, 5, 0, 0, 0, 1000004, 3, 60, 0, 0, 0, 0]
+
+
+def print_figures():
+    for months in MONTHS:
+        print("maturity of months %d: %d" % (months, maturity(months)))
+    for inputs in INPUTS:
+        print("raw weight at A %d D %d K %d p %d: %d" % (*inputs, raw_weight(*inputs)))
+    for n in PLACES:
+        print("decay entry %d: %d" % (n, int(2**32 * (-Decimal(n) / 16).exp())))
+
+
+def print_limits():
+    """14 before 13, files of zeros, and the largest deals: 1,000 rows of 10^10, 32 tranches of a 32nd of the pool."""
+    print("thin tranche, results of 17 words: refused 14 at 0")
+    print("thin tranche, results of 18 words: " + report(THIN))
+    for length in (0, 7, 33847, 33848, 33849, 33856):
+        text = "refused 15 at 0" if length % 8 or length > 33848 else report([0] * (length // 8))
+        print("file of zeros, bytes %d: %s" % (length, text))
+    for weight in (1250, 100):
+        sheet = [4, 0, 0, 1, 1, 1000] + [10**10, 10**10, weight, 0] * 1000 + [32]
+        for rank in range(1, 33):
+            sheet += [312500000000, rank, 1200, 312500000000, 0, 0, 0]
+        print("largest deal, risk weight %d\n%s" % (weight, report(sheet)))
+
+
+def print_examples(folder):
+    for name in open(os.path.join(folder, "args")).read().split():
+        text = open(os.path.join(folder, "data", name)).read()
+        words = [int(w) for l in text.splitlines() for w in l.split("#")[0].split()]
+        print("%s\n%s" % (name, report(words)))
+
+
+if __name__ == "__main__":
+    print_figures()
+    print_limits()
+    print_examples(os.path.join(os.path.dirname(os.path.abspath(__file__)), "..", "crates", "checked_examples"))
