@@ -1,5 +1,5 @@
 -- The text of a file, from what `deal::weigh` answers for its words, and that it fits TEXT_ROOM bytes. No axioms.
-use mathlib.Core.Bool.{Bool, true, false, cond}
+use mathlib.Core.Bool.{true, false}
 use mathlib.Core.List.{List, _++_}
 use mathlib.Core.Path.{_≡_, refl, sym, ap, _∙_}
 use Prim.Native.Nat.{ℕ, _+_, _*_, _/_, _≤_, _<_}
@@ -17,7 +17,7 @@ use Rattle.deal.specs.declared.Answer.the-variants.{Weighed, Refused}
 use Rattle.deal.specs.declared.Refusal.{Refusal}
 use Rattle.files.specs.FileForm.{goodLength, fileWords, wordsAfter}
 use Rattle.files.proofs.FileLaws.{length-words-to, load-accepts, load-takes}
-use Rattle.report.specs.ReportText.{refusalLine, dealText, textFor, resultRoom, sheetText, fileText, textRoom, writtenFor, textAfter}
+use Rattle.report.specs.ReportText.{refusalLine, dealText, resultRoom, sheetText, fileText, textRoom, writtenFor, textAfter}
 use Rattle.report.specs.declared.Written.the-variants.{Whole, NoRoom}
 use Rattle.report.proofs.TextLaws.{length-deal-text, length-refusal-line, deal-text-of-lines}
 
@@ -95,6 +95,9 @@ pub refused-file :
 refused-file file lent r {loaded} good is same =
     let words = ap (take (length file / 8)) is ∙ load-takes file lent good in
     refused-text (take (length file / 8) loaded) r same ∙ ap sheetText words ∙ sym (loaded-text file good)
+
+pub same-refusal : (number place n p : ℕ) → number ≡ n → place ≡ p → refusalLine number place ≡ refusalLine n p
+same-refusal number place n p e f = rw (e, f)
 
 -- what is written at the start of a buffer, under another name
 pub written-as :

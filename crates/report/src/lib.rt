@@ -1,8 +1,7 @@
 // The report on a file: the bytes of a deal sheet's file in, the text that a desk reads out.
 ghost use mathlib.Core.Path.{_≡_};
-ghost use mathlib.Core.List.{_++_};
 ghost use Prim.Native.Nat.{_≤_};
-ghost use lib.ListN.{length, drop};
+ghost use lib.ListN.{length};
 ghost use lib.Seq.{sets};
 ghost use Rattle.report.specs.ReportText.{fileText, writtenFor, textAfter, textRoom};
 

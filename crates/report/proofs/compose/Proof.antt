@@ -1,17 +1,13 @@
 -- `compose`: a bad length gets 15; else the file's words are weighed, and the text is that of the answer. No axioms.
-use mathlib.Core.Bool.{true, false}
-use mathlib.Core.List.{List}
-use mathlib.Core.Path.{_≡_, refl, sym, ap, _∙_}
+use mathlib.Core.Path.{refl, sym, ap, _∙_}
 use native.Mathlib.Nat.{zero-add}
 use native.Mathlib.Omega.{arith}
 use borrow.Author.Needs.{needs}
 use borrow.Author.Tests.{not-true, not-false}
-use lib.ListN.{length, length-replicate}
 use lib.Seq.{length-take-le}
 use Rattle.deal.specs.Results.{replyOf}
-use Rattle.files.proofs.FileLaws.{load-takes}
 use Rattle.report.specs.ReportText.{fileText, refusalLine, labelled, ascii}
-use Rattle.report.proofs.ReportLaws.{file-words-fit, weighed-lines, weighed-file, refused-file, bad-length-text, written-as}
+use Rattle.report.proofs.ReportLaws.{file-words-fit, weighed-lines, weighed-file, refused-file, bad-length-text, same-refusal, written-as}
 use Rattle.report.proofs.compose.Statement.{statement}
 use Rattle.report.proofs.compose.Tie as tie
 
@@ -37,8 +33,8 @@ returns c =
     let tested = call .before .before .before .before in
     let start = tested .before .before .before .before .before in
     let bad = sym (tested .before .load .ensures .0) ∙ not-true _ (tested .if1 .taken) in
-    written-as _ (refusalLine 15 0) (fileText (start .args .file .now)) (call .put-labelled .ensures .0 ∙ zero-add _) (call .put-labelled .ensures .1)
-    (sym (bad-length-text (start .args .file .now) bad))
+    written-as _ (refusalLine _ _) (fileText (start .args .file .now)) (call .put-labelled .ensures .0 ∙ zero-add _) (call .put-labelled .ensures .1)
+    (same-refusal _ _ 15 0 (omega arith) (omega arith) ∙ sym (bad-length-text (start .args .file .now) bad))
 
 array-share-prefix-sheet : tie.Need-array-share-prefix-sheet
 array-share-prefix-sheet c =

@@ -1,9 +1,7 @@
 -- `report`: the whole text is composed first, and copied where there is room. No axioms.
-use mathlib.Core.List.{List}
-use mathlib.Core.Path.{_≡_, refl, sym, ap, _∙_}
+use mathlib.Core.Path.{refl, sym}
 use native.Mathlib.Omega.{arith}
 use borrow.Author.Needs.{needs}
-use lib.ListN.{length}
 use lib.Seq.{length-take-le}
 use Rattle.report.specs.ReportText.{fileText}
 use Rattle.report.proofs.ReportLaws.{file-text-fits, composed-fits, text-refused, text-copied}
