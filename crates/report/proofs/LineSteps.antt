@@ -1,85 +1,70 @@
--- The line of a tranche, number after number: what stands in the buffer before each of the six words, that there is room for the next, and that the
--- line is whole after the sixth. No axioms.
-use mathlib.Core.List.{List, [], _∷_, _++_, append-assoc}
-use mathlib.Core.Path.{_≡_, ap, _∙_}
-use Prim.Native.Nat.{ℕ, zero, suc, _+_, _*_, _≤_}
+-- A line of numbers, one after another: what stands in the buffer before each, and that the line is whole after the last. No axioms.
+use mathlib.Core.List.{List, [], _∷_, _++_}
+use mathlib.Core.Path.{_≡_, refl, sym, ap, _∙_}
+use Prim.Native.Nat.{ℕ, suc, _+_, _*_, _-_, _≤_, _<_}
+use native.Mathlib.Numerals.{add-one}
 use native.Mathlib.Omega.{arith}
-use lib.ListN.{length, getD, take, drop, length-append, length-drop}
-use lib.Seq.{sets, length-sets, take-suc, getD-drop}
+use lib.ListN.{length, getD, take, drop, length-append}
+use lib.Seq.{sets, length-sets, drop-cons, drop-length, append-snoc}
 use Rattle.files.specs.Decimal.{decimal, space, newline}
-use Rattle.report.specs.ReportText.{spaced, trancheLine}
 use Rattle.files.proofs.DecimalLaws.{length-decimal}
-use Rattle.report.proofs.TextLaws.{put-behind}
+use Rattle.files.proofs.Pieces.{sets-sets}
+use Rattle.report.specs.ReportText.{spaced, trancheLine}
 
--- the number of tranche i and its first k words, each with the space after it
-unfoldable pub lineBefore : List ℕ → ℕ → ℕ → List ℕ
-lineBefore ws i zero = decimal (suc i) ++ space ∷ []
-lineBefore ws i (suc k) = lineBefore ws i k ++ (decimal (getD ws (6 * i + k) 0) ++ space ∷ [])
+-- The line of n and ws is to stand from `at` on. Of it `next` and the words from i on are still to be written, from `end` on, and there is room for them.
+pub record StillToPut (old : List ℕ) (at n : ℕ) (ws new : List ℕ) (end next i : ℕ) : Type 0 where
+  pub among : i ≤ length ws
+  pub size : length new ≡ length old
+  pub room : end + (21 + 21 * (length ws - i)) ≤ length new
+  pub ends : end + length (spaced next (drop i ws)) ≡ at + length (spaced n ws)
+  pub bytes : sets new end (spaced next (drop i ws)) ≡ sets old at (spaced n ws)
 
-length-line-before : (ws : List ℕ) (i k : ℕ) → length (lineBefore ws i k) ≤ 21 + 21 * k
-unfolding lineBefore
-length-line-before ws i zero = simp length-append (omega (arith, length-decimal (suc i)))
-length-line-before ws i (suc k) =
-    simp length-append (omega (arith, length-line-before ws i k, length-decimal (getD ws (6 * i + k) 0)))
+-- a number with the space after it, and the line of the words behind it
+first-piece :
+    (ws : List ℕ) (i next : ℕ) → i < length ws →
+    spaced next (drop i ws) ≡ (decimal next ++ space ∷ []) ++ spaced (getD ws i 0) (drop (i + 1) ws)
+unfolding spaced
+first-piece ws i next among = rw (add-one, drop-cons ws i 0 among) (sym (append-snoc (decimal next) space (spaced (getD ws i 0) (drop (suc i) ws))))
 
-six-words :
-    (ws : List ℕ) (p : ℕ) → p + 6 ≤ length ws →
-    take 6 (drop p ws) ≡
-    getD ws (p + 0) 0 ∷ getD ws (p + 1) 0 ∷ getD ws (p + 2) 0 ∷ getD ws (p + 3) 0 ∷ getD ws (p + 4) 0 ∷ getD ws (p + 5) 0 ∷ []
-six-words ws p h =
-    let rest = drop p ws in
-    let enough : 6 ≤ length rest = omega (arith, length-drop p ws) in
-    rw (
-      take-suc rest 5 0 (omega arith),
-      take-suc rest 4 0 (omega arith),
-      take-suc rest 3 0 (omega arith),
-      take-suc rest 2 0 (omega arith),
-      take-suc rest 1 0 (omega arith),
-      take-suc rest 0 0 (omega arith),
-    )
-    (simp getD-drop)
+module _ {old : List ℕ} {at n : ℕ} {ws : List ℕ} where
+  pub nothing-put : at + (21 + 21 * length ws) ≤ length old → StillToPut old at n ws old at n 0
+  nothing-put enough = record { among = omega arith; size = refl; room = omega arith; ends = refl; bytes = refl }
 
--- the line is whole when the last word and a newline stand behind the others
-line-whole :
-    (ws : List ℕ) (i : ℕ) → 6 * i + 6 ≤ length ws →
-    lineBefore ws i 5 ++ (decimal (getD ws (6 * i + 5) 0) ++ newline ∷ []) ≡ trancheLine ws i
-unfolding lineBefore spaced
-line-whole ws i h = rw (six-words ws (6 * i) h) (simp append-assoc)
-
--- the buffer and the end of what stands in it, before word k of tranche i
-pub record BeforeWord (old : List ℕ) (at : ℕ) (ws : List ℕ) (i k : ℕ) (new : List ℕ) (end : ℕ) : Type 0 where
-  pub put : (end ≡ at + length (lineBefore ws i k)) × (new ≡ sets old at (lineBefore ws i k))
-
-module _ {old : List ℕ} {at : ℕ} {ws : List ℕ} {i : ℕ} where
   pub number-put :
-      {new : List ℕ} {end : ℕ} (n b : ℕ) → n ≡ suc i → b ≡ space →
-      (end ≡ at + length (decimal n ++ b ∷ [])) × (new ≡ sets old at (decimal n ++ b ∷ [])) →
-      BeforeWord old at ws i 0 new end
-  unfolding lineBefore
-  number-put n b e f first = record { put = rw (e, f) at first }
-
-  pub word-put :
-      {k : ℕ} {middle new : List ℕ} {m end : ℕ} (p b : ℕ) → p ≡ 6 * i + k → b ≡ space → BeforeWord old at ws i k middle m →
-      (end ≡ m + length (decimal (getD ws p 0) ++ b ∷ [])) × (new ≡ sets middle m (decimal (getD ws p 0) ++ b ∷ [])) →
-      BeforeWord old at ws i (suc k) new end
-  unfolding lineBefore
-  word-put {k} p b e f before next =
-      record { put = put-behind old at (lineBefore ws i k) (decimal (getD ws (6 * i + k) 0) ++ space ∷ []) (before .put) (rw (e, f) at next) }
+      {middle new : List ℕ} {m end next : ℕ} (i b : ℕ) → b ≡ space → i < length ws → StillToPut old at n ws middle m next i →
+      (end ≡ m + length (decimal next ++ b ∷ [])) × (new ≡ sets middle m (decimal next ++ b ∷ [])) →
+      StillToPut old at n ws new end (getD ws i 0) (i + 1)
+  number-put {middle} {m = m} {next = next} i b e among before put =
+      let piece = decimal next ++ space ∷ [] in
+      let rest = spaced (getD ws i 0) (drop (i + 1) ws) in
+      let (ended, stands) = rw e at put in
+      let line = first-piece ws i next among in
+      let small = length-append (decimal next) (space ∷ []) in
+      let size = ap length stands ∙ length-sets middle m piece in
+      record {
+        among = omega arith;
+        size = size ∙ before .size;
+        room = omega (arith, before .room, length-decimal next);
+        ends = omega (arith, before .ends, ap length line, length-append piece rest);
+        bytes = rw (stands, ended) (sets-sets middle m piece rest ∙ rw line at (before .bytes));
+      }
 
   pub last-put :
-      {middle new : List ℕ} {m end : ℕ} (p b : ℕ) → p ≡ 6 * i + 5 → b ≡ newline → 6 * i + 6 ≤ length ws → BeforeWord old at ws i 5 middle m →
-      (end ≡ m + length (decimal (getD ws p 0) ++ b ∷ [])) × (new ≡ sets middle m (decimal (getD ws p 0) ++ b ∷ [])) →
-      (end ≡ at + length (trancheLine ws i)) × (new ≡ sets old at (trancheLine ws i))
-  last-put p b e f h before next =
-      rw (line-whole ws i h) at
-      (put-behind old at (lineBefore ws i 5) (decimal (getD ws (6 * i + 5) 0) ++ newline ∷ []) (before .put) (rw (e, f) at next))
+      {middle new : List ℕ} {m end next : ℕ} (i b : ℕ) → b ≡ newline → i ≡ length ws → StillToPut old at n ws middle m next i →
+      (end ≡ m + length (decimal next ++ b ∷ [])) × (new ≡ sets middle m (decimal next ++ b ∷ [])) →
+      (end ≡ at + length (spaced n ws)) × (new ≡ sets old at (spaced n ws))
+  unfolding spaced
+  last-put {next = next} i b e all before put =
+      let none = ap (λ (k : ℕ). drop k ws) all ∙ drop-length ws in
+      let (ended, stands) = rw e at put in
+      (ended ∙ rw none at (before .ends), stands ∙ rw none at (before .bytes))
 
-  pub room-for-next :
-      {k : ℕ} {new : List ℕ} {end : ℕ} → k ≤ 5 → at + 147 ≤ length old → BeforeWord old at ws i k new end → end + 21 ≤ length new
-  room-for-next {k} few room before =
-      omega (
-        arith,
-        before .put .0,
-        length-line-before ws i k,
-        ap length (before .put .1) ∙ length-sets old at (lineBefore ws i k),
-      )
+-- the line of a tranche is that of its number and the six words of the results that are its own
+pub tranche-line-put :
+    (ws old : List ℕ) (i at p e n : ℕ) {end : ℕ} {new : List ℕ} →
+    (end ≡ at + length (spaced n (take (e - p) (drop p ws)))) × (new ≡ sets old at (spaced n (take (e - p) (drop p ws)))) →
+    p ≡ 6 * i → e ≡ p + 6 → n ≡ suc i →
+    (end ≡ at + length (trancheLine ws i)) × (new ≡ sets old at (trancheLine ws i))
+tranche-line-put ws old i at p e n put first after number =
+    let six : e - p ≡ 6 = omega arith in
+    rw (six, first, number) at put

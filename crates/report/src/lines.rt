@@ -3,24 +3,36 @@ ghost use mathlib.Core.Path.{_≡_};
 ghost use Prim.Native.Nat.{ℕ, _+_, _*_, _≤_, _<_};
 ghost use lib.ListN.{length, getD};
 ghost use lib.Seq.{sets};
-ghost use Rattle.report.specs.ReportText.{trancheLine, trancheLines, columnSum, dealText, textRoom};
+ghost use Rattle.report.specs.ReportText.{spaced, trancheLine, trancheLines, columnSum, dealText, textRoom};
 use crate::text::put_labelled;
 use crate::text::put_number;
 
-// Writes the line of tranche i: its number, then its six words.
+// Writes a line of numbers: n, and then the words, with single spaces between them. `next` is the number whose turn it is.
+fn put_spaced(n: u64, words: &[u64], at: usize, out: &mut [u8]) -> usize
+    requires { ⌜ at + (21 + 21 * length (now words)) ≤ length (now out) ⌝ }
+    ensures { λ r. ⌜ r ≡ at + length (spaced n (now (words .entry))) ⌝ }
+    ensures { λ r. ⌜ now (out .exit) ≡ sets (now (out .entry)) at (spaced n (now (words .entry))) ⌝ }
+{
+    let mut end = at;
+    let mut next = n;
+    let mut i = 0;
+    while i < words.len() {
+        end = put_number(next, b' ', end, &mut *out);
+        next = words[i];
+        i += 1;
+    }
+    put_number(next, b'\n', end, out)
+}
+
+// Writes the line of tranche i: its number, from 1, then its six words.
 fn put_line(i: u64, results: &[u64], at: usize, out: &mut [u8]) -> usize
     requires { ⌜ (i < 32) × (6 * i + 6 ≤ length (now results)) × (at + 147 ≤ length (now out)) ⌝ }
     ensures { λ r. ⌜ r ≡ at + length (trancheLine (now (results .entry)) i) ⌝ }
     ensures { λ r. ⌜ now (out .exit) ≡ sets (now (out .entry)) at (trancheLine (now (results .entry)) i) ⌝ }
 {
-    let word = (6 * i) as usize;
-    let first = put_number(i + 1, b' ', at, &mut *out);
-    let second = put_number(results[word], b' ', first, &mut *out);
-    let third = put_number(results[word + 1], b' ', second, &mut *out);
-    let fourth = put_number(results[word + 2], b' ', third, &mut *out);
-    let fifth = put_number(results[word + 3], b' ', fourth, &mut *out);
-    let sixth = put_number(results[word + 4], b' ', fifth, &mut *out);
-    put_number(results[word + 5], b'\n', sixth, out)
+    let first = (6 * i) as usize;
+    let after = first + 6;
+    put_spaced(i + 1, &results[first..after], at, out)
 }
 
 // Writes the lines of the first n tranches.
