@@ -61,7 +61,7 @@ textFor s a = cond (eqb (a .number) 0) (dealText (a .charge) (a .count) (lines s
 
 -- the words of the lines of 32 tranches: with that much room for its results no sheet is refused with 14
 abbrev pub resultRoom : ℕ
-resultRoom = 192
+resultRoom = 6 * 32
 
 unfoldable pub sheetText : List ℕ → List ℕ
 sheetText s = textFor s (replyTo s resultRoom)
