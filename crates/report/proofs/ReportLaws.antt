@@ -2,7 +2,7 @@
 use mathlib.Core.Bool.{true, false}
 use mathlib.Core.List.{List, _++_}
 use mathlib.Core.Path.{_≡_, refl, sym, ap, _∙_}
-use Prim.Native.Nat.{ℕ, _+_, _*_, _/_, _≤_, _<_}
+use Prim.Native.Nat.{ℕ, _+_, _*_, _/_, _^_, _≤_, _<_}
 use native.Mathlib.Nat.{zero-add}
 use native.Mathlib.Omega.{arith}
 use lib.Dec.{eqb}
@@ -15,8 +15,8 @@ use Rattle.deal.proofs.ReplyLaws.{reply-count-within, refused-number, reply-res
 use Rattle.deal.specs.Results.{Reply, replyOf, replyTo, lines, resultsAfter}
 use Rattle.deal.specs.declared.Answer.the-variants.{Weighed, Refused}
 use Rattle.deal.specs.declared.Refusal.{Refusal}
-use Rattle.files.specs.FileForm.{goodLength, fileWords, wordsAfter}
-use Rattle.files.proofs.FileLaws.{length-words-to, load-accepts, load-takes}
+use Rattle.files.specs.FileForm.{byteLimit, goodLength, fileWords, wordsAfter, fileBytes}
+use Rattle.files.proofs.FileLaws.{length-words-to, length-file-bytes, good-file, load-accepts, load-takes, words-of-bytes}
 use Rattle.report.specs.ReportText.{refusalLine, dealText, resultRoom, sheetText, fileText, textRoom, writtenFor, textAfter}
 use Rattle.report.specs.declared.Written.the-variants.{Whole, NoRoom}
 use Rattle.report.proofs.TextLaws.{length-deal-text, length-refusal-line, deal-text-of-lines}
@@ -79,6 +79,15 @@ loaded-text file good = rw good
 pub bad-length-text : (file : List ℕ) → goodLength file ≡ false → fileText file ≡ refusalLine 15 0
 unfolding fileText
 bad-length-text file bad = rw bad
+
+-- the file of words that a sheet may have, each of 64 bits, gets the text of these words; so does a sheet written by hand, by `made-words` and
+-- `made-small` (SheetTextLaws.antt of `sheet_text`)
+pub stored-text :
+    (ws : List ℕ) → 8 * length ws ≤ byteLimit → ((i : ℕ) → i < length ws → getD ws i 0 < 2 ^ 64) → fileText (fileBytes ws) ≡ sheetText ws
+stored-text ws few small =
+    let size = length-file-bytes ws in
+    let good = good-file (fileBytes ws) (omega (arith, size)) (omega (arith, size)) in
+    loaded-text (fileBytes ws) good ∙ ap sheetText (words-of-bytes ws small)
 
 -- from the words that were loaded, the answer for them and the results
 pub weighed-file :
