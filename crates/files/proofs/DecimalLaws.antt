@@ -1,17 +1,16 @@
 -- Laws of a number in decimal: its digits one after another, how many there are, that each is a digit and the first is no 0, and that they read
 -- back as the number. No axioms.
-use mathlib.Core.Bool.{cond}
+use mathlib.Core.Bool.{true, cond, _&&_, and-true, and-assoc}
 use mathlib.Core.List.{List, [], _∷_, _++_}
 use mathlib.Core.Logic.{⊎-elim}
-use mathlib.Core.Path.{_≡_, refl, _∙_}
+use mathlib.Core.Path.{_≡_, refl, sym, _∙_}
 use Prim.Native.Nat.{ℕ, zero, suc, _+_, _*_, _-_, _/_, _%_, _^_, _≤_, _<_}
 use native.Mathlib.Nat.{eq-zero-or-pos, mod-eq-of-lt, pow-suc}
 use native.Mathlib.Omega.{arith}
-use borrow.Author.Tests.{lt-ltb, le-ltb}
+use borrow.Author.Tests.{lt-ltb, le-ltb, le-leb}
 use lib.Dec.{ltb}
-use lib.ListN.{length, getD, length-append, List·getD-append}
-use lib.Seq.{getD-append-seam}
-use Rattle.files.specs.Decimal.{digits, decimal, valueFrom}
+use lib.ListN.{length, getD, length-append}
+use Rattle.files.specs.Decimal.{digit, allDigits, digits, decimal, valueFrom}
 
 -- ---- one digit after another
 
@@ -67,10 +66,6 @@ pub decimal-last : (n : ℕ) → n < 10 ^ 20 → decimal n ≡ leading n ++ (48 
 unfolding decimal leading
 decimal-last n h = digits-last 19 n ∙ rw (digits-enough 18 (n / 10) (tenth-below 19 n h))
 
-pub decimal-one : (n : ℕ) → n < 10 → decimal n ≡ (48 + n) ∷ []
-unfolding decimal
-decimal-one n l = digits-one 19 n l
-
 pub decimal-more : (n : ℕ) → 10 ≤ n → n < 10 ^ 20 → decimal n ≡ decimal (n / 10) ++ (48 + n % 10) ∷ []
 decimal-more n l h = decimal-last n h ∙ rw (leading-some n l)
 
@@ -84,52 +79,29 @@ length-digits (suc k) n =
     (λ l. omega arith)
     (λ l. omega (arith, length-append (digits k (n / 10)) ((48 + n % 10) ∷ []), length-digits k (n / 10)))
 
-digits-some : (k n : ℕ) → 1 ≤ length (digits (suc k) n)
-digits-some k n =
-    by-digits (λ ds. 1 ≤ length ds) k n
-    (λ l. omega arith)
-    (λ l. omega (arith, length-append (digits k (n / 10)) ((48 + n % 10) ∷ [])))
-
 pub length-decimal : (n : ℕ) → length (decimal n) ≤ 20
 unfolding decimal
 length-decimal n = length-digits 20 n
 
-pub decimal-some : (n : ℕ) → 1 ≤ length (decimal n)
-unfolding decimal
-decimal-some n = digits-some 19 n
-
 -- ---- which bytes
 
--- each of some bytes is the code of a digit
-pub record AllDigits (ds : List ℕ) : Type 0 where
-  pub each : (i : ℕ) → i < length ds → (48 ≤ getD ds i 0) × (getD ds i 0 ≤ 57)
+pub all-digits-longer : (cs : List ℕ) (b : ℕ) → allDigits (cs ++ b ∷ []) ≡ allDigits cs && digit b
+unfolding allDigits
+all-digits-longer [] b = and-true (digit b)
+all-digits-longer (c ∷ cs) b = rw (all-digits-longer cs b) (sym (and-assoc (digit c) (allDigits cs) (digit b)))
 
-digits-one-more : (ds : List ℕ) (d : ℕ) → AllDigits ds → (48 ≤ d) × (d ≤ 57) → AllDigits (ds ++ d ∷ [])
-digits-one-more ds d h r =
-    record {
-      each = λ i l.
-          ⊎-elim
-          (λ e.
-          let last : i ≡ length ds = omega (arith, length-append ds (d ∷ [])) in
-          rw (last, getD-append-seam ds d [] 0) r)
-          (λ pos.
-          let before : i < length ds = omega arith in
-          rw (List·getD-append ds (d ∷ []) 0 i before) (h .each i before))
-          (eq-zero-or-pos (length ds - i));
-    }
+is-digit : (b : ℕ) → 48 ≤ b → b ≤ 57 → digit b ≡ true
+is-digit b least most = rw (le-leb 48 b least, le-leb b 57 most)
 
-no-digits : AllDigits []
-no-digits = record { each = λ i l. omega arith }
-
-digits-digits : (k n : ℕ) → AllDigits (digits k n)
-unfolding digits
-digits-digits zero n = no-digits
+digits-digits : (k n : ℕ) → allDigits (digits k n) ≡ true
+unfolding digits allDigits
+digits-digits zero n = refl
 digits-digits (suc k) n =
-    by-digits AllDigits k n
-    (λ l. digits-one-more [] (48 + n) no-digits (omega arith))
-    (λ l. digits-one-more (digits k (n / 10)) (48 + n % 10) (digits-digits k (n / 10)) (omega arith))
+    by-digits (λ ds. allDigits ds ≡ true) k n
+    (λ l. rw (is-digit (48 + n) (omega arith) (omega arith)))
+    (λ l. rw (all-digits-longer (digits k (n / 10)) (48 + n % 10), digits-digits k (n / 10), is-digit (48 + n % 10) (omega arith) (omega arith)))
 
-pub decimal-digits : (n : ℕ) → AllDigits (decimal n)
+pub decimal-digits : (n : ℕ) → allDigits (decimal n) ≡ true
 unfolding decimal
 decimal-digits n = digits-digits 20 n
 
@@ -152,10 +124,10 @@ decimal-first n pos l = digits-first 20 n pos l
 
 -- ---- the number that they say
 
-value-append : (v : ℕ) (ds es : List ℕ) → valueFrom v (ds ++ es) ≡ valueFrom (valueFrom v ds) es
+pub value-longer : (v : ℕ) (cs : List ℕ) (b : ℕ) → valueFrom v (cs ++ b ∷ []) ≡ 10 * valueFrom v cs + (b - 48)
 unfolding valueFrom
-value-append v [] es = refl
-value-append v (d ∷ ds) es = value-append (10 * v + (d - 48)) ds es
+value-longer v [] b = refl
+value-longer v (c ∷ cs) b = value-longer (10 * v + (c - 48)) cs b
 
 digits-value : (k n : ℕ) → n < 10 ^ k → valueFrom 0 (digits k n) ≡ n
 unfolding digits valueFrom
@@ -163,7 +135,7 @@ digits-value zero n l = omega arith
 digits-value (suc k) n l =
     by-digits (λ ds. valueFrom 0 ds ≡ n) k n
     (λ one. omega arith)
-    (λ more. rw (value-append 0 (digits k (n / 10)) ((48 + n % 10) ∷ []), digits-value k (n / 10) (tenth-below k n l)) (omega arith))
+    (λ more. rw (value-longer 0 (digits k (n / 10)) (48 + n % 10), digits-value k (n / 10) (tenth-below k n l)) (omega arith))
 
 pub decimal-value : (n : ℕ) → n < 10 ^ 20 → valueFrom 0 (decimal n) ≡ n
 unfolding decimal

@@ -1,8 +1,8 @@
 -- Words in decimal, as the report prints them and as a desk writes them. A text is the list of its bytes, which are codes of ASCII.
-use mathlib.Core.Bool.{cond}
+use mathlib.Core.Bool.{Bool, true, cond, _&&_}
 use mathlib.Core.List.{List, [], _∷_, _++_}
 use Prim.Native.Nat.{ℕ, zero, suc, _+_, _*_, _-_, _/_, _%_}
-use lib.Dec.{ltb}
+use lib.Dec.{leb, ltb}
 
 abbrev pub newline : ℕ
 newline = 10
@@ -10,7 +10,15 @@ newline = 10
 abbrev pub space : ℕ
 space = 32
 
--- the digits of n, the highest first and no 0 before the first, where n has at most k digits; 48 is the code of the digit 0
+-- the digits 0 to 9 have the codes 48 to 57
+abbrev pub digit : ℕ → Bool
+digit b = leb 48 b && leb b 57
+
+unfoldable pub allDigits : List ℕ → Bool
+allDigits [] = true
+allDigits (b ∷ bs) = digit b && allDigits bs
+
+-- the digits of n, the highest first and no 0 before the first, where n has at most k digits
 unfoldable pub digits : ℕ → ℕ → List ℕ
 digits zero n = []
 digits (suc k) n = cond (ltb n 10) [] (digits k (n / 10)) ++ (48 + n % 10) ∷ []

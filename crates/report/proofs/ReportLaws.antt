@@ -105,6 +105,7 @@ refused-file file lent r {loaded} good is same =
     let words = ap (take (length file / 8)) is ∙ load-takes file lent good in
     refused-text (take (length file / 8) loaded) r same ∙ ap sheetText words ∙ sym (loaded-text file good)
 
+-- the refusal with a number and place that are these
 pub same-refusal : (number place n p : ℕ) → number ≡ n → place ≡ p → refusalLine number place ≡ refusalLine n p
 same-refusal number place n p e f = rw (e, f)
 

@@ -6,8 +6,10 @@ use Prim.Native.Nat.{ℕ, suc, _+_, _*_, _-_, _^_, _≤_}
 use native.Mathlib.Omega.{arith}
 use borrow.Author.Tests.{leb-true, le-leb}
 use lib.Dec.{leb}
-use Rattle.files.specs.Decimal.{valueFrom}
-use Rattle.sheet_text.specs.SheetText.{digit, Token, allDigits, value, tooLarge, spanOf, madeFrom}
+use Rattle.files.specs.Decimal.{digit, allDigits, valueFrom}
+use Rattle.files.proofs.DecimalLaws.{all-digits-longer, value-longer}
+use Rattle.numbers.proofs.Tests.{both-true}
+use Rattle.sheet_text.specs.SheetText.{Token, value, tooLarge, spanOf, madeFrom}
 use Rattle.sheet_text.specs.Scanning.{fitted, numeralOf, oneMore, withCharacter}
 use Rattle.sheet_text.specs.declared.Made.{Made}
 use Rattle.sheet_text.specs.declared.Made.the-variants.{NotDecimal, TooLarge}
@@ -21,31 +23,8 @@ pub digit-bounds : (b : ℕ) → digit b ≡ true → (48 ≤ b) × (b ≤ 57)
 digit-bounds b e =
     let both = both-true (leb 48 b) (leb b 57) e in
     (leb-true 48 b (both .0), leb-true b 57 (both .1))
-  where
-    both-true : (p q : Bool) → p && q ≡ true → (p ≡ true) × (q ≡ true)
-    both-true true q h = (refl, h)
-    both-true false true h = (h, refl)
-    both-true false false h = (h, h)
 
 -- ---- one character more
-
-all-digits-longer : (cs : List ℕ) (b : ℕ) → allDigits (cs ++ b ∷ []) ≡ allDigits cs && digit b
-unfolding allDigits
-all-digits-longer [] b = and-true (digit b)
-  where
-    and-true : (t : Bool) → t && true ≡ t
-    and-true true = refl
-    and-true false = refl
-all-digits-longer (c ∷ cs) b = rw (all-digits-longer cs b) (regroup (digit c) (allDigits cs) (digit b))
-  where
-    regroup : (p q r : Bool) → p && (q && r) ≡ p && q && r
-    regroup true q r = refl
-    regroup false q r = refl
-
-value-longer : (v : ℕ) (cs : List ℕ) (b : ℕ) → valueFrom v (cs ++ b ∷ []) ≡ 10 * valueFrom v cs + (b - 48)
-unfolding valueFrom
-value-longer v [] b = refl
-value-longer v (c ∷ cs) b = value-longer (10 * v + (c - 48)) cs b
 
 -- a number over 64 bits stays over
 fitted-longer : (v b : ℕ) → fitted (10 * v + (b - 48)) ≡ oneMore (fitted v) b

@@ -9,8 +9,8 @@ use native.Mathlib.Omega.{arith}
 use lib.Dec.{eqb}
 use lib.ListN.{length, getD, drop, length-append, drop-of-length-le}
 use lib.Seq.{drop-cons}
-use Rattle.files.specs.Decimal.{newline, space, valueFrom}
-use Rattle.sheet_text.specs.SheetText.{hash, white, uncommented, Token, ended, tokensFrom, tokens, allDigits}
+use Rattle.files.specs.Decimal.{allDigits, newline, space, valueFrom}
+use Rattle.sheet_text.specs.SheetText.{hash, white, uncommented, Token, ended, tokensFrom, tokens}
 use Rattle.sheet_text.specs.Scanning.{seen, commentAfter, numeralOf, withCharacter, pastWhite, pastCharacter, Counted, Sums, Onward}
 use Rattle.sheet_text.specs.declared.tokens.Numeral.the-variants.{Number}
 use Rattle.sheet_text.specs.declared.tokens.Scan.{Scan}

@@ -9,7 +9,8 @@ use borrow.Author.Tests.{leb-true, leb-false}
 use lib.Dec.{leb}
 use lib.ListN.{length, getD}
 use Rattle.files.specs.FileForm.{byteLimit}
-use Rattle.sheet_text.specs.SheetText.{Token, tokens, allDigits, value, tooLarge, words, spanOf, madeFrom, madeOf}
+use Rattle.files.specs.Decimal.{allDigits}
+use Rattle.sheet_text.specs.SheetText.{Token, tokens, value, tooLarge, words, spanOf, madeFrom, madeOf}
 use Rattle.sheet_text.specs.declared.Made.the-variants.{Bytes, NotDecimal, TooLarge, TooMany}
 
 -- with no token left, the words read before decide

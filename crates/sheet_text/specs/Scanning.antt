@@ -6,8 +6,8 @@ use mathlib.Core.Path.{_≡_}
 use Prim.Native.Nat.{ℕ, suc, _+_, _*_, _-_, _^_, _≤_}
 use lib.Dec.{leb, eqb}
 use lib.ListN.{length, take}
-use Rattle.files.specs.Decimal.{newline, space, valueFrom}
-use Rattle.sheet_text.specs.SheetText.{hash, digit, Token, allDigits, words, madeFrom, bytesFor}
+use Rattle.files.specs.Decimal.{digit, allDigits, newline, space, valueFrom}
+use Rattle.sheet_text.specs.SheetText.{hash, Token, words, madeFrom, bytesFor}
 use Rattle.sheet_text.specs.declared.Made.{Made}
 use Rattle.sheet_text.specs.declared.Span.{Span}
 use Rattle.sheet_text.specs.declared.tokens.Numeral.{Numeral}

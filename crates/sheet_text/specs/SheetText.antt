@@ -5,7 +5,7 @@ use mathlib.Core.List.{List, [], _∷_, _++_}
 use Prim.Native.Nat.{ℕ, suc, _+_, _*_, _-_, _^_, min}
 use lib.Dec.{leb, eqb}
 use lib.ListN.{length, drop}
-use Rattle.files.specs.Decimal.{newline, space, valueFrom}
+use Rattle.files.specs.Decimal.{newline, space, allDigits, valueFrom}
 use Rattle.files.specs.FileForm.{byteLimit, fileBytes}
 use Rattle.sheet_text.specs.declared.Made.{Made}
 use Rattle.sheet_text.specs.declared.Made.the-variants.{Bytes, NotDecimal, TooLarge, TooMany}
@@ -20,10 +20,6 @@ hash = 35
 -- white space: a space, or one of tab, newline, vertical tab, form feed and carriage return, which have the codes 9 to 13
 abbrev pub white : ℕ → Bool
 white b = eqb b space || (leb 9 b && leb b 13)
-
--- the digits 0 to 9 have the codes 48 to 57
-abbrev pub digit : ℕ → Bool
-digit b = leb 48 b && leb b 57
 
 -- ---- comments: from `#` to the line's end, each character of a comment read as a space; `inside` says whether a comment has begun
 
@@ -60,10 +56,6 @@ unfoldable pub tokens : List ℕ → List Token
 tokens text = tokensFrom 1 0 [] (uncommented false text)
 
 -- ---- the word of a token
-
-unfoldable pub allDigits : List ℕ → Bool
-allDigits [] = true
-allDigits (b ∷ bs) = digit b && allDigits bs
 
 abbrev pub value : Token → ℕ
 value t = valueFrom 0 (t .characters)

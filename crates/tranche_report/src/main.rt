@@ -22,27 +22,25 @@ fn print_named(file: &mut [u8]) {
     }
 }
 
-// Writes the report on a file to standard output. No report is empty.
+// Writes the report on a file to standard output; the buffer has room for every report.
 fn print_report(file: &[u8]) {
     let mut text = [0u8; report::TEXT_ROOM];
     let written = report::report(file, &mut text);
-    let length = input::within(whole_length(written), &text);
-    if length == 0 {
-        io::write_all(STDERR_FILENO, b"tranche_report: no room for the report\n");
-        return;
+    match written {
+        Written::Whole(n) => print_start(n, &text),
+        Written::NoRoom(_) => {
+            io::write_all(STDERR_FILENO, b"tranche_report: no room for the report\n");
+        }
     }
+}
+
+// Writes the first n bytes of a buffer to standard output.
+fn print_start(n: u64, text: &[u8]) {
+    let length = input::within(n, text);
     if !io::write_all(STDOUT_FILENO, &text[..length]) {
         io::write_all(
             STDERR_FILENO,
             b"tranche_report: standard output can't be written\n",
         );
-    }
-}
-
-// The length of a report that was written whole; 0 where there was no room for it.
-fn whole_length(written: Written) -> u64 {
-    match written {
-        Written::Whole(n) => n,
-        Written::NoRoom(_) => 0,
     }
 }
