@@ -3,16 +3,16 @@ use mathlib.Core.List.{List}
 use mathlib.Core.Path.{_≡_, _∙_, sym, ap}
 use Prim.Native.Nat.{ℕ}
 use native.Mathlib.Omega.{arith}
-use Rattle.deal.specs.DealSheet.{trancheCount}
+use Rattle.judgement.specs.DealSheet.{trancheCount}
 use Rattle.deal.specs.Lines.{terms}
 use Rattle.deal.specs.Refusals.{verdict}
 use Rattle.deal.specs.Results.{Reply, replyOf, replyTo}
 use Rattle.deal.specs.declared.Answer.{Answer}
 use Rattle.deal.specs.declared.Answer.the-variants.{Weighed, Refused}
-use Rattle.deal.specs.declared.Refusal.{Refusal}
-use Rattle.deal.specs.declared.Verdict.the-variants.{Sound, Faulty}
+use Rattle.judgement.specs.declared.Refusal.{Refusal}
+use Rattle.judgement.specs.declared.Verdict.the-variants.{Sound, Faulty}
 use Rattle.deal.proofs.JudgedLaws.{accepted-judged, refusal-numbers}
-use Rattle.deal.proofs.SheetLimits.{tranches-counted, tranches-within}
+use Rattle.judgement.proofs.SheetLimits.{tranches-counted, tranches-within}
 
 -- the numbers of an accepted sheet's reply and of a refused one's
 reply-accepted :

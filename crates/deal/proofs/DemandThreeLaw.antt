@@ -13,14 +13,15 @@ use Rattle.formula.specs.FixedPoint.{rawWeight}
 use Rattle.formula.specs.declared.RawWeight.{RawWeight}
 use Rattle.formula.specs.declared.RawWeight.the-variants.{Weight}
 use Rattle.formula.proofs.RawWeightLaw.{raw-weight-is}
-use Rattle.deal.specs.DealSheet.{resecuritisation, trancheCount, needed}
+use Rattle.judgement.specs.DealSheet.{resecuritisation, trancheCount, needed}
 use Rattle.deal.specs.PointsAndCharge.{attachmentPoint, detachmentPoint}
 use Rattle.weights.specs.ApproachFloorCap.{approach, parameter, afterFloorAndCap, numberOf, formulaRawWeight, weight}
 use Rattle.deal.specs.Lines.{terms, tranche, line, lineWords}
 use Rattle.deal.specs.DemandThree.{AboveCharge, rawWeightOf, DemandThree, KeepsDemandThree}
-use Rattle.deal.specs.Refusals.{judged, verdict}
+use Rattle.judgement.specs.Refusals.{judged}
+use Rattle.deal.specs.Refusals.{verdict}
 use Rattle.deal.specs.Results.{resultsAfter}
-use Rattle.deal.specs.declared.Verdict.the-variants.{Sound}
+use Rattle.judgement.specs.declared.Verdict.the-variants.{Sound}
 use Rattle.deal.proofs.PointLaws.{attachment-at-most-detachment, detachment-at-most-million}
 use Rattle.deal.proofs.PoolLaws.{charge-at-most-million}
 use Rattle.deal.proofs.JudgedLaws.{accepted-means, accepted-judged}

@@ -5,15 +5,16 @@ use Prim.Native.Nat.{ℕ, _+_, _*_, _≤_, _<_}
 use native.Mathlib.Nat.{le-refl}
 use native.Mathlib.Omega.{arith}
 use lib.ListN.{length, getD}
-use Rattle.deal.specs.DealSheet.{word, rowAt, tranchesAt, trancheCount, trancheAt, needed}
+use Rattle.judgement.specs.DealSheet.{word, rowAt, tranchesAt, trancheCount, trancheAt, needed}
 use Rattle.deal.specs.PointsAndCharge.{poolSums}
 use Rattle.deal.specs.Lines.{terms, tranche, lineWords}
-use Rattle.deal.specs.Refusals.{judged, verdict}
+use Rattle.judgement.specs.Refusals.{judged}
+use Rattle.deal.specs.Refusals.{verdict}
 use Rattle.deal.specs.Results.{resultsAfter}
 use Rattle.deal.specs.OtherRatings.{SameButOtherRatings}
-use Rattle.deal.specs.declared.Verdict.the-variants.{Sound}
-use Rattle.deal.proofs.Judgement.{tranches-at-past-rows}
-use Rattle.deal.proofs.SheetLimits.{accepted-to, pool-at-five}
+use Rattle.judgement.specs.declared.Verdict.the-variants.{Sound}
+use Rattle.judgement.proofs.Judgement.{tranches-at-past-rows}
+use Rattle.judgement.proofs.SheetLimits.{accepted-to, pool-at-five}
 use Rattle.deal.proofs.JudgedLaws.{accepted-judged}
 use Rattle.deal.proofs.LineLaws.{results-line}
 use Rattle.deal.proofs.SameTerms.{SameCounts, same-counts, same-sums, same-terms, same-tranche}

@@ -1,193 +1,25 @@
--- The judgement by steps (Refusals) and in plain relations (Judged) say the same: of each refusal, of acceptance, and that no refusal is numbered 0.
--- No axioms.
-use mathlib.Core.Bool.{Bool, true, false, cond}
+-- Refusals by steps and in plain relations say the same, for the whole verdict on a sheet; and the numbers that a refusal may have. What the words decide is
+-- in JudgedLaws.antt of `judgement`. No axioms.
+use mathlib.Core.Bool.{false}
 use mathlib.Core.List.{List}
-use mathlib.Core.Logic.{_⊎_, inl, inr, ⊎-elim}
-use mathlib.Core.Path.{_≡_, refl, sym, ap, _∙_}
-use Prim.Native.Nat.{ℕ, _*_, _-_, _≤_, _<_}
-use native.Mathlib.Nat.{eq-or-lt-of-le, eq-zero-or-pos, lt-irrefl}
+use mathlib.Core.Logic.{⊎-elim}
+use mathlib.Core.Path.{_≡_}
+use Prim.Native.Nat.{ℕ, _*_, _≤_}
+use native.Mathlib.Nat.{eq-zero-or-pos}
 use native.Mathlib.Omega.{arith}
-use lib.Dec.{leb, ltb, eqb}
-use lib.ListN.{length}
-use borrow.Author.Tests.{ltb-true, ltb-false, eqb-false, lt-ltb, le-ltb, eq-eqb, ne-eqb}
-use Rattle.numbers.proofs.Tests.{at-cond}
-use Rattle.ratings.specs.RatingTable.{listed}
-use Rattle.deal.specs.DealSheet.{word, resecuritisation, poolAt, tranchesAt, trancheCount, trancheAt, amount, class, needed}
+use lib.Dec.{ltb}
+use borrow.Author.Tests.{ltb-true, ltb-false, lt-ltb, le-ltb}
+use Rattle.judgement.specs.DealSheet.{trancheCount, trancheAt, needed}
 use Rattle.weights.specs.ApproachFloorCap.{thin}
 use Rattle.deal.specs.Lines.{terms, tranche}
-use Rattle.deal.specs.Refusals.{unless, within, factFault, statusAllowed, rowFault, classInOrder, heldInLimits, trancheFault, rowOf, columnOf, fault, refused, judgeWith, judge, orElse, firstOf, judged, wordsFollow, roomVerdict, thinVerdict, wordsVerdict, verdict}
-use Rattle.deal.specs.Judged.{GoodWord, GoodBelow, BadHere, bad, missing, FirstBad, WordsGood, WordsRefusal, first-bad, words-follow, TrancheThin, Why, by-words, by-room, by-thinness, Accepted}
-use Rattle.deal.specs.declared.Refusal.{Refusal}
-use Rattle.deal.specs.declared.Verdict.the-variants.{Sound, Faulty}
-use Rattle.deal.proofs.FirstFault.{or-else-sound, or-else-faulty, FirstFault, first-of-sound, first-of-all, first-of-faulty, faulty-first-of}
-use Rattle.deal.proofs.Judgement.{judge-with-sound}
-
--- ---- verdicts
-
-sound-not-faulty : (r : Refusal) → Sound ≡ Faulty r → ⊥
-sound-not-faulty r e = let z : _≡_ {A = ℕ} 0 1 = cc in omega arith
-
--- a refusal is the one that its verdict states
-stated : (number place : ℕ) (r : Refusal) → refused number place ≡ Faulty r → (r .number ≡ number) × (r .place ≡ place)
-stated number place r e =
-    let same : record { number = number; place = place } ≡ r = cc in
-    (ap (λ (q : Refusal). q .number) (sym same), ap (λ (q : Refusal). q .place) (sym same))
-
-states : (number place : ℕ) (r : Refusal) → r .number ≡ number → r .place ≡ place → refused number place ≡ Faulty r
-states number place r n p = rw (← n, ← p)
-
--- a fault that stands in the second place of a test, and in the first
-
-faulty-unless :
-    (b : Bool) (number place : ℕ) (r : Refusal) → cond b Sound (refused number place) ≡ Faulty r →
-    (b ≡ false) × ((r .number ≡ number) × (r .place ≡ place))
-faulty-unless true number place r e = absurd (sound-not-faulty r e)
-faulty-unless false number place r e = (refl, stated number place r e)
-
-faulty-when :
-    (b : Bool) (number place : ℕ) (r : Refusal) → cond b (refused number place) Sound ≡ Faulty r →
-    (b ≡ true) × ((r .number ≡ number) × (r .place ≡ place))
-faulty-when true number place r e = (refl, stated number place r e)
-faulty-when false number place r e = absurd (sound-not-faulty r e)
-
-sound-when : (b : Bool) (r : Refusal) → cond b (Faulty r) Sound ≡ Sound → b ≡ false
-sound-when true r e = absurd (sound-not-faulty r (sym e))
-sound-when false r e = refl
-
--- ---- one word
-
-good-of-judge : (s : List ℕ) (p : ℕ) → judge s p ≡ Sound → GoodWord s p
-unfolding judge
-good-of-judge s p e =
-    let good = judge-with-sound (length s) p (fault s p) e in
-    record { there = good .0; no-fault = good .1 }
-
-judge-of-good : (s : List ℕ) (p : ℕ) → GoodWord s p → judge s p ≡ Sound
-unfolding judge
-judge-of-good s p g = simp (lt-ltb p (length s) (g .there), eq-eqb (fault s p) 0 (g .no-fault))
-
--- a word's fault is its own, or that it is missing
-record Own (size p number : ℕ) (r : Refusal) : Type 0 where
-  there : p < size
-  not-zero : number ≡ 0 → ⊥
-  number-is : r .number ≡ number
-  place-is : r .place ≡ p
-
-record Missing (size p : ℕ) (r : Refusal) : Type 0 where
-  past : size ≤ p
-  number-is : r .number ≡ 1
-  place-is : r .place ≡ size
-
-judge-with-faulty :
-    (size p number : ℕ) (r : Refusal) → judgeWith size p number ≡ Faulty r → Own size p number r ⊎ Missing size p r
-judge-with-faulty size p number r = by-test (ltb p size) refl
-  where
-    by-test :
-        (b : Bool) → ltb p size ≡ b → cond b (cond (eqb number 0) Sound (refused number p)) (refused 1 size) ≡ Faulty r →
-        Own size p number r ⊎ Missing size p r
-    by-test true t e =
-        let own = faulty-unless (eqb number 0) number p r e in
-        inl (record {
-          there = ltb-true p size t;
-          not-zero = eqb-false number 0 (own .0);
-          number-is = own .1 .0;
-          place-is = own .1 .1;
-        })
-    by-test false t e =
-        let gone = stated 1 size r e in
-        inr (record { past = ltb-false p size t; number-is = gone .0; place-is = gone .1 })
-
--- ---- the words
-
-first-bad-of-fault : (s : List ℕ) (r : Refusal) → FirstFault (judge s) (needed s) r → FirstBad s r
-unfolding judge
-first-bad-of-fault s r first =
-    let before : GoodBelow s (first .at) = λ p h. good-of-judge s p (first .before p h) in
-    ⊎-elim
-    (λ own.
-    let same : r .place ≡ first .at = own .place-is in
-    record {
-      before = λ p h. before p (omega arith);
-      needed-word = omega arith;
-      here = bad (record {
-        there = omega arith;
-        fault-is = ap (fault s) same ∙ sym (own .number-is);
-        not-zero = λ z. own .not-zero (sym (own .number-is) ∙ z);
-      });
-    })
-    (λ gone.
-    record {
-      before = λ p h. before p (omega arith);
-      needed-word = omega arith;
-      here = missing (gone .number-is) (gone .place-is);
-    })
-    (judge-with-faulty (length s) (first .at) (fault s (first .at)) r (first .faulty))
-
-fault-here : (s : List ℕ) (r : Refusal) → BadHere s r → judge s (r .place) ≡ Faulty r
-unfolding judge
-fault-here s r (bad b) =
-    simp (
-      lt-ltb (r .place) (length s) (b .there),
-      ne-eqb (fault s (r .place)) 0 (λ z. b .not-zero (sym (b .fault-is) ∙ z)),
-    )
-    (states (fault s (r .place)) (r .place) r (sym (b .fault-is)) refl)
-fault-here s r (missing number place) =
-    simp (le-ltb (r .place) (length s) (omega arith)) (states 1 (length s) r number place)
-
-pub judged-good : (s : List ℕ) (k : ℕ) → judged s k ≡ Sound → GoodBelow s k
-judged-good s k e p h = good-of-judge s p (first-of-sound (judge s) k e p h)
-
-pub good-judged : (s : List ℕ) (k : ℕ) → GoodBelow s k → judged s k ≡ Sound
-good-judged s k good = first-of-all (judge s) k (λ p h. judge-of-good s p (good p h))
-
-pub words-refused : (s : List ℕ) (r : Refusal) → wordsVerdict s ≡ Faulty r → WordsRefusal s r
-unfolding wordsVerdict
-words-refused s r e =
-    ⊎-elim
-    (λ early. first-bad (first-bad-of-fault s r (first-of-faulty (judge s) (needed s) r early)))
-    (λ late.
-    let follows = faulty-when (ltb (needed s) (length s)) 3 (needed s) r (late .1) in
-    words-follow (record {
-      good = judged-good s (needed s) (late .0);
-      more = ltb-true (needed s) (length s) (follows .0);
-      number-is = follows .1 .0;
-      place-is = follows .1 .1;
-    }))
-    (or-else-faulty (judged s (needed s)) (wordsFollow s) r e)
-
-pub refused-words : (s : List ℕ) (r : Refusal) → WordsRefusal s r → wordsVerdict s ≡ Faulty r
-unfolding wordsVerdict
-refused-words s r (first-bad b) =
-    simp (faulty-first-of (judge s) (needed s) r (record {
-      at = r .place;
-      below = b .needed-word;
-      faulty = fault-here s r (b .here);
-      before = λ p h. judge-of-good s p (b .before p h);
-    }))
-refused-words s r (words-follow f) =
-    simp (good-judged s (needed s) (f .good), lt-ltb (needed s) (length s) (f .more))
-    (states 3 (needed s) r (f .number-is) (f .place-is))
-
-pub words-accepted : (s : List ℕ) → wordsVerdict s ≡ Sound → WordsGood s
-unfolding wordsVerdict
-words-accepted s e =
-    let both = or-else-sound (judged s (needed s)) (wordsFollow s) e in
-    let good = judged-good s (needed s) (both .0) in
-    let no-more : length s ≤ needed s =
-    ltb-false (needed s) (length s)
-    (sound-when (ltb (needed s) (length s)) (record { number = 3; place = needed s }) (both .1)) in
-    record {
-      good = good;
-      none-follows =
-          ⊎-elim (λ same. same) (λ fewer. absurd (lt-irrefl (length s) (good (length s) fewer .there))) (eq-or-lt-of-le no-more);
-    }
-
-pub accepted-words : (s : List ℕ) → WordsGood s → wordsVerdict s ≡ Sound
-unfolding wordsVerdict
-accepted-words s g =
-    simp (good-judged s (needed s) (g .good), le-ltb (needed s) (length s) (omega (arith, g .none-follows)))
-
--- ---- the whole verdict
+use Rattle.judgement.specs.Refusals.{orElse, firstOf, judged, wordsVerdict}
+use Rattle.deal.specs.Refusals.{roomVerdict, thinVerdict, verdict}
+use Rattle.judgement.specs.Judged.{BadHere, bad, missing, WordsGood, first-bad, words-follow}
+use Rattle.deal.specs.Judged.{TrancheThin, Why, by-words, by-room, by-thinness, Accepted}
+use Rattle.judgement.specs.declared.Refusal.{Refusal}
+use Rattle.judgement.specs.declared.Verdict.the-variants.{Sound, Faulty}
+use Rattle.judgement.proofs.FirstFault.{or-else-sound, or-else-faulty, FirstFault, first-of-sound, first-of-all, first-of-faulty, faulty-first-of}
+use Rattle.judgement.proofs.JudgedLaws.{states, faulty-when, sound-when, good-judged, words-refused, refused-words, words-accepted, accepted-words, fault-at-most}
 
 thin-sound : (s : List ℕ) (i : ℕ) → thinVerdict s i ≡ Sound → thin (tranche s i) (terms s) ≡ false
 thin-sound s i = sound-when (thin (tranche s i) (terms s)) (record { number = 13; place = trancheAt s i })
@@ -274,46 +106,6 @@ accepted-when s room a =
       le-ltb room (6 * trancheCount s) (a .enough),
       first-of-all (λ i. thinVerdict s i) (trancheCount s) (λ i h. simp (a .none-thin i h)),
     )
-
--- ---- the numbers: a word's fault is at most 12, so a refusal's number is one of 1 to 14
-
-picked-at-most : (m : ℕ) (b : Bool) (x y : ℕ) → x ≤ m → y ≤ m → cond b x y ≤ m
-picked-at-most m b x y p q = at-cond (λ (n : ℕ). n ≤ m) b x y (λ e. p) (λ e. q)
-
-unless-at-most : (m number : ℕ) (good : Bool) → number ≤ m → unless number good ≤ m
-unless-at-most m number good h = picked-at-most m good 0 number (omega arith) h
-
-fact-fault-at-most : (p w : ℕ) → factFault p w ≤ 12
-fact-fault-at-most p w =
-    picked-at-most 12 (eqb p 1) _ _
-    (picked-at-most 12 (eqb w 0) _ _ (omega arith) (picked-at-most 12 (leb w 2) _ _ (omega arith) (omega arith)))
-    (unless-at-most 12 4 (leb w 1) (omega arith))
-
-row-fault-at-most : (resecuritised : Bool) (column w : ℕ) → rowFault resecuritised column w ≤ 12
-row-fault-at-most resecuritised column w =
-    picked-at-most 12 (ltb column 2) _ _ (unless-at-most 12 5 (within 1 10000000000 w) (omega arith))
-    (picked-at-most 12 (eqb column 2) _ _ (unless-at-most 12 6 (leb w 1250) (omega arith))
-    (unless-at-most 12 7 (statusAllowed resecuritised w) (omega arith)))
-
-tranche-fault-at-most : (i before whole column w : ℕ) → trancheFault i before whole column w ≤ 12
-tranche-fault-at-most i before whole column w =
-    picked-at-most 12 (eqb column 0) _ _ (unless-at-most 12 8 (within 1 10000000000000 w) (omega arith))
-    (picked-at-most 12 (eqb column 1) _ _ (unless-at-most 12 9 (classInOrder i before w) (omega arith))
-    (picked-at-most 12 (eqb column 2) _ _ (unless-at-most 12 10 (within 1 1200 w) (omega arith))
-    (picked-at-most 12 (eqb column 3) _ _ (unless-at-most 12 8 (heldInLimits whole w) (omega arith))
-    (unless-at-most 12 11 (listed w) (omega arith)))))
-
-pub fault-at-most : (s : List ℕ) (p : ℕ) → fault s p ≤ 12
-unfolding fault
-fault-at-most s p =
-    picked-at-most 12 (eqb p 0) _ _ (unless-at-most 12 2 (within 4 4 (word s p)) (omega arith))
-    (picked-at-most 12 (ltb p (poolAt s)) _ _ (fact-fault-at-most p (word s p))
-    (picked-at-most 12 (eqb p (poolAt s)) _ _ (unless-at-most 12 2 (within 1 1000 (word s p)) (omega arith))
-    (picked-at-most 12 (ltb p (tranchesAt s)) _ _
-    (row-fault-at-most (resecuritisation s) (columnOf 4 (poolAt s) p) (word s p))
-    (picked-at-most 12 (eqb p (tranchesAt s)) _ _ (unless-at-most 12 2 (within 1 32 (word s p)) (omega arith))
-    (let i = rowOf 7 (tranchesAt s) p in
-    tranche-fault-at-most i (class s (i - 1)) (amount s i) (columnOf 7 (tranchesAt s) p) (word s p))))))
 
 pub refusal-number-listed :
     (s : List ℕ) (room : ℕ) (r : Refusal) → verdict s room ≡ Faulty r → (1 ≤ r .number) × (r .number ≤ 14)

@@ -1,15 +1,11 @@
-pub mod FirstFault
-pub mod Judgement
-pub mod SheetLimits
-pub mod JudgeSteps
 pub mod JudgedLaws
-pub mod GoodSheetLaw
+pub mod PlacesLaws
 pub mod SumLaws
 pub mod SumPermuted
 pub mod PoolLaws
 pub mod ChargeLaws
 pub mod PointLaws
-pub mod SeniorAmountsLaw
+pub mod ClassPointsLaw
 pub mod LineLaws
 pub mod DemandThreeLaw
 pub mod SameTerms

@@ -8,15 +8,15 @@ use native.Mathlib.Nat.{eq-or-lt-of-le, le-of-suc-le-suc, le-step, lt-suc-self, 
 use native.Mathlib.Omega.{arith}
 use lib.ListN.{length, getD, drop, length-append, length-drop, List·getD-append}
 use lib.Seq.{getD-append-add, getD-drop}
-use Rattle.deal.specs.DealSheet.{trancheCount}
+use Rattle.judgement.specs.DealSheet.{trancheCount}
 use Rattle.deal.specs.Lines.{terms, tranche, lineWords}
 use Rattle.deal.specs.Refusals.{verdict}
 use Rattle.deal.specs.Results.{lines, resultsFor, resultsAfter}
-use Rattle.deal.specs.declared.Refusal.{Refusal}
+use Rattle.judgement.specs.declared.Refusal.{Refusal}
 use Rattle.weights.specs.declared.Terms.{Terms}
 use Rattle.weights.specs.declared.Tranche.{Tranche}
-use Rattle.deal.specs.declared.Verdict.{Verdict}
-use Rattle.deal.specs.declared.Verdict.the-variants.{Sound, Faulty}
+use Rattle.judgement.specs.declared.Verdict.{Verdict}
+use Rattle.judgement.specs.declared.Verdict.the-variants.{Sound, Faulty}
 use Rattle.deal.proofs.JudgedLaws.{accepted-means}
 
 pub length-line : (t : Tranche) (d : Terms) → length (lineWords t d) ≡ 6

@@ -9,7 +9,7 @@ use native.Mathlib.Omega.{arith}
 use lib.Dec.{ltb}
 use borrow.Author.Tests.{lt-ltb, ltb-true}
 use Rattle.numbers.proofs.Tests.{at-cond}
-use Rattle.deal.specs.DealSheet.{trancheCount, amount, class}
+use Rattle.judgement.specs.DealSheet.{trancheCount, amount, class}
 use Rattle.deal.specs.Sum.{whereCounted}
 use Rattle.deal.specs.PointsAndCharge.{poolSums, seniorAmount, point, attachmentPoint, detachmentPoint}
 use Rattle.deal.proofs.SumLaws.{sum-ordered}

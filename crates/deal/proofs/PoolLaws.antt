@@ -9,15 +9,15 @@ use native.Mathlib.Omega.{arith}
 use borrow.Author.Tests.{leb-true, eqb-true, ne-eqb}
 use Rattle.numbers.proofs.RoundingLaws.{rounded-up-at-most}
 use Rattle.numbers.proofs.Tests.{at-cond}
-use Rattle.deal.specs.DealSheet.{rows, exposure, nominal, status, needed}
+use Rattle.judgement.specs.DealSheet.{rows, exposure, nominal, status, needed}
 use Rattle.deal.specs.Sum.{whereCounted}
 use Rattle.deal.specs.PointsAndCharge.{known, delinquent, weightedExposure, sumsTo, poolSums, baseCharge, lateShare, knownCharge, unknownExposure, mostlyKnown, poolCharge}
 use Rattle.deal.specs.SumLimits.{SumLimits}
 use Rattle.deal.specs.Lines.{poolAverage, terms}
-use Rattle.deal.specs.Refusals.{judged}
+use Rattle.judgement.specs.Refusals.{judged}
 use Rattle.deal.specs.declared.Sums.{Sums}
-use Rattle.deal.specs.declared.Verdict.the-variants.{Sound}
-use Rattle.deal.proofs.SheetLimits.{good-row, rows-within, pool-counted}
+use Rattle.judgement.specs.declared.Verdict.the-variants.{Sound}
+use Rattle.judgement.proofs.SheetLimits.{good-row, rows-within, pool-counted}
 use Rattle.deal.proofs.SumLaws.{sum-at-most, sum-at-least, sum-ordered, sum-scaled}
 
 -- ---- over any sums within their limits

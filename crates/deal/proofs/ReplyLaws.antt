@@ -10,18 +10,20 @@ use lib.ListN.{length, getD, drop}
 use Rattle.numbers.proofs.RoundingLaws.{rounded-up-at-most}
 use Rattle.weights.specs.ApproachFloorCap.{weight}
 use Rattle.weights.proofs.WeightLaws.{weight-at-most}
-use Rattle.deal.specs.DealSheet.{trancheCount, held, needed}
-use Rattle.deal.specs.Judged.{BadHere, bad, missing, WordsRefusal, first-bad, words-follow, Why, by-words, by-room, by-thinness}
+use Rattle.judgement.specs.DealSheet.{trancheCount, held, needed}
+use Rattle.judgement.specs.Judged.{BadHere, bad, missing, WordsRefusal, first-bad, words-follow}
+use Rattle.deal.specs.Judged.{Why, by-words, by-room, by-thinness}
 use Rattle.deal.specs.Lines.{terms, tranche, riskWeightedAmount, capital, line, lineWords}
 use Rattle.deal.specs.Refusals.{verdict}
 use Rattle.deal.specs.Results.{Reply, replyOf, replyFor, replyTo, lines, resultsAfter}
 use Rattle.deal.specs.declared.Answer.the-variants.{Refused}
-use Rattle.deal.specs.declared.Refusal.{Refusal}
-use Rattle.deal.specs.declared.Verdict.{Verdict}
-use Rattle.deal.specs.declared.Verdict.the-variants.{Sound, Faulty}
-use Rattle.deal.proofs.JudgedLaws.{good-judged, refused-means, accepted-judged, fault-at-most, refusal-numbers}
+use Rattle.judgement.specs.declared.Refusal.{Refusal}
+use Rattle.judgement.specs.declared.Verdict.{Verdict}
+use Rattle.judgement.specs.declared.Verdict.the-variants.{Sound, Faulty}
+use Rattle.judgement.proofs.JudgedLaws.{good-judged, fault-at-most}
+use Rattle.deal.proofs.JudgedLaws.{refused-means, accepted-judged, refusal-numbers}
 use Rattle.deal.proofs.LineLaws.{results-accepted, results-line}
-use Rattle.deal.proofs.SheetLimits.{tranches-counted, tranches-within, good-tranche}
+use Rattle.judgement.proofs.SheetLimits.{tranches-counted, tranches-within, good-tranche}
 
 -- ---- number 0 means accepted
 

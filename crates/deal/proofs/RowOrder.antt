@@ -8,18 +8,20 @@ use native.Mathlib.Nat.{eq-zero-or-pos, le-refl}
 use native.Mathlib.Omega.{arith}
 use lib.ListN.{length}
 use borrow.Author.Tests.{lt-ltb}
-use Rattle.deal.specs.DealSheet.{word, resecuritisation, poolAt, rows, rowAt, tranchesAt, trancheCount, trancheAt, needed}
+use Rattle.judgement.specs.DealSheet.{word, resecuritisation, poolAt, rows, rowAt, tranchesAt, trancheCount, trancheAt, needed}
 use Rattle.deal.specs.PointsAndCharge.{poolSums}
 use Rattle.deal.specs.Lines.{terms, tranche}
-use Rattle.deal.specs.Refusals.{rowOf, fault, judge, judged, verdict}
+use Rattle.judgement.specs.Refusals.{rowOf, fault, judge, judged}
+use Rattle.deal.specs.Refusals.{verdict}
 use Rattle.deal.specs.Results.{replyTo, resultsAfter}
 use Rattle.deal.specs.Judged.{Accepted}
 use Rattle.deal.specs.OrderOfRows.{Reordered}
-use Rattle.deal.specs.declared.Verdict.the-variants.{Sound}
-use Rattle.deal.proofs.FirstFault.{first-of-all}
-use Rattle.deal.proofs.Judgement.{good-word, tranches-at-past-rows, fault-of-row, InSection, in-section}
-use Rattle.deal.proofs.SheetLimits.{accepted-to, pool-at-five}
-use Rattle.deal.proofs.JudgedLaws.{judged-good, accepted-means, accepted-judged, accepted-when}
+use Rattle.judgement.specs.declared.Verdict.the-variants.{Sound}
+use Rattle.judgement.proofs.FirstFault.{first-of-all}
+use Rattle.judgement.proofs.Judgement.{good-word, tranches-at-past-rows, fault-of-row, InSection, in-section}
+use Rattle.judgement.proofs.SheetLimits.{accepted-to, pool-at-five}
+use Rattle.judgement.proofs.JudgedLaws.{judged-good}
+use Rattle.deal.proofs.JudgedLaws.{accepted-means, accepted-judged, accepted-when}
 use Rattle.deal.proofs.LineLaws.{lines-same, results-accepted}
 use Rattle.deal.proofs.SameTerms.{SameCounts, same-counts, same-sums, same-terms, same-tranche}
 

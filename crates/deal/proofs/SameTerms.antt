@@ -7,7 +7,7 @@ use Prim.Native.Nat.{ℕ, _+_, _*_, _≤_, _<_}
 use native.Mathlib.Nat.{add-zero, le-refl}
 use native.Mathlib.Omega.{arith}
 use lib.Dec.{ltb, eqb}
-use Rattle.deal.specs.DealSheet.{word, poolAt, rows, rowAt, exposure, nominal, riskWeight, status, tranchesAt, trancheCount, trancheAt, amount, class}
+use Rattle.judgement.specs.DealSheet.{word, poolAt, rows, rowAt, exposure, nominal, riskWeight, status, tranchesAt, trancheCount, trancheAt, amount, class}
 use Rattle.deal.specs.Sum.{sum, whereCounted}
 use Rattle.deal.specs.PointsAndCharge.{poolSums, seniorAmount, attachmentPoint, detachmentPoint}
 use Rattle.deal.specs.Lines.{terms, tranche}

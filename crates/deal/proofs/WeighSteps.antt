@@ -3,16 +3,17 @@ use mathlib.Core.List.{List, _++_}
 use mathlib.Core.Path.{_≡_, refl, _∙_, sym}
 use Prim.Native.Nat.{ℕ, _*_, _≤_}
 use lib.ListN.{length, drop}
-use Rattle.deal.specs.DealSheet.{trancheCount, needed}
+use Rattle.judgement.specs.DealSheet.{trancheCount, needed}
 use Rattle.deal.specs.Lines.{terms}
-use Rattle.deal.specs.Refusals.{orElse, firstOf, judged, wordsFollow, thinVerdict, wordsVerdict, roomVerdict, verdict}
+use Rattle.judgement.specs.Refusals.{orElse, firstOf, judged, wordsFollow, wordsVerdict}
+use Rattle.deal.specs.Refusals.{thinVerdict, roomVerdict, verdict}
 use Rattle.deal.specs.DemandThree.{KeepsDemandThree}
 use Rattle.deal.specs.Results.{replyOf, replyTo, lines, resultsAfter}
 use Rattle.deal.specs.declared.Answer.the-variants.{Weighed, Refused}
-use Rattle.deal.specs.declared.Refusal.{Refusal}
-use Rattle.deal.specs.declared.Verdict.{Verdict}
-use Rattle.deal.specs.declared.Verdict.the-variants.{Sound, Faulty}
-use Rattle.deal.proofs.FirstFault.{or-else-sound}
+use Rattle.judgement.specs.declared.Refusal.{Refusal}
+use Rattle.judgement.specs.declared.Verdict.{Verdict}
+use Rattle.judgement.specs.declared.Verdict.the-variants.{Sound, Faulty}
+use Rattle.judgement.proofs.FirstFault.{or-else-sound}
 use Rattle.deal.proofs.JudgedLaws.{room-sound}
 use Rattle.deal.proofs.DemandThreeLaw.{keeps-demand-three}
 

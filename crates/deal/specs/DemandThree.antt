@@ -5,12 +5,12 @@ use mathlib.Core.Path.{_≡_}
 use Prim.Native.Nat.{ℕ, _+_, _*_, _≤_, _<_}
 use lib.ListN.{getD}
 use Rattle.formula.specs.Formula.{Passes}
-use Rattle.deal.specs.DealSheet.{resecuritisation, trancheCount}
+use Rattle.judgement.specs.DealSheet.{resecuritisation, trancheCount}
 use Rattle.deal.specs.PointsAndCharge.{attachmentPoint, detachmentPoint}
 use Rattle.weights.specs.ApproachFloorCap.{approach, parameter, afterFloorAndCap, formulaRawWeight}
 use Rattle.deal.specs.Lines.{terms, tranche}
 use Rattle.deal.specs.Refusals.{verdict}
-use Rattle.deal.specs.declared.Verdict.the-variants.{Sound}
+use Rattle.judgement.specs.declared.Verdict.the-variants.{Sound}
 
 -- "every accepted SEC-SA tranche with K at least 1 and D above K"; "A tranche is accepted where its sheet gets no refusal."
 pub record AboveCharge (s : List ℕ) (room i : ℕ) : Type 0 where

@@ -1,59 +1,14 @@
--- 01, "Refusals, by who can cause them", in plain relations: what each refusal of a sheet means, and what acceptance means. That these and the
--- definition by steps (Refusals.antt) say the same is proved in proofs/JudgedLaws.antt.
+-- 01, "Refusals, by who can cause them", in plain relations: why a sheet is refused, and what acceptance means. That these and the definition by steps
+-- (Refusals.antt) say the same is proved in proofs/JudgedLaws.antt. What the words decide is in Judged.antt of `judgement`.
 use mathlib.Core.Bool.{true, false}
 use mathlib.Core.List.{List}
 use mathlib.Core.Path.{_≡_}
 use Prim.Native.Nat.{ℕ, _*_, _≤_, _<_}
-use lib.ListN.{length}
-use Rattle.deal.specs.DealSheet.{trancheCount, trancheAt, needed}
+use Rattle.judgement.specs.DealSheet.{trancheCount, trancheAt}
 use Rattle.weights.specs.ApproachFloorCap.{thin}
 use Rattle.deal.specs.Lines.{terms, tranche}
-use Rattle.deal.specs.Refusals.{fault}
-use Rattle.deal.specs.declared.Refusal.{Refusal}
-
--- ---- one word
-
-pub record GoodWord (s : List ℕ) (p : ℕ) : Type 0 where
-  pub there : p < length s
-  pub no-fault : fault s p ≡ 0
-
-pub record BadWord (s : List ℕ) (p number : ℕ) : Type 0 where
-  pub there : p < length s
-  pub fault-is : fault s p ≡ number
-  pub not-zero : number ≡ 0 → ⊥
-
--- ---- "Words are judged from place 0 upward and the first bad one decides, at its own place."
-
-abbrev pub GoodBelow : List ℕ → ℕ → Type 0
-GoodBelow s k = (p : ℕ) → p < k → GoodWord s p
-
--- the word at the refusal's place is bad with the refusal's number, or "1: a needed word is missing; place is the sheet's length"
-pub data BadHere (s : List ℕ) (r : Refusal) : Type 0 where
-  bad : BadWord s (r .place) (r .number) → BadHere s r
-  missing : r .number ≡ 1 → r .place ≡ length s → BadHere s r
-
-pub record FirstBad (s : List ℕ) (r : Refusal) : Type 0 where
-  pub before : GoodBelow s (r .place)
-  pub needed-word : r .place < needed s
-  pub here : BadHere s r
-
--- ---- "Then 3, then 14, then 13 by tranche in order."
-
--- every word that the sheet needs is good, and none follows
-pub record WordsGood (s : List ℕ) : Type 0 where
-  pub good : GoodBelow s (needed s)
-  pub none-follows : length s ≡ needed s
-
--- "3: words follow the last section; place of the first."
-pub record WordsFollow (s : List ℕ) (r : Refusal) : Type 0 where
-  pub good : GoodBelow s (needed s)
-  pub more : needed s < length s
-  pub number-is : r .number ≡ 3
-  pub place-is : r .place ≡ needed s
-
-pub data WordsRefusal (s : List ℕ) (r : Refusal) : Type 0 where
-  first-bad : FirstBad s r → WordsRefusal s r
-  words-follow : WordsFollow s r → WordsRefusal s r
+use Rattle.judgement.specs.declared.Refusal.{Refusal}
+use Rattle.judgement.specs.Judged.{WordsGood, WordsRefusal}
 
 -- "14: results shorter than six words per tranche; place 0."
 pub record RoomShort (s : List ℕ) (room : ℕ) (r : Refusal) : Type 0 where

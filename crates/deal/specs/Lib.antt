@@ -1,11 +1,10 @@
-pub mod DealSheet
+pub mod SheetPlaces
 pub mod Refusals
 pub mod Judged
-pub mod GoodSheet
 pub mod Sum
 pub mod PointsAndCharge
 pub mod SumLimits
-pub mod SeniorAmounts
+pub mod ClassPoints
 pub mod Lines
 pub mod Results
 pub mod DemandThree

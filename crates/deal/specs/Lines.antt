@@ -7,7 +7,7 @@ use Rattle.numbers.specs.Rounding.{roundedUp}
 use Rattle.weights.specs.ApproachFloorCap.{approach, weight}
 use Rattle.weights.specs.declared.Terms.{Terms}
 use Rattle.weights.specs.declared.Tranche.{Tranche}
-use Rattle.deal.specs.DealSheet.{resecuritisation, dueDiligence, compositionKnown, class, months, held, firstRating, secondRating, thirdRating}
+use Rattle.judgement.specs.DealSheet.{resecuritisation, dueDiligence, compositionKnown, class, months, held, firstRating, secondRating, thirdRating}
 use Rattle.deal.specs.PointsAndCharge.{poolSums, mostlyKnown, poolCharge, attachmentPoint, detachmentPoint}
 use Rattle.deal.specs.declared.Line.{Line}
 use Rattle.deal.specs.declared.Sums.{Sums}

@@ -3,7 +3,7 @@ use mathlib.Core.List.{List}
 use mathlib.Core.Path.{_≡_}
 use Prim.Native.Nat.{ℕ, _+_, _≤_, _<_}
 use lib.ListN.{length}
-use Rattle.deal.specs.DealSheet.{word, rows, rowAt, tranchesAt}
+use Rattle.judgement.specs.DealSheet.{word, rows, rowAt, tranchesAt}
 
 -- π permutes the numbers below n, and σ is its inverse
 pub record Permutation (n : ℕ) (π σ : ℕ → ℕ) : Type 0 where

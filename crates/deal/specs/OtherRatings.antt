@@ -3,7 +3,7 @@ use mathlib.Core.List.{List}
 use mathlib.Core.Path.{_≡_}
 use Prim.Native.Nat.{ℕ, _+_, _≤_, _<_}
 use lib.ListN.{length}
-use Rattle.deal.specs.DealSheet.{word, trancheCount, trancheAt}
+use Rattle.judgement.specs.DealSheet.{word, trancheCount, trancheAt}
 
 -- at place p stands a rating word of a tranche other than tranche i
 pub record OtherRating (s : List ℕ) (i p : ℕ) : Type 0 where

@@ -6,7 +6,7 @@ use mathlib.Core.List.{List}
 use Prim.Native.Nat.{ℕ, _+_, _*_, _-_, _/_}
 use lib.Dec.{leb, ltb, eqb}
 use Rattle.numbers.specs.Rounding.{roundedUp}
-use Rattle.deal.specs.DealSheet.{rows, exposure, nominal, riskWeight, status, trancheCount, amount, class}
+use Rattle.judgement.specs.DealSheet.{rows, exposure, nominal, riskWeight, status, trancheCount, amount, class}
 use Rattle.deal.specs.Sum.{sum, whereCounted}
 use Rattle.deal.specs.declared.Sums.{Sums}
 

@@ -2,13 +2,13 @@
 use mathlib.Core.List.{List, [], _++_}
 use Prim.Native.Nat.{ℕ, zero, suc, _*_}
 use lib.ListN.{length, drop}
-use Rattle.deal.specs.DealSheet.{trancheCount}
+use Rattle.judgement.specs.DealSheet.{trancheCount}
 use Rattle.deal.specs.Lines.{terms, tranche, lineWords}
 use Rattle.deal.specs.Refusals.{verdict}
 use Rattle.deal.specs.declared.Answer.{Answer}
 use Rattle.deal.specs.declared.Answer.the-variants.{Weighed, Refused}
-use Rattle.deal.specs.declared.Verdict.{Verdict}
-use Rattle.deal.specs.declared.Verdict.the-variants.{Sound, Faulty}
+use Rattle.judgement.specs.declared.Verdict.{Verdict}
+use Rattle.judgement.specs.declared.Verdict.the-variants.{Sound, Faulty}
 
 -- ---- the answer, in 01's numbers
 

@@ -3,17 +3,14 @@ ghost use lib.ListN.{length};
 ghost use Rattle.deal.specs.DemandThree.{KeepsDemandThree};
 ghost use Rattle.deal.specs.Results.{replyOf, replyTo, resultsAfter};
 
-mod judge;
 mod lines;
+mod loading;
 mod pool;
-mod sheet;
 mod tranches;
+mod words;
 
-// A refusal: 01's number for it, and its place.
-pub struct Refusal {
-    pub number: u64,
-    pub place: u64,
-}
+use judgement::Refusal;
+use judgement::Verdict;
 
 // What a sheet gets: all its lines, with their count and the pool charge in millionths; or one refusal.
 pub enum Answer {
@@ -21,10 +18,12 @@ pub enum Answer {
     Refused(Refusal),
 }
 
-// What has been judged so far: nothing wrong, or the first fault.
-pub(crate) enum Verdict {
-    Sound,
-    Faulty(Refusal),
+// Where the sections of a sheet stand: the place of the first pool row and how many there are, the place of the first tranche and how many there are.
+pub(crate) struct Places {
+    pub(crate) pool: usize,
+    pub(crate) rows: u64,
+    pub(crate) tranches: usize,
+    pub(crate) count: u64,
 }
 
 // Sums over rows of a pool: exposure, nominal, and exposure × risk weight.
@@ -39,12 +38,6 @@ pub(crate) struct Sums {
     pub(crate) all: Totals,
     pub(crate) known: Totals,
     pub(crate) late: u64,
-}
-
-// The amounts that points are taken from: the pool's nominal, and for each class c the amounts of the tranches of a class below c.
-pub(crate) struct Amounts {
-    pub(crate) nominal: u64,
-    pub(crate) senior: [u64; 34],
 }
 
 // A tranche's line, as its six words; rwa is the risk-weighted amount.
@@ -65,24 +58,21 @@ pub fn weigh(sheet: &[u64], results: &mut [u64]) -> Answer
     ensures { λ r. ⌜ now (results .exit) ≡ resultsAfter (now (sheet .entry)) (now (results .entry)) ⌝ }
     ensures { λ r. ⌜ KeepsDemandThree (now (sheet .entry)) (length (now (results .entry))) (now (results .exit)) ⌝ }
 {
-    let loaded = judge::judge_loading(sheet, results.len() as u64);
+    let loaded = loading::judge_loading(sheet, results.len() as u64);
     if let Verdict::Faulty(r) = loaded {
         return Answer::Refused(r);
     }
-    let sums = pool::pool_sums(sheet);
+    let places = words::places_of(sheet);
+    let sums = pool::pool_sums(sheet, places);
     let terms = pool::terms_of(sheet, sums);
-    let amounts = Amounts {
-        nominal: sums.all.nominal,
-        senior: tranches::senior_amounts(sheet),
-    };
-    let thickness = tranches::judge_thickness(sheet, terms, amounts);
+    let points = tranches::class_points(sheet, places, sums.all.nominal);
+    let thickness = tranches::judge_thickness(sheet, places, terms, &points);
     if let Verdict::Faulty(r) = thickness {
         return Answer::Refused(r);
     }
-    lines::write_lines(sheet, terms, amounts, results);
-    let count = sheet::tranche_count(sheet);
+    lines::write_lines(sheet, places, terms, &points, results);
     Answer::Weighed {
-        count,
+        count: places.count,
         charge: terms.charge,
     }
 }

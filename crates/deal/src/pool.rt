@@ -1,18 +1,18 @@
 // The pool: its sums, its charge, and what its deal's tranches share.
 ghost use mathlib.Core.Path.{_≡_};
 ghost use Prim.Native.Nat.{_+_, _<_};
-ghost use Rattle.deal.specs.DealSheet.{rows, needed};
+ghost use Rattle.judgement.specs.DealSheet.{rows, needed};
+ghost use Rattle.deal.specs.SheetPlaces.{places};
 ghost use Rattle.deal.specs.PointsAndCharge.{sumsTo, poolSums, baseCharge, lateShare, knownCharge, mostlyKnown, poolCharge};
 ghost use Rattle.deal.specs.SumLimits.{SumLimits};
 ghost use Rattle.deal.specs.Sum.{whereCounted};
 ghost use Rattle.deal.specs.Lines.{poolAverage, terms};
-ghost use Rattle.deal.specs.Refusals.{judged};
-ghost use Rattle.deal.specs.declared.Verdict.the-variants.{Sound};
+ghost use Rattle.judgement.specs.Refusals.{judged};
+ghost use Rattle.judgement.specs.declared.Verdict.the-variants.{Sound};
+use crate::Places;
 use crate::Sums;
 use crate::Totals;
-use crate::sheet::row_at;
-use crate::sheet::row_count;
-use crate::sheet::word_at;
+use crate::words::row_word;
 use numbers::rounded_up;
 use weights::Terms;
 
@@ -27,15 +27,14 @@ fn where_counted(counts: bool, x: u64) -> u64
 }
 
 // The sums with row i added: a row of status 2 is not known, one of status 1 is delinquent.
-fn with_row(s: &[u64], sums: Sums, i: u64) -> Sums
-    requires { ⌜ (judged (now s) (needed (now s)) ≡ Sound) × (i < rows (now s)) × (sums ≡ sumsTo (now s) i) ⌝ }
+fn with_row(s: &[u64], p: Places, sums: Sums, i: u64) -> Sums
+    requires { ⌜ (judged (now s) (needed (now s)) ≡ Sound) × (p ≡ places (now s)) × (i < rows (now s)) × (sums ≡ sumsTo (now s) i) ⌝ }
     ensures { λ r. ⌜ r ≡ sumsTo (now (s .entry)) (i + 1) ⌝ }
 {
-    let at = row_at(s, i);
-    let exposure = word_at(s, at);
-    let nominal = word_at(s, at + 1);
-    let weighted = exposure * word_at(s, at + 2);
-    let status = word_at(s, at + 3);
+    let exposure = row_word(s, p, i, 0);
+    let nominal = row_word(s, p, i, 1);
+    let weighted = exposure * row_word(s, p, i, 2);
+    let status = row_word(s, p, i, 3);
     let known = status != 2;
     let late = status == 1;
     let all = sums.all;
@@ -56,11 +55,11 @@ fn with_row(s: &[u64], sums: Sums, i: u64) -> Sums
 }
 
 // The sums over all rows.
-pub(crate) fn pool_sums(s: &[u64]) -> Sums
-    requires { ⌜ judged (now s) (needed (now s)) ≡ Sound ⌝ }
+pub(crate) fn pool_sums(s: &[u64], p: Places) -> Sums
+    requires { ⌜ (judged (now s) (needed (now s)) ≡ Sound) × (p ≡ places (now s)) ⌝ }
     ensures { λ r. ⌜ r ≡ poolSums (now (s .entry)) ⌝ }
 {
-    let rows = row_count(s);
+    let rows = p.rows;
     let mut sums = Sums {
         all: Totals {
             exposure: 0,
@@ -76,7 +75,7 @@ pub(crate) fn pool_sums(s: &[u64]) -> Sums
     };
     let mut i = 0;
     while i < rows {
-        sums = with_row(s, sums, i);
+        sums = with_row(s, p, sums, i);
         i += 1;
     }
     sums
@@ -145,9 +144,9 @@ pub(crate) fn terms_of(s: &[u64], sums: Sums) -> Terms
     ensures { λ r. ⌜ r ≡ terms (now (s .entry)) ⌝ }
 {
     Terms {
-        diligence: word_at(s, 3) == 1,
-        resecuritisation: word_at(s, 2) == 1,
-        composition: word_at(s, 4) == 1,
+        diligence: s[3] == 1,
+        resecuritisation: s[2] == 1,
+        composition: s[4] == 1,
         known: mostly_known(sums),
         charge: pool_charge(sums),
         average: pool_average(sums),

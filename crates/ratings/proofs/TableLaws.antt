@@ -7,7 +7,7 @@ use mathlib.Core.Path.{_≡_, ap}
 use Prim.Native.Nat.{ℕ, _+_, _*_, _-_, min, max, _≤_, _<_}
 use native.Mathlib.Nat.{eq-zero-or-pos, le-refl, mul-le-mul, mul-le-mul-right}
 use native.Mathlib.Omega.{arith}
-use lib.Dec.{T, leb, eqb, leb→le, eqb→eq}
+use lib.Dec.{T, leb, leb→le}
 use lib.ListN.{getD}
 use borrow.Author.Tests.{le-leb, leb-true}
 use Rattle.numbers.proofs.RoundingLaws.{rounded-up-at-most, rounded-up-monotone, rounded-up-exact}
@@ -23,17 +23,6 @@ allFigures f = allBelow (λ row. allBelow (f row) 4) 18
 
 pub at-each-figure : (f : ℕ → ℕ → Bool) → T (allFigures f) → (row column : ℕ) → row < 18 → column < 4 → T (f row column)
 at-each-figure f t row column r c = at-each (f row) 4 (at-each (λ row. allBelow (f row) 4) 18 t row r) column c
-
--- two tables have the same figures
-abbrev pub figuresAgree : List (List ℕ) → List (List ℕ) → Bool
-figuresAgree xs ys = allFigures (λ row column. eqb (getD (getD xs row []) column 0) (getD (getD ys row []) column 0))
-
-pub figures-agree :
-    (xs ys : List (List ℕ)) (grade column : ℕ) →
-    T (figuresAgree xs ys) → 1 ≤ grade → grade ≤ 18 → column < 4 → figure xs grade column ≡ figure ys grade column
-figures-agree xs ys grade column t least most before =
-    eqb→eq (figure xs grade column) (figure ys grade column)
-    (at-each-figure (λ row column. eqb (getD (getD xs row []) column 0) (getD (getD ys row []) column 0)) t (grade - 1) column (omega arith) before)
 
 -- every figure is at most the limit
 abbrev pub figuresAtMost : ℕ → List (List ℕ) → Bool

@@ -1,6 +1,8 @@
 ghost use mathlib.Core.Path.{_≡_};
-ghost use Prim.Native.Nat.{_+_, _≤_, _<_};
-ghost use Rattle.ratings.specs.RatingTable.{ratingTable, figure, longTerm, shortTerm, present, listed, maturityFifths, linear, longTermExact, shortTermExact, exactWeight, weightByRating, weightByRatings};
+ghost use mathlib.Core.List.{[]};
+ghost use Prim.Native.Nat.{_-_, _≤_, _<_};
+ghost use lib.ListN.{getD};
+ghost use Rattle.ratings.specs.RatingTable.{ratingTable, longTerm, shortTerm, present, listed, maturityFifths, linear, longTermExact, shortTermExact, exactWeight, weightByRating, weightByRatings};
 
 mod table;
 
@@ -67,20 +69,27 @@ pub fn maturity_fifths(months: u64) -> u64
     larger(60, 4 * smaller(months, 72) + 12)
 }
 
-// A figure of the rating table, in percent: the grade counts from 1, the column from 0.
-fn table_figure(grade: u64, column: u64) -> u64
-    requires { ⌜ (1 ≤ grade) × (grade ≤ 18) × (column < 4) ⌝ }
-    ensures { λ r. ⌜ r ≡ figure ratingTable grade column ⌝ }
+// The row of the rating table at a grade, counted from 1. The table is written to memory at each use: a rating takes all its figures from one row.
+fn table_row(grade: u64) -> [u16; 4]
+    requires { ⌜ (1 ≤ grade) × (grade ≤ 18) ⌝ }
+    ensures { λ r. ⌜ r ≡ getD ratingTable (grade - 1) [] ⌝ }
 {
-    FIGURES[(grade - 1) as usize][column as usize]
+    FIGURES[(grade - 1) as usize]
 }
 
-// 240 times the percentage at a maturity, linear between the 1-year figure in a column and the 5-year figure in the next.
-fn linear_percent(grade: u64, column: u64, fifths: u64) -> u64
-    requires { ⌜ (1 ≤ grade) × (grade ≤ 18) × (column < 3) × (60 ≤ fifths) × (fifths ≤ 300) ⌝ }
-    ensures { λ r. ⌜ r ≡ linear (figure ratingTable grade column) (figure ratingTable grade (column + 1)) fifths ⌝ }
+// A figure of the tables as a number of 64 bits.
+fn wide(x: u16) -> u64
+    ensures { λ r. ⌜ (r ≡ x) × (r < 65536) ⌝ }
 {
-    table_figure(grade, column) * (300 - fifths) + table_figure(grade, column + 1) * (fifths - 60)
+    x as u64
+}
+
+// 240 times the percentage at a maturity, linear between the 1-year figure and the 5-year figure; at most 240 times the largest number of 16 bits.
+fn linear_percent(one: u16, five: u16, fifths: u64) -> u64
+    requires { ⌜ (60 ≤ fifths) × (fifths ≤ 300) ⌝ }
+    ensures { λ r. ⌜ (r ≡ linear one five fifths) × (r ≤ 15728400) ⌝ }
+{
+    wide(one) * (300 - fifths) + wide(five) * (fifths - 60)
 }
 
 // The exact weight by a long-term grade, times EXACT_PARTS: a non-senior tranche's falls with its thickness, down to the senior one.
@@ -88,12 +97,13 @@ fn long_term_exact(grade: u64, senior: bool, fifths: u64, thickness: u64) -> u64
     requires { ⌜ (1 ≤ grade) × (grade ≤ 18) × (60 ≤ fifths) × (fifths ≤ 300) ⌝ }
     ensures { λ r. ⌜ r ≡ longTermExact ratingTable grade senior fifths thickness ⌝ }
 {
-    let least = linear_percent(grade, 0, fifths) * MILLION;
+    let row = table_row(grade);
+    let least = linear_percent(row[0], row[1], fifths) * MILLION;
     if senior {
         return 100 * least;
     }
     let share = MILLION - smaller(thickness, HALF);
-    100 * larger(linear_percent(grade, 2, fifths) * share, least)
+    100 * larger(linear_percent(row[2], row[3], fifths) * share, least)
 }
 
 // The exact weight by a short-term grade, times EXACT_PARTS.
@@ -101,7 +111,7 @@ fn short_term_exact(code: u64) -> u64
     requires { ⌜ (21 ≤ code) × (code ≤ 24) ⌝ }
     ensures { λ r. ⌜ r ≡ shortTermExact code ⌝ }
 {
-    100 * SHORT_TERM[(code - 21) as usize] * EXACT_PARTS
+    100 * wide(SHORT_TERM[(code - 21) as usize]) * EXACT_PARTS
 }
 
 // The exact weight by a code, times EXACT_PARTS; 0 where the code is no rating.

@@ -13,11 +13,12 @@ use Rattle.formula.specs.FixedPoint.{entry, fineDecay, decayBelow, decayAbove, 
 use Rattle.formula.proofs.EndLaws.{passing-close}
 use Rattle.ratings.specs.RatingTable.{exactWeight, weightByRating, weightByRatings}
 use Rattle.weights.specs.ApproachFloorCap.{formulaRawWeight, tableWeight, weight, thin}
-use Rattle.deal.specs.DealSheet.{poolAt, rows, tranchesAt, trancheCount}
+use Rattle.judgement.specs.DealSheet.{poolAt, rows, tranchesAt, trancheCount}
 use Rattle.deal.specs.Sum.{sum}
 use Rattle.deal.specs.PointsAndCharge.{poolSums, knownCharge, poolCharge, seniorAmount, attachmentPoint, detachmentPoint}
 use Rattle.deal.specs.Lines.{terms, tranche, line, lineWords}
-use Rattle.deal.specs.Refusals.{fault, judge, firstOf, wordsVerdict, verdict}
+use Rattle.judgement.specs.Refusals.{fault, judge, firstOf, wordsVerdict}
+use Rattle.deal.specs.Refusals.{verdict}
 use Rattle.deal.specs.Results.{replyTo, lines}
 use Rattle.files.specs.Decimal.{digits, decimal}
 use Rattle.report.specs.ReportText.{ascii, labelled, spaced, trancheLines, dealText, sheetText, fileText}

@@ -14,7 +14,7 @@ use Rattle.deal.proofs.LineLaws.{length-lines, results-length}
 use Rattle.deal.proofs.ReplyLaws.{reply-count-within, refused-number, reply-results, reply-amounts}
 use Rattle.deal.specs.Results.{Reply, replyOf, replyTo, lines, resultsAfter}
 use Rattle.deal.specs.declared.Answer.the-variants.{Weighed, Refused}
-use Rattle.deal.specs.declared.Refusal.{Refusal}
+use Rattle.judgement.specs.declared.Refusal.{Refusal}
 use Rattle.files.specs.FileForm.{byteLimit, goodLength, fileWords, wordsAfter, fileBytes}
 use Rattle.files.proofs.FileLaws.{length-words-to, length-file-bytes, good-file, load-accepts, load-takes, words-of-bytes}
 use Rattle.report.specs.ReportText.{refusalLine, dealText, resultRoom, sheetText, fileText, textRoom, writtenFor, textAfter}

@@ -1,14 +1,12 @@
 -- `weigh`: each refusal is the sheet's verdict and leaves the results; where there is none, the lines are written. No axioms.
 use mathlib.Core.Path.{_≡_, _∙_, ap}
-use native.Mathlib.Omega.{arith}
 use borrow.Author.Needs.{needs}
 use Rattle.weights.specs.declared.Terms.{Terms}
-use Rattle.deal.specs.DealSheet.{needed}
-use Rattle.deal.specs.Refusals.{judged}
-use Rattle.deal.specs.SeniorAmounts.{PointAmounts}
+use Rattle.judgement.specs.DealSheet.{needed}
+use Rattle.judgement.specs.Refusals.{judged}
+use Rattle.judgement.specs.declared.Verdict.the-variants.{Sound}
 use Rattle.deal.specs.declared.Sums.{Sums}
-use Rattle.deal.specs.declared.Verdict.the-variants.{Sound}
-use Rattle.deal.proofs.SheetLimits.{pool-counted}
+use Rattle.deal.proofs.PlacesLaws.{count-is}
 use Rattle.deal.proofs.WeighSteps.{refused-on-loading, decided-by-thickness, refused-answer, weighed-answer, words-good, room-good}
 use Rattle.deal.proofs.weigh.Statement.{statement}
 use Rattle.deal.proofs.weigh.Tie as tie
@@ -31,33 +29,32 @@ words : (c : tie.After-enum-told) →
     judged s (needed s) ≡ Sound
 words c = words-good _ _ (c .enum-told .given .1) (c .before .before .judge-loading .ensures)
 
--- the pool's nominal, and the table of senior amounts
-amounts : (c : tie.After-senior-amounts) →
-    PointAmounts (c .before .before .before .before .before .before .before .before .args .sheet .now)
-    (record { nominal = c .before .before .pool-sums .result .all .nominal; senior = c .senior-amounts .result })
-amounts c = record {
-  nominal-is = ap (λ (q : Sums). q .all .nominal) (c .before .before .pool-sums .ensures);
-  senior-is = c .senior-amounts .ensures;
-}
+places-of-requires : tie.Need-places-of-requires
+places-of-requires c κs = words c
 
 pool-sums-requires : tie.Need-pool-sums-requires
-pool-sums-requires c κs = words c
+pool-sums-requires c κs = (words (c .before), c .places-of .ensures)
 
 terms-of-requires : tie.Need-terms-of-requires
-terms-of-requires c κs = (words (c .before), c .pool-sums .ensures)
+terms-of-requires c κs = (words (c .before .before), c .pool-sums .ensures)
 
-senior-amounts-requires : tie.Need-senior-amounts-requires
-senior-amounts-requires c κs = words (c .before .before)
+class-points-requires : tie.Need-class-points-requires
+class-points-requires c κs =
+    let placed = c .before .before in
+    (words (placed .before), placed .places-of .ensures, ap (λ (q : Sums). q .all .nominal) (c .before .pool-sums .ensures))
 
 judge-thickness-requires : tie.Need-judge-thickness-requires
-judge-thickness-requires c κs = (words (c .before .before .before), c .before .terms-of .ensures, amounts c)
+judge-thickness-requires c κs =
+    let table = c .before in
+    let placed = table .before .before .before in
+    (words (placed .before), placed .places-of .ensures, table .before .terms-of .ensures, table .class-points .ensures)
 
 enum-known-thickness : tie.Need-enum-known-thickness
 enum-known-thickness c = search needs
 
 returns-2 : tie.Need-returns-2
 returns-2 c =
-    let told = c .before .before .before .before .before .before .before in
+    let told = c .before .before .before .before .before .before .before .before .before in
     refused-answer _ _
     (decided-by-thickness _ _ (told .enum-told .given .1) (told .before .before .judge-loading .ensures)
     (c .before .before .before .judge-thickness .ensures) ∙
@@ -68,16 +65,15 @@ enum-told-2 c = search needs
 
 write-lines-requires : tie.Need-write-lines-requires
 write-lines-requires c κs =
-    let table = c .before .before .before .before in
-    let told = table .before .before .before in (
+    let table = c .before .before .before .before .before .before in
+    let placed = table .before .before .before in
+    let told = placed .before in (
       words told,
+      placed .places-of .ensures,
       table .before .terms-of .ensures,
-      amounts table,
+      table .class-points .ensures,
       room-good _ _ (told .enum-told .given .1) (told .before .before .judge-loading .ensures),
     )
-
-tranche-count-requires : tie.Need-tranche-count-requires
-tranche-count-requires c κs = pool-counted _ (words (c .before .before .before .before .before .before .before .before .before .before))
 
 same-length : tie.Need-same-length
 same-length c = search needs
@@ -85,13 +81,14 @@ same-length c = search needs
 returns-3 : tie.Need-returns-3
 returns-3 c =
     let thickness = c .before .before .before .before .before in
-    let told = thickness .before .before .before .before .before .before in
+    let placed = thickness .before .before .before .before .before .before .before in
+    let told = placed .before in
     weighed-answer _ _
     (decided-by-thickness _ _ (told .enum-told .given .1) (told .before .before .judge-loading .ensures) (thickness .before .before .judge-thickness .ensures) ∙
     thickness .enum-told2 .given .1)
-    (omega (arith, c .tranche-count .ensures))
-    (ap (λ (d : Terms). d .charge) (thickness .before .before .before .before .terms-of .ensures))
-    (c .before .before .before .write-lines .ensures)
+    (count-is _ _ (placed .places-of .ensures))
+    (ap (λ (d : Terms). d .charge) (thickness .before .before .before .before .before .terms-of .ensures))
+    (c .before .before .write-lines .ensures)
 
 pub weigh-spec : {M : Type 1} → statement M
 weigh-spec =
@@ -101,14 +98,14 @@ weigh-spec =
     enum-known-loaded
     returns
     enum-told
+    places-of-requires
     pool-sums-requires
     terms-of-requires
-    senior-amounts-requires
+    class-points-requires
     judge-thickness-requires
     enum-known-thickness
     returns-2
     enum-told-2
     write-lines-requires
-    tranche-count-requires
     same-length
     returns-3)

@@ -1,62 +1,52 @@
--- `linear_percent`: figures of at most 1250 times at most 240 fit 64 bits. No axioms.
-use Prim.Native.Nat.{_+_, _-_, _≤_}
+-- `linear_percent`: figures of 16 bits times at most 240 fit 64 bits; the two parts of the maturity make 240 together. No axioms.
+use Prim.Native.Nat.{_*_, _-_, _≤_}
 use native.Mathlib.Nat.{mul-le-mul-right}
 use native.Mathlib.Omega.{arith}
 use borrow.Author.Needs.{needs}
-use Rattle.ratings.proofs.TableLaws.{rating-table-at-most}
 use Rattle.ratings.proofs.linear_percent.Statement.{statement}
 use Rattle.ratings.proofs.linear_percent.Tie as tie
 
-one-year : (c : tie.After-table-figure) → c .table-figure .result ≤ 1250
-one-year c =
-    let x = c .before .args in
-    simp (c .table-figure .ensures)
-    (rating-table-at-most (x .grade) (x .column) (omega arith) (omega arith) (omega arith))
+one-year-part : (c : tie.After-wide) →
+    c .wide .result * (300 - c .before .args .fifths) ≤ 65535 * (300 - c .before .args .fifths)
+one-year-part c = mul-le-mul-right (300 - c .before .args .fifths) (omega arith)
 
-five-years : (c : tie.After-table-figure2) → c .table-figure2 .result ≤ 1250
-five-years c =
-    let x = c .before .before .args in
-    simp (c .table-figure2 .ensures)
-    (rating-table-at-most (x .grade) (x .column + 1) (omega arith) (omega arith) (omega arith))
+five-year-part : (c : tie.After-wide2) →
+    c .wide2 .result * (c .before .before .args .fifths - 60) ≤ 65535 * (c .before .before .args .fifths - 60)
+five-year-part c = mul-le-mul-right (c .before .before .args .fifths - 60) (omega arith)
 
-table-figure-requires : tie.Need-table-figure-requires
-table-figure-requires c κs = search needs
+wide-requires : tie.Need-wide-requires
+wide-requires c κs = search needs
 
 sub-result : tie.Need-sub-result
 sub-result c = search needs
 
 mul-result : tie.Need-mul-result
-mul-result c = omega (arith, mul-le-mul-right (300 - c .before .args .fifths) (one-year c))
+mul-result c = omega (arith, one-year-part c)
 
-add-table-figure : tie.Need-add-table-figure
-add-table-figure c = search needs
-
-table-figure-requires-2 : tie.Need-table-figure-requires-2
-table-figure-requires-2 c κs = search needs
+wide-requires-2 : tie.Need-wide-requires-2
+wide-requires-2 c κs = search needs
 
 sub-result-2 : tie.Need-sub-result-2
 sub-result-2 c = search needs
 
 mul-result-2 : tie.Need-mul-result-2
-mul-result-2 c = omega (arith, mul-le-mul-right (c .before .before .args .fifths - 60) (five-years c))
+mul-result-2 c = omega (arith, five-year-part c)
 
 add-result : tie.Need-add-result
-add-result c =
-    let fifths = c .before .before .args .fifths in
-    omega (arith, mul-le-mul-right (300 - fifths) (one-year (c .before)), mul-le-mul-right (fifths - 60) (five-years c))
+add-result c = omega (arith, one-year-part (c .before), five-year-part c)
 
 returns : tie.Need-returns
-returns c = simp (c .table-figure2 .ensures, c .before .table-figure .ensures)
+returns c =
+    (simp (c .wide2 .ensures .0, c .before .wide .ensures .0), omega (arith, one-year-part (c .before), five-year-part c))
 
 pub linear-percent-spec : {M : Type 1} → statement M
 linear-percent-spec =
     tie.close
     (tie.spec
-    table-figure-requires
+    wide-requires
     sub-result
     mul-result
-    add-table-figure
-    table-figure-requires-2
+    wide-requires-2
     sub-result-2
     mul-result-2
     add-result

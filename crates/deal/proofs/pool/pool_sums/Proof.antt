@@ -3,21 +3,18 @@ use mathlib.Core.Path.{_≡_, refl}
 use Prim.Native.Nat.{_≤_, _-_}
 use native.Mathlib.Omega.{arith}
 use borrow.Author.Needs.{needs}
-use Rattle.deal.specs.DealSheet.{rows}
+use Rattle.judgement.specs.DealSheet.{rows}
 use Rattle.deal.specs.PointsAndCharge.{sumsTo, poolSums}
 use Rattle.deal.specs.Sum.{sum}
-use Rattle.deal.proofs.SheetLimits.{accepted-to}
+use Rattle.deal.proofs.PlacesLaws.{rows-is}
 use Rattle.deal.proofs.pool.pool_sums.Statement.{statement}
 use Rattle.deal.proofs.pool.pool_sums.Tie as tie
 
 abbrev Inv-loop : tie.InvT-loop
-Inv-loop s count sums₀ i₀ sums i = (i ≤ count) × (sums ≡ sumsTo s i)
+Inv-loop s p count sums₀ i₀ sums i = (i ≤ count) × (sums ≡ sumsTo s i)
 
 abbrev μ-loop : tie.MeasureT-loop
-μ-loop s count sums₀ i₀ sums i = count - i
-
-row-count-requires : tie.Need-row-count-requires Inv-loop μ-loop
-row-count-requires c κs = accepted-to (c .before .args .s .now) 1 (omega arith) (c .before .pre)
+μ-loop s p count sums₀ i₀ sums i = count - i
 
 loop-holds : tie.Need-loop-holds Inv-loop μ-loop
 unfolding sum
@@ -25,8 +22,8 @@ loop-holds c = (omega arith, refl)
 
 with-row-requires : tie.Need-with-row-requires Inv-loop μ-loop
 with-row-requires c κs =
-    let x = c .before in
-    (x .before .before .before .pre, omega (arith, x .before .row-count .ensures), x .loop .inv .1)
+    let start = c .before .before .before in
+    (start .pre .0, start .pre .1, omega (arith, rows-is _ _ (start .pre .1)), c .before .loop .inv .1)
 
 add-i : tie.Need-add-i Inv-loop μ-loop
 add-i c = search needs
@@ -41,7 +38,7 @@ returns : tie.Need-returns Inv-loop μ-loop
 unfolding poolSums
 returns c =
     let x = c .before in
-    let end : x .loop .i ≡ rows (x .before .before .before .args .s .now) = omega (arith, x .before .row-count .ensures) in
+    let end : x .loop .i ≡ rows (x .before .before .args .s .now) = omega (arith, rows-is _ _ (x .before .before .pre .1)) in
     rw (x .loop .inv .1, end)
 
 pub pool-sums-spec : {M : Type 1} → statement M
@@ -50,7 +47,6 @@ pool-sums-spec =
     (tie.spec
     Inv-loop
     μ-loop
-    row-count-requires
     loop-holds
     with-row-requires
     add-i

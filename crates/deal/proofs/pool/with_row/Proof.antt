@@ -3,52 +3,38 @@
 use mathlib.Core.Bool.{not}
 use mathlib.Core.Path.{_≡_}
 use Prim.Native.Nat.{ℕ, _*_, _≤_}
-use native.Mathlib.Nat.{mul-le-mul}
+use native.Mathlib.Nat.{mul-le-mul, add-zero}
 use native.Mathlib.Omega.{arith}
 use lib.Dec.{eqb}
 use borrow.Author.Needs.{needs}
-use Rattle.deal.specs.DealSheet.{exposure, nominal, riskWeight, status}
+use Rattle.judgement.specs.DealSheet.{exposure, nominal, riskWeight, status}
 use Rattle.deal.specs.SumLimits.{SumLimits}
 use Rattle.deal.specs.declared.Sums.{Sums}
 use Rattle.deal.proofs.PoolLaws.{counted-at-most, sum-limits-to, nominal-most-to}
-use Rattle.deal.proofs.SheetLimits.{good-row, rows-within, pool-counted, pool-at-five, accepted-to}
+use Rattle.judgement.proofs.SheetLimits.{good-row}
 use Rattle.deal.proofs.SumLaws.{sum-next}
 use Rattle.deal.proofs.pool.with_row.Statement.{statement}
 use Rattle.deal.proofs.pool.with_row.Tie as tie
 
-place-most : (c : tie.After-row-at) → c .row-at .result ≤ 4006
-place-most c =
-    let x = c .before .before in
-    let s = x .args .s .now in
-    omega (
-      arith,
-      c .row-at .ensures,
-      rows-within s (pool-counted s (x .pre .0)),
-      pool-at-five s (accepted-to s 1 (omega arith) (x .pre .0)),
-    )
-
 -- ---- the words that are read
 
 exposure-read :
-    (c : tie.After-word-at) →
-    c .word-at .result ≡ exposure (c .before .before .before .args .s .now) (c .before .before .before .args .i)
-exposure-read c = simp (c .word-at .ensures, c .before .row-at .ensures)
+    (c : tie.After-row-word) → c .row-word .result ≡ exposure (c .before .before .args .s .now) (c .before .before .args .i)
+exposure-read c = simp (c .row-word .ensures, add-zero)
 
 nominal-read :
-    (c : tie.After-word-at2) →
-    c .word-at2 .result ≡ nominal (c .before .before .before .before .args .s .now) (c .before .before .before .before .args .i)
-nominal-read c = simp (c .word-at2 .ensures, c .before .before .row-at .ensures)
+    (c : tie.After-row-word2) → c .row-word2 .result ≡ nominal (c .before .before .before .args .s .now) (c .before .before .before .args .i)
+nominal-read c = c .row-word2 .ensures
 
 weight-read :
-    (c : tie.After-word-at3) →
-    c .word-at3 .result ≡ riskWeight (c .before .before .before .before .before .args .s .now) (c .before .before .before .before .before .args .i)
-weight-read c = simp (c .word-at3 .ensures, c .before .before .before .row-at .ensures)
+    (c : tie.After-row-word3) →
+    c .row-word3 .result ≡ riskWeight (c .before .before .before .before .args .s .now) (c .before .before .before .before .args .i)
+weight-read c = c .row-word3 .ensures
 
 status-read :
-    (c : tie.After-word-at4) →
-    c .word-at4 .result ≡
-    status (c .before .before .before .before .before .before .args .s .now) (c .before .before .before .before .before .before .args .i)
-status-read c = simp (c .word-at4 .ensures, c .before .before .before .before .row-at .ensures)
+    (c : tie.After-row-word4) →
+    c .row-word4 .result ≡ status (c .before .before .before .before .before .args .s .now) (c .before .before .before .before .before .args .i)
+status-read c = c .row-word4 .ensures
 
 -- ---- limits of the sums so far and of the row's terms
 
@@ -60,53 +46,41 @@ record Small (q : Sums) (e n w : ℕ) : Type 0 where
   weighted-most : e * w ≤ 12500000000000
 
 small :
-    (c : tie.After-word-at3) →
-    Small (c .before .before .before .before .before .args .sums) (c .before .before .word-at .result) (c .before .word-at2 .result) (c .word-at3 .result)
+    (c : tie.After-row-word3) →
+    Small (c .before .before .before .before .args .sums) (c .before .before .row-word .result) (c .before .row-word2 .result) (c .row-word3 .result)
 small c =
-    let x = c .before .before .before .before .before in
+    let x = c .before .before .before .before in
     let s = x .args .s .now in
     let i = x .args .i in
-    let row = good-row s i (x .pre .0) (x .pre .1) in
+    let row = good-row s i (x .pre .0) (x .pre .2) in
     record {
-      sums = rw (x .pre .2) (sum-limits-to s (x .pre .0) i (omega arith));
-      nominals = rw (x .pre .2) (nominal-most-to s (x .pre .0) i (omega arith));
+      sums = rw (x .pre .3) (sum-limits-to s (x .pre .0) i (omega arith));
+      nominals = rw (x .pre .3) (nominal-most-to s (x .pre .0) i (omega arith));
       exposure-most = omega (arith, exposure-read (c .before .before));
       nominal-most = omega (arith, nominal-read (c .before));
       weighted-most = rw (exposure-read (c .before .before), weight-read c) (omega (arith, mul-le-mul (row .exposure-most) (row .weight-most)));
     }
 
-row-at-requires : tie.Need-row-at-requires
-row-at-requires c κs = (pool-counted (c .before .args .s .now) (c .before .pre .0), omega arith)
+row-word-requires : tie.Need-row-word-requires
+row-word-requires c κs = let x = c .before in (x .pre .0, x .pre .1, x .pre .2, omega arith)
 
-word-at-requires : tie.Need-word-at-requires
-word-at-requires c κs = search needs
+row-word-requires-2 : tie.Need-row-word-requires-2
+row-word-requires-2 c κs = let x = c .before .before in (x .pre .0, x .pre .1, x .pre .2, omega arith)
 
-add-word-at : tie.Need-add-word-at
-add-word-at c = omega (arith, place-most (c .before))
-
-word-at-requires-2 : tie.Need-word-at-requires-2
-word-at-requires-2 c κs = search needs
-
-add-word-at-2 : tie.Need-add-word-at-2
-add-word-at-2 c = omega (arith, place-most (c .before .before))
-
-word-at-requires-3 : tie.Need-word-at-requires-3
-word-at-requires-3 c κs = search needs
+row-word-requires-3 : tie.Need-row-word-requires-3
+row-word-requires-3 c κs = let x = c .before .before .before in (x .pre .0, x .pre .1, x .pre .2, omega arith)
 
 mul-weighted : tie.Need-mul-weighted
 mul-weighted c = omega (arith, small c)
 
-add-word-at-3 : tie.Need-add-word-at-3
-add-word-at-3 c = omega (arith, place-most (c .before .before .before))
-
-word-at-requires-4 : tie.Need-word-at-requires-4
-word-at-requires-4 c κs = search needs
-
-add-t14 : tie.Need-add-t14
-add-t14 c = omega (arith, small (c .before .before .before .before))
+row-word-requires-4 : tie.Need-row-word-requires-4
+row-word-requires-4 c κs = let x = c .before .before .before .before in (x .pre .0, x .pre .1, x .pre .2, omega arith)
 
 add-t13 : tie.Need-add-t13
-add-t13 c = omega (arith, small (c .before .before .before .before .before))
+add-t13 c = omega (arith, small (c .before .before .before .before))
+
+add-t14 : tie.Need-add-t14
+add-t14 c = omega (arith, small (c .before .before .before .before .before))
 
 add-t15 : tie.Need-add-t15
 add-t15 c = omega (arith, small (c .before .before .before .before .before .before))
@@ -121,7 +95,7 @@ add-t18 c =
       arith,
       small (y .before),
       c .before .where-counted .ensures,
-      counted-at-most (not (eqb (y .word-at4 .result) 2)) (y .before .before .before .word-at .result),
+      counted-at-most (not (eqb (y .row-word4 .result) 2)) (y .before .before .before .row-word .result),
     )
 
 where-counted-requires-2 : tie.Need-where-counted-requires-2
@@ -134,7 +108,7 @@ add-t20 c =
       arith,
       small (y .before),
       c .before .where-counted2 .ensures,
-      counted-at-most (not (eqb (y .word-at4 .result) 2)) (y .before .before .word-at2 .result),
+      counted-at-most (not (eqb (y .row-word4 .result) 2)) (y .before .before .row-word2 .result),
     )
 
 where-counted-requires-3 : tie.Need-where-counted-requires-3
@@ -147,7 +121,7 @@ add-t22 c =
       arith,
       small (y .before),
       c .before .where-counted3 .ensures,
-      counted-at-most (not (eqb (y .word-at4 .result) 2)) (y .before .before .before .word-at .result * y .before .word-at3 .result),
+      counted-at-most (not (eqb (y .row-word4 .result) 2)) (y .before .before .before .row-word .result * y .before .row-word3 .result),
     )
 
 where-counted-requires-4 : tie.Need-where-counted-requires-4
@@ -160,16 +134,16 @@ add-t25 c =
       arith,
       small (y .before),
       c .before .where-counted4 .ensures,
-      counted-at-most (eqb (y .word-at4 .result) 1) (y .before .before .word-at2 .result),
+      counted-at-most (eqb (y .row-word4 .result) 1) (y .before .before .row-word2 .result),
     )
 
 returns : tie.Need-returns
 returns c =
     let x = c .before .before .before .before .before .before .before .before .before .before .before .before .before in
-    let start = x .before .before .before .before .before .before in
+    let start = x .before .before .before .before .before in
     simp (
       sum-next,
-      start .pre .2,
+      start .pre .3,
       exposure-read (x .before .before .before),
       nominal-read (x .before .before),
       weight-read (x .before),
@@ -184,17 +158,13 @@ pub with-row-spec : {M : Type 1} → statement M
 with-row-spec =
     tie.close
     (tie.spec
-    row-at-requires
-    word-at-requires
-    add-word-at
-    word-at-requires-2
-    add-word-at-2
-    word-at-requires-3
+    row-word-requires
+    row-word-requires-2
+    row-word-requires-3
     mul-weighted
-    add-word-at-3
-    word-at-requires-4
-    add-t14
+    row-word-requires-4
     add-t13
+    add-t14
     add-t15
     where-counted-requires
     add-t18

@@ -3,16 +3,18 @@
 use mathlib.Core.Bool.{true, false}
 use mathlib.Core.List.{List}
 use mathlib.Core.Path.{_≡_, refl, sym, _∙_}
-use Prim.Native.Nat.{ℕ, _+_, _-_, _≤_, _<_}
+use Prim.Native.Nat.{ℕ, _+_, _*_, _-_, _≤_, _<_}
 use native.Mathlib.Omega.{arith}
 use borrow.Author.Needs.{needs}
-use Rattle.deal.specs.DealSheet.{trancheCount, trancheAt}
+use Rattle.judgement.specs.DealSheet.{trancheCount, trancheAt}
 use Rattle.weights.specs.ApproachFloorCap.{thin}
 use Rattle.deal.specs.Lines.{terms, tranche}
-use Rattle.deal.specs.Refusals.{refused, thinVerdict, firstOf}
-use Rattle.deal.specs.declared.Verdict.the-variants.{Sound}
-use Rattle.deal.proofs.FirstFault.{first-of-next, first-of-stays}
-use Rattle.deal.proofs.SheetLimits.{pool-counted, tranches-counted, tranches-within}
+use Rattle.judgement.specs.Refusals.{refused, firstOf}
+use Rattle.deal.specs.Refusals.{thinVerdict}
+use Rattle.judgement.specs.declared.Verdict.the-variants.{Sound}
+use Rattle.judgement.proofs.FirstFault.{first-of-next, first-of-stays}
+use Rattle.judgement.proofs.SheetLimits.{tranches-counted, tranches-within}
+use Rattle.deal.proofs.PlacesLaws.{count-is, tranche-place}
 use Rattle.deal.proofs.tranches.judge_thickness.Statement.{statement}
 use Rattle.deal.proofs.tranches.judge_thickness.Tie as tie
 
@@ -32,22 +34,22 @@ next-faulty s i place found before row place-is =
     (first-of-next (λ i. thinVerdict s i) i before ∙ rw (found, place-is)))
 
 abbrev Inv-loop : tie.InvT-loop
-Inv-loop s d a tranches i₀ i = (i ≤ trancheCount s) × (firstOf (λ i. thinVerdict s i) i ≡ Sound)
+Inv-loop s p d points tranches i₀ i = (i ≤ trancheCount s) × (firstOf (λ i. thinVerdict s i) i ≡ Sound)
 
 abbrev μ-loop : tie.MeasureT-loop
-μ-loop s d a tranches i₀ i = tranches - i
+μ-loop s p d points tranches i₀ i = tranches - i
+
+-- the turn's tranche is one of the sheet's
+row : (c : tie.In-loop Inv-loop μ-loop) → c .before .loop .i < trancheCount (c .before .before .before .args .s .now)
+row c = omega (arith, count-is _ _ (c .before .before .before .pre .1))
 
 -- what `is_thin` told of the tranche
 told : (c : tie.After-is-thin Inv-loop μ-loop) →
-    let at = c .before .before .before in
-    let s = at .before .before .before .args .s .now in
-    thin (tranche s (at .loop .i)) (terms s) ≡ c .is-thin .result
+    let s = c .before .before .before .before .before .args .s .now in
+    thin (tranche s (c .before .before .before .loop .i)) (terms s) ≡ c .is-thin .result
 told c =
-    let start = c .before .before .before .before .before .before in
-    simp (← start .pre .1, ← c .before .tranche-of .ensures, c .is-thin .ensures)
-
-tranche-count-requires : tie.Need-tranche-count-requires Inv-loop μ-loop
-tranche-count-requires c κs = pool-counted (c .before .args .s .now) (c .before .pre .0)
+    let start = c .before .before .before .before .before in
+    simp (← start .pre .2, ← c .before .tranche-of .ensures, c .is-thin .ensures)
 
 loop-holds : tie.Need-loop-holds Inv-loop μ-loop
 unfolding firstOf
@@ -55,30 +57,41 @@ loop-holds c = (omega arith, refl)
 
 tranche-of-requires : tie.Need-tranche-of-requires Inv-loop μ-loop
 tranche-of-requires c κs =
-    let start = c .before .before .before .before in
-    (start .pre .0, start .pre .2, omega arith)
+    let start = c .before .before .before in
+    (start .pre .0, start .pre .1, start .pre .3, row c)
 
 is-thin-requires : tie.Need-is-thin-requires Inv-loop μ-loop
 is-thin-requires c κs = search needs
 
-tranche-at-requires : tie.Need-tranche-at-requires Inv-loop μ-loop
-tranche-at-requires c κs =
-    let start = c .before .before .before .before .before .before .before in
-    (tranches-counted (start .args .s .now) (start .pre .0), omega arith)
+-- the tranche's place, as a low number
+place :
+    (c : tie.In-loop Inv-loop μ-loop) → let start = c .before .before .before in
+    (start .args .p .tranches + 7 * c .before .loop .i ≡ trancheAt (start .args .s .now) (c .before .loop .i)) ×
+    (trancheAt (start .args .s .now) (c .before .loop .i) ≤ 4231)
+place c =
+    let start = c .before .before .before in
+    let at = tranche-place (start .args .s .now) (start .args .p) (start .pre .1) (start .pre .0) (c .before .loop .i) 0 (row c) (omega arith) in
+    (omega (arith, at .0), at .1 .1)
+
+mul-t11 : tie.Need-mul-t11 Inv-loop μ-loop
+mul-t11 c = omega (arith, place (c .before .before .before))
+
+add-t12 : tie.Need-add-t12 Inv-loop μ-loop
+add-t12 c = omega (arith, place (c .before .before .before))
 
 returns : tie.Need-returns Inv-loop μ-loop
 returns c =
-    let at = c .before .before .before .before .before in
-    next-faulty (at .before .before .before .args .s .now) (at .loop .i) (c .tranche-at .result)
-    (told (c .before .before) ∙ c .before .if1 .taken)
+    let at = c .before .before .before .before in
+    next-faulty (at .before .before .args .s .now) (at .loop .i) _
+    (told (c .before) ∙ c .if1 .taken)
     (at .loop .inv .1)
-    (omega arith)
-    (c .tranche-at .ensures)
+    (row (c .before .before .before))
+    (place (c .before .before .before) .0)
 
 add-i : tie.Need-add-i Inv-loop μ-loop
 add-i c =
-    let start = c .before .before .before .before .before .before .before in
-    omega (arith, tranches-within (start .args .s .now) (tranches-counted (start .args .s .now) (start .pre .0)))
+    let start = c .before .before .before .before .before .before in
+    omega (arith, row (c .before .before .before), tranches-within _ (tranches-counted _ (start .pre .0)))
 
 loop-less : tie.Need-loop-less Inv-loop μ-loop
 loop-less c = omega arith
@@ -86,14 +99,14 @@ loop-less c = omega arith
 loop-again : tie.Need-loop-again Inv-loop μ-loop
 loop-again c =
     let at = c .before .before .before .before in (
-      omega arith,
-      next-sound (at .before .before .before .args .s .now) (at .loop .i) (told (c .before) ∙ c .if1 .left) (at .loop .inv .1),
+      omega (arith, row (c .before .before .before)),
+      next-sound (at .before .before .args .s .now) (at .loop .i) (told (c .before) ∙ c .if1 .left) (at .loop .inv .1),
     )
 
 returns-2 : tie.Need-returns-2 Inv-loop μ-loop
 returns-2 c =
-    let start = c .before .before .before .before in
-    let all : c .before .loop .i ≡ trancheCount (start .args .s .now) = omega arith in
+    let start = c .before .before .before in
+    let all : c .before .loop .i ≡ trancheCount (start .args .s .now) = omega (arith, count-is _ _ (start .pre .1)) in
     sym (rw all at (c .before .loop .inv .1))
 
 pub judge-thickness-spec : {M : Type 1} → statement M
@@ -102,11 +115,11 @@ judge-thickness-spec =
     (tie.spec
     Inv-loop
     μ-loop
-    tranche-count-requires
     loop-holds
     tranche-of-requires
     is-thin-requires
-    tranche-at-requires
+    mul-t11
+    add-t12
     returns
     add-i
     loop-less

@@ -1,0 +1,6 @@
+pub mod FirstFault
+pub mod Judgement
+pub mod SheetLimits
+pub mod JudgeSteps
+pub mod JudgedLaws
+pub mod GoodSheetLaw

@@ -1,0 +1,4 @@
+pub mod DealSheet
+pub mod Refusals
+pub mod Judged
+pub mod GoodSheet

@@ -1,0 +1,61 @@
+// Where the words of a sheet stand. A place is worked out only once the counts before it are good.
+ghost use mathlib.Core.Path.{_≡_};
+ghost use Prim.Native.Nat.{_+_, _≤_};
+ghost use Rattle.judgement.specs.DealSheet.{word, poolAt, rows, rowAt, tranchesAt, trancheCount, trancheAt};
+ghost use Rattle.judgement.specs.Refusals.{judged};
+ghost use Rattle.judgement.specs.declared.Verdict.the-variants.{Sound};
+
+// The word at a place; 0 past the end.
+pub(crate) fn word_at(s: &[u64], p: u64) -> u64
+    ensures { λ r. ⌜ r ≡ word (now (s .entry)) p ⌝ }
+{
+    if p < s.len() as u64 { s[p as usize] } else { 0 }
+}
+
+// The place of the pool's count.
+pub(crate) fn pool_at(s: &[u64]) -> u64
+    requires { ⌜ judged (now s) 1 ≡ Sound ⌝ }
+    ensures { λ r. ⌜ r ≡ poolAt (now (s .entry)) ⌝ }
+{
+    1 + word_at(s, 0)
+}
+
+// The place of pool row i, from 0; that past the last row is the place of the tranches' count.
+pub(crate) fn row_at(s: &[u64], i: u64) -> u64
+    requires { ⌜ (judged (now s) (poolAt (now s) + 1) ≡ Sound) × (i ≤ rows (now s)) ⌝ }
+    ensures { λ r. ⌜ r ≡ rowAt (now (s .entry)) i ⌝ }
+{
+    pool_at(s) + 1 + 4 * i
+}
+
+// The number of pool rows.
+pub(crate) fn row_count(s: &[u64]) -> u64
+    requires { ⌜ judged (now s) 1 ≡ Sound ⌝ }
+    ensures { λ r. ⌜ r ≡ rows (now (s .entry)) ⌝ }
+{
+    word_at(s, pool_at(s))
+}
+
+// The place of the tranches' count.
+pub(crate) fn tranches_at(s: &[u64]) -> u64
+    requires { ⌜ judged (now s) (poolAt (now s) + 1) ≡ Sound ⌝ }
+    ensures { λ r. ⌜ r ≡ tranchesAt (now (s .entry)) ⌝ }
+{
+    row_at(s, row_count(s))
+}
+
+// The number of tranches.
+pub(crate) fn tranche_count(s: &[u64]) -> u64
+    requires { ⌜ judged (now s) (poolAt (now s) + 1) ≡ Sound ⌝ }
+    ensures { λ r. ⌜ r ≡ trancheCount (now (s .entry)) ⌝ }
+{
+    word_at(s, tranches_at(s))
+}
+
+// The place of tranche i, from 0; that past the last tranche is the number of words that the sheet needs.
+pub(crate) fn tranche_at(s: &[u64], i: u64) -> u64
+    requires { ⌜ (judged (now s) (tranchesAt (now s) + 1) ≡ Sound) × (i ≤ trancheCount (now s)) ⌝ }
+    ensures { λ r. ⌜ r ≡ trancheAt (now (s .entry)) i ⌝ }
+{
+    tranches_at(s) + 1 + 7 * i
+}
