@@ -9,6 +9,7 @@ use Rattle.numbers.specs.Rounding.{roundedUp}
 use Rattle.judgement.specs.DealSheet.{rows, exposure, nominal, riskWeight, status, trancheCount, amount, class}
 use Rattle.deal.specs.Sum.{sum, whereCounted}
 use Rattle.deal.specs.declared.Sums.{Sums}
+use Rattle.deal.specs.declared.Totals.{Totals}
 
 -- ---- the pool's sums
 
@@ -22,6 +23,14 @@ delinquent s i = eqb (status s i) 1
 
 abbrev pub weightedExposure : List ℕ → ℕ → ℕ
 weightedExposure s i = exposure s i * riskWeight s i
+
+-- totals with a row added where it counts
+abbrev pub withCounted : Totals → Bool → ℕ → ℕ → ℕ → Totals
+withCounted t counts e n w = record {
+  exposure = t .exposure + whereCounted counts e;
+  nominal = t .nominal + whereCounted counts n;
+  weighted = t .weighted + whereCounted counts w;
+}
 
 -- the seven sums over the first n rows
 abbrev pub sumsTo : List ℕ → ℕ → Sums

@@ -4,11 +4,11 @@ use Prim.Native.Nat.{ℕ, suc, _+_, _*_, _-_, _^_, _/_, _%_, _≤_, _<_}
 use native.Mathlib.Nat.{mul-le-mul, mul-le-mul-left, mul-le-mul-right}
 use native.Mathlib.Omega.{arith}
 use Rattle.formula.specs.Fraction.{Fraction, over}
-use Rattle.formula.specs.FixedPoint.{decayDistance, entry, fineDecay, decayBelow}
+use Rattle.formula.specs.FixedPoint.{decayDistance, entry, coarseDecay, fineDecay, decayBelow}
 use Rattle.formula.proofs.DecayBounds.{NotAbove, NotBelow, not-above-weaker, not-below-weaker, not-above-smaller, not-below-larger, not-above-product, not-below-product}
 use Rattle.formula.proofs.Rest.{second-equation, second-not-below, third, third-equation, third-not-above}
-use Rattle.formula.proofs.Entries.{entry-not-above, entry-not-below, fine-entry-not-above}
-use Rattle.formula.proofs.StepBounds.{entry-at-most, fine-entry-at-least, square-at-most, fine-fall-at-most}
+use Rattle.formula.proofs.Entries.{entry-not-below, whole-entry-not-above, sixteenth-entry-not-above, fine-entry-not-above}
+use Rattle.formula.proofs.StepBounds.{entry-at-most, coarse-decay-at-most, fine-entry-at-least, square-at-most, fine-fall-at-most}
 
 -- the same bound over a scale that is t times smaller
 module _ {c : ℕ} {q : Fraction} (c′ s t : ℕ) (pos : 0 < s * t) where
@@ -99,7 +99,27 @@ module _ (m j : ℕ) (m-small : m < 64) (small : j < 2 ^ 22) where
       (not-below-larger (over m 1024) (over (m * 2 ^ 22) (2 ^ 32)) (omega arith) (omega arith) (entry-not-below m 1024 (omega arith)))
       (rest-not-below j small))
 
--- ---- the coarse entry as well: x = n / 16 + m / 1024 + j / 2^32
+-- ---- the coarse decay: n / 16, cut into a whole exponent and sixteenths
+
+module _ (n : ℕ) where
+  pub coarse-not-above : NotAbove (coarseDecay n) (2 ^ 32) (over n 16)
+  coarse-not-above =
+      not-above-smaller (over n 16) (over (n / 16 * 16 + n % 16) 16) (omega arith) (omega arith)
+      (not-above-rescaled (coarseDecay n) (2 ^ 32) (2 ^ 32) (omega arith) (omega arith)
+      (not-above-product (n / 16 * 16) (n % 16) 16 (omega arith)
+      (not-above-smaller (over (n / 16 * 16) 16) (over (n / 16) 1) (omega arith) (omega arith) (whole-entry-not-above (n / 16)))
+      (sixteenth-entry-not-above (n % 16) (omega arith))))
+
+  pub coarse-not-below : NotBelow (coarseDecay n + 3) (2 ^ 32) (over n 16)
+  coarse-not-below =
+      not-below-larger (over (n / 16 * 16 + n % 16) 16) (over n 16) (omega arith) (omega arith)
+      (not-below-rescaled (coarseDecay n + 3) (2 ^ 32) (2 ^ 32) (omega arith)
+      (omega (arith, entry-at-most (n / 16) 1, entry-at-most (n % 16) 16))
+      (not-below-product (n / 16 * 16) (n % 16) 16 (omega arith)
+      (not-below-larger (over (n / 16) 1) (over (n / 16 * 16) 16) (omega arith) (omega arith) (entry-not-below (n / 16) 1 (omega arith)))
+      (entry-not-below (n % 16) 16 (omega arith))))
+
+-- ---- both: x = n / 16 + m / 1024 + j / 2^32
 
 module _ (x : ℕ) where
   abbrev n : ℕ
@@ -123,7 +143,7 @@ module _ (x : ℕ) where
       not-above-smaller (over (suc x) (2 ^ 32)) (over (n * 2 ^ 28 + (m * 2 ^ 22 + suc j)) (2 ^ 32)) (omega arith) (omega arith)
       (not-above-rescaled (decayBelow x) (2 ^ 32) (2 ^ 32) (omega arith) (omega arith)
       (not-above-product (n * 2 ^ 28) (m * 2 ^ 22 + suc j) (2 ^ 32) (omega arith)
-      (not-above-smaller (over (n * 2 ^ 28) (2 ^ 32)) (over n 16) (omega arith) (omega arith) (entry-not-above n))
+      (not-above-smaller (over (n * 2 ^ 28) (2 ^ 32)) (over n 16) (omega arith) (omega arith) (coarse-not-above n))
       (fine-not-above m j m-below j-below)))
 
   pub decay-not-below : NotBelow (decayBelow x + decayDistance) (2 ^ 32) (over x (2 ^ 32))
@@ -131,7 +151,7 @@ module _ (x : ℕ) where
   decay-not-below =
       not-below-larger (over (n * 2 ^ 28 + (m * 2 ^ 22 + j)) (2 ^ 32)) (over x (2 ^ 32)) (omega arith) (omega arith)
       (not-below-rescaled (decayBelow x + decayDistance) (2 ^ 32) (2 ^ 32) (omega arith)
-      (omega (arith, entry-at-most n 16, entry-at-most m 1024, fine-sum m j m-below j-below))
+      (omega (arith, coarse-decay-at-most n, entry-at-most m 1024, fine-sum m j m-below j-below))
       (not-below-product (n * 2 ^ 28) (m * 2 ^ 22 + j) (2 ^ 32) (omega arith)
-      (not-below-larger (over n 16) (over (n * 2 ^ 28) (2 ^ 32)) (omega arith) (omega arith) (entry-not-below n 16 (omega arith)))
+      (not-below-larger (over n 16) (over (n * 2 ^ 28) (2 ^ 32)) (omega arith) (omega arith) (coarse-not-below n))
       (fine-not-below m j m-below j-below)))

@@ -1,12 +1,13 @@
--- How large the steps of FixedPoint.antt get, so that the code stays within 64 bits, and that the decay table ends at 355. No axioms.
+-- How large the steps of FixedPoint.antt get, so that the code stays within 64 bits, and where the entries are 0. No axioms.
+use mathlib.Core.Bool.{Bool}
 use mathlib.Core.Path.{_≡_}
 use Prim.Native.Nat.{ℕ, _+_, _*_, _-_, _^_, _/_, _%_, _≤_, _<_, max}
 use native.Mathlib.Nat.{zero-lt-suc, le-of-lt, mul-le-mul, mul-le-mul-left, mul-le-mul-right, mul-lt-mul-of-pos-right, lt-of-mul-lt-mul-right, div-le-of-le-mul, div-eq-of-lt, min-le-left}
 use native.Mathlib.Omega.{arith}
-use lib.Dec.{leb, leb→le, ltb→lt}
+use lib.Dec.{T, leb, leb→le, ltb, ltb→lt}
 use Rattle.formula.specs.Fraction.{Fraction, over, AtMost}
 use Rattle.formula.specs.Formula.{low, factorial}
-use Rattle.formula.specs.FixedPoint.{entry, fineDecay, decayBelow, decayAbove, meanDecayAbove, productAbove}
+use Rattle.formula.specs.FixedPoint.{entry, coarseDecay, fineDecay, decayBelow, decayAbove, meanDecayAbove, productAbove}
 use Rattle.formula.proofs.SeriesLaws.{low-at-least-one, low-bottom-pos, low-grows}
 use Rattle.numbers.proofs.Table.{at-each}
 
@@ -22,24 +23,31 @@ pub fine-entry-at-least : (m : ℕ) → m < 64 → 2 ^ 31 ≤ entry m 1024
 unfolding low entry factorial
 fine-entry-at-least m h = leb→le _ _ (at-each (λ i. leb (2 ^ 31) (entry i 1024)) 64 tt m h)
 
--- Low(43) of 355 / 16 is more than 2^32, by computation
-low-at-the-end : 2 ^ 32 * low (over 355 16) 43 .bottom < low (over 355 16) 43 .top
+-- the computed test of a table's end: Low(43) is more than 2^32
+abbrev ends : ℕ → ℕ → Bool
 unfolding low factorial
-low-at-the-end = ltb→lt _ _ tt
+ends n d = ltb (2 ^ 32 * low (over n d) 43 .bottom) (low (over n d) 43 .top)
 
 -- where x is more than c, a larger y is
 more-than : (c : ℕ) (x y : Fraction) → 0 < y .bottom → c * x .bottom < x .top → AtMost x y → c * y .bottom < y .top
 more-than c x y pos h l = lt-of-mul-lt-mul-right (x .bottom) (omega (arith, mul-lt-mul-of-pos-right h pos))
 
--- from 355 on Low(43) stays above 2^32, so that the entry is 0
-pub entry-zero : (n : ℕ) → 355 ≤ n → entry n 16 ≡ 0
-unfolding entry
-entry-zero n h =
-    let last = over 355 16 in
-    let this = over n 16 in
+-- from there on Low(43) stays above 2^32, so that the entry is 0
+zero-from : (last d : ℕ) → 0 < d → T (ends last d) → (n : ℕ) → last ≤ n → entry n d ≡ 0
+unfolding low factorial entry
+zero-from last d pos t n h =
+    let this = over n d in
     div-eq-of-lt
-    (more-than (2 ^ 32) (low last 43) (low this 43) (low-bottom-pos this (zero-lt-suc 15) 43) low-at-the-end
-    (low-grows last this (omega arith) 43))
+    (more-than (2 ^ 32) (low (over last d) 43) (low this 43) (low-bottom-pos this pos 43) (ltb→lt _ _ t)
+    (low-grows (over last d) this (mul-le-mul-right d h) 43))
+
+pub entry-zero : (n : ℕ) → 355 ≤ n → entry n 16 ≡ 0
+unfolding ends
+entry-zero = zero-from 355 16 (zero-lt-suc 15) tt
+
+pub whole-entry-zero : (n : ℕ) → 23 ≤ n → entry n 1 ≡ 0
+unfolding ends
+whole-entry-zero = zero-from 23 1 (zero-lt-suc 0) tt
 
 -- ---- decays
 
@@ -54,13 +62,16 @@ pub fine-decay-at-most : (m j : ℕ) → fineDecay m j ≤ 2 ^ 32 - 4
 unfolding fineDecay
 fine-decay-at-most m j = omega (arith, entry-at-most m 1024)
 
+pub coarse-decay-at-most : (n : ℕ) → coarseDecay n ≤ 2 ^ 32
+coarse-decay-at-most n = omega (arith, mul-le-mul (entry-at-most (n / 16) 1) (entry-at-most (n % 16) 16))
+
 -- a decay from below, before the division by 2^32
-pub entries-at-most : (n m j : ℕ) → entry n 16 * fineDecay m j ≤ 2 ^ 32 * (2 ^ 32 - 4)
-entries-at-most n m j = mul-le-mul (entry-at-most n 16) (fine-decay-at-most m j)
+pub decays-at-most : (n m j : ℕ) → coarseDecay n * fineDecay m j ≤ 2 ^ 32 * (2 ^ 32 - 4)
+decays-at-most n m j = mul-le-mul (coarse-decay-at-most n) (fine-decay-at-most m j)
 
 pub decay-below-at-most : (x : ℕ) → decayBelow x ≤ 2 ^ 32
 unfolding decayBelow
-decay-below-at-most x = omega (arith, entries-at-most (x / 2 ^ 28) (x % 2 ^ 28 / 2 ^ 22) (x % 2 ^ 28 % 2 ^ 22))
+decay-below-at-most x = omega (arith, decays-at-most (x / 2 ^ 28) (x % 2 ^ 28 / 2 ^ 22) (x % 2 ^ 28 % 2 ^ 22))
 
 pub decay-above-at-most : (x : ℕ) → decayAbove x ≤ 2 ^ 32
 unfolding decayAbove

@@ -11,19 +11,23 @@ use Rattle.formula.specs.declared.RawWeight.{RawWeight}
 use Rattle.formula.specs.declared.RawWeight.the-variants.{Weight, NoThickness, OutsideLimits}
 
 -- How far each number may lie from the exact one: a decay in units of 2^−32, a mean decay and the product in units of 2^−27. By the last the
--- weight before rounding up is at most 125,000 × 211 / 2^27, about 0.2, above the exact one.
+-- weight before rounding up is at most 125,000 × 243 / 2^27, about 0.23, above the exact one.
 abbrev pub decayDistance : ℕ
-decayDistance = 10
+decayDistance = 12
 
 abbrev pub meanDecayDistance : ℕ
-meanDecayDistance = 209
+meanDecayDistance = 241
 
 abbrev pub productDistance : ℕ
-productDistance = 211
+productDistance = 243
 
--- the whole part of 2^32 / Low(43) of n / d: an entry of the decay table (d = 16) and of the fine table (d = 1024)
+-- the whole part of 2^32 / Low(43) of n / d: an entry of the decay table (d = 16), of whole exponents (d = 1), of 1024ths (d = 1024)
 unfoldable pub entry : ℕ → ℕ → ℕ
 entry n d = 2 ^ 32 * low (over n d) 43 .bottom / low (over n d) 43 .top
+
+-- at most 2^32 × e^(−n / 16), and at most 3 below it: the entry of the whole exponent times that of the sixteenths
+abbrev pub coarseDecay : ℕ → ℕ
+coarseDecay n = entry (n / 16) 1 * entry (n % 16) 16 / 2 ^ 32
 
 -- the fine entry times 1 − r + r² / 2, with r = j / 2^32 below 2^−10, less 4, so that it stays below 2^32 × e^−(m / 1024 + r)
 unfoldable pub fineDecay : ℕ → ℕ → ℕ
@@ -31,7 +35,7 @@ fineDecay m j = entry m 1024 - entry m 1024 * (j - j * j / 2 ^ 33) / 2 ^ 32 - 4
 
 -- at most 2^32 × e^(−x), and at most decayDistance below it
 unfoldable pub decayBelow : ℕ → ℕ
-decayBelow x = entry (x / 2 ^ 28) 16 * fineDecay (x % 2 ^ 28 / 2 ^ 22) (x % 2 ^ 28 % 2 ^ 22) / 2 ^ 32
+decayBelow x = coarseDecay (x / 2 ^ 28) * fineDecay (x % 2 ^ 28 / 2 ^ 22) (x % 2 ^ 28 % 2 ^ 22) / 2 ^ 32
 
 -- at least 2^32 × e^(−x)
 unfoldable pub decayAbove : ℕ → ℕ

@@ -1,7 +1,7 @@
 ghost use mathlib.Core.Path.{_≡_};
-ghost use Prim.Native.Nat.{_^_, _≤_, _<_};
+ghost use Prim.Native.Nat.{_+_, _^_, _≤_, _<_};
 ghost use Rattle.formula.specs.Formula.{DecayEntry, IsRawWeight};
-ghost use Rattle.formula.specs.FixedPoint.{entry, fineDecay, decayBelow, decayAbove, meanDecayAbove, productAbove, units, formulaWeight, withinLimits, rawWeight};
+ghost use Rattle.formula.specs.FixedPoint.{entry, coarseDecay, fineDecay, decayBelow, decayAbove, meanDecayAbove, productAbove, units, formulaWeight, withinLimits, rawWeight};
 
 mod tables;
 
@@ -10,7 +10,9 @@ use numbers::larger;
 use numbers::rounded_up;
 use numbers::smaller;
 use tables::DECAY;
-use tables::FINE_DECAY;
+use tables::FINE_LOSS;
+use tables::SIXTEENTH_LOSS;
+use tables::WHOLE_LOSS;
 
 // 1 in the units of exponents and decays, 2^−32.
 const ONE: u64 = 4294967296;
@@ -18,14 +20,14 @@ const ONE: u64 = 4294967296;
 // 1 in the units of mean decays and of their products, 2^−27.
 const MEAN_ONE: u64 = 134217728;
 
-// 1/16, the step of the decay table, in units of 2^−32.
+// 1/16, the step of the coarse decays, in units of 2^−32.
 const STEP: u64 = 268435456;
 
-// 1/1024, the step of the fine table, in units of 2^−32.
+// 1/1024, the step of the fine entries, in units of 2^−32.
 const FINE_STEP: u64 = 4194304;
 
 // How far decay_below may lie below 2^32 × e^(−x).
-const DECAY_DISTANCE: u64 = 10;
+const DECAY_DISTANCE: u64 = 12;
 
 // 1/512 in units of 2^−32: an exponent below it is small.
 const SMALL: u64 = 8388608;
@@ -41,12 +43,47 @@ pub fn decay_entry(n: u64) -> u64
     if n < 355 { DECAY[n as usize] } else { 0 }
 }
 
-// The fine table's entry, for exponents between two entries of the decay table.
+// A 32-bit number as one of 64 bits.
+fn wide(x: u32) -> u64
+    ensures { λ r. ⌜ (r ≡ x) × (r < 2 ^ 32) ⌝ }
+{
+    x as u64
+}
+
+// The entry of the whole exponent n: the whole part of 2^32 × e^(−n), which is 0 from 23 on.
+fn whole_entry(n: u64) -> u64
+    ensures { λ r. ⌜ r ≡ entry n 1 ⌝ }
+{
+    if n < 23 {
+        ONE - wide(WHOLE_LOSS[n as usize])
+    } else {
+        0
+    }
+}
+
+// 2^32 less the entry of n sixteenths, for exponents between two whole ones.
+fn sixteenth_loss(n: u64) -> u64
+    requires { ⌜ n < 16 ⌝ }
+    ensures { λ r. ⌜ (r + entry n 16 ≡ 2 ^ 32) × (r < 2 ^ 32) ⌝ }
+{
+    wide(SIXTEENTH_LOSS[n as usize])
+}
+
+// The entry of m 1024ths, for exponents between two sixteenths.
 fn fine_entry(m: u64) -> u64
     requires { ⌜ m < 64 ⌝ }
     ensures { λ r. ⌜ r ≡ entry m 1024 ⌝ }
 {
-    FINE_DECAY[m as usize]
+    ONE - wide(FINE_LOSS[m as usize])
+}
+
+// e^(−n/16) from below: the entry of the whole exponent times that of the sixteenths. Both may be 2^32, and 2^64 does not fit 64 bits, so what
+// the sixteenths take off the whole exponent's entry is subtracted, rounded up.
+fn coarse_decay(n: u64) -> u64
+    ensures { λ r. ⌜ r ≡ coarseDecay n ⌝ }
+{
+    let t = whole_entry(n / 16);
+    t - (t * sixteenth_loss(n % 16) + (ONE - 1)) / ONE
 }
 
 // e^−(m/1024 + r) from below, with r = j/2^32: the fine entry times 1 − r + r²/2, less 4 so that rounding never takes it above.
@@ -58,13 +95,13 @@ fn fine_decay(m: u64, j: u64) -> u64
     t - t * (j - j * j / (2 * ONE)) / ONE - 4
 }
 
-// e^(−x) from below: x is cut into sixteenths, 1024ths and a rest, which pick an entry of each table and correct the fine one.
+// e^(−x) from below: x is cut into sixteenths, 1024ths and a rest, and the coarse decay of the first is multiplied by the fine decay of the others.
 fn decay_below(x: u64) -> u64
     ensures { λ r. ⌜ r ≡ decayBelow x ⌝ }
 {
     let rest = x % STEP;
     let fine = fine_decay(rest / FINE_STEP, rest % FINE_STEP);
-    decay_entry(x / STEP) * fine / ONE
+    coarse_decay(x / STEP) * fine / ONE
 }
 
 // e^(−x) from above: decay_below with what it may be short of added back, and at most 1.

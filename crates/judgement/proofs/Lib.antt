@@ -4,3 +4,4 @@ pub mod SheetLimits
 pub mod JudgeSteps
 pub mod JudgedLaws
 pub mod GoodSheetLaw
+pub mod GoodRowLaw

@@ -3,7 +3,7 @@ ghost use mathlib.Core.Path.{_≡_};
 ghost use Prim.Native.Nat.{_+_, _-_, _<_};
 ghost use lib.ListN.{length};
 ghost use Rattle.judgement.specs.DealSheet.{poolAt, rows, rowAt, tranchesAt, trancheCount, trancheAt, class, needed};
-ghost use Rattle.judgement.specs.Refusals.{unless, within, countFault, factFault, statusAllowed, rowFault, classInOrder, trancheFault, judgeWith, judged, wordsVerdict};
+ghost use Rattle.judgement.specs.Refusals.{unless, within, countFault, factFault, statusAllowed, rowFault, rowIsGood, classInOrder, trancheFault, judgeWith, judged, wordsVerdict};
 ghost use Rattle.judgement.specs.declared.Verdict.the-variants.{Sound};
 
 mod sheet;
@@ -166,8 +166,8 @@ fn judge_facts(s: &[u64]) -> Verdict
     Verdict::Sound
 }
 
-// The four words of pool row i.
-fn judge_row(s: &[u64], i: u64) -> Verdict
+// The four words of pool row i, one after another: the first fault.
+fn judge_row_words(s: &[u64], i: u64) -> Verdict
     requires { ⌜ (judged (now s) (rowAt (now s) i) ≡ Sound) × (i < rows (now s)) ⌝ }
     ensures { λ r. ⌜ r ≡ judged (now (s .entry)) (rowAt (now (s .entry)) (i + 1)) ⌝ }
 {
@@ -183,6 +183,37 @@ fn judge_row(s: &[u64], i: u64) -> Verdict
         column += 1;
     }
     Verdict::Sound
+}
+
+// Whether the four words of a pool row are good, in one test.
+fn row_is_good(resecuritised: bool, exposure: u64, nominal: u64, weight: u64, status: u64) -> bool
+    ensures { λ r. ⌜ r ≡ rowIsGood resecuritised exposure nominal weight status ⌝ }
+{
+    if !within(1, POOL_AMOUNT, exposure) {
+        return false;
+    }
+    if !within(1, POOL_AMOUNT, nominal) {
+        return false;
+    }
+    if weight > 1250 {
+        return false;
+    }
+    status_allowed(resecuritised, status)
+}
+
+// The four words of pool row i. Most rows are there whole and good, which is soon told; the others are judged word by word.
+fn judge_row(s: &[u64], i: u64) -> Verdict
+    requires { ⌜ (judged (now s) (rowAt (now s) i) ≡ Sound) × (i < rows (now s)) ⌝ }
+    ensures { λ r. ⌜ r ≡ judged (now (s .entry)) (rowAt (now (s .entry)) (i + 1)) ⌝ }
+{
+    let resecuritised = word_at(s, 2) == 1;
+    let at = row_at(s, i) as usize;
+    if at + 4 <= s.len() {
+        if row_is_good(resecuritised, s[at], s[at + 1], s[at + 2], s[at + 3]) {
+            return Verdict::Sound;
+        }
+    }
+    judge_row_words(s, i)
 }
 
 // The facts, and the pool's count.

@@ -1,26 +1,39 @@
--- `fine_entry`: the source's table agrees with the rule of the entries at each place, by one computed test. No axioms.
+-- `fine_entry`: the source's table of losses agrees with the rule of the entries at each place, by one computed test. No axioms.
+use mathlib.Core.Path.{_≡_}
+use Prim.Native.Nat.{_+_, _^_}
+use native.Mathlib.Omega.{arith}
 use borrow.Author.Needs.{needs}
 use borrow.Table.Row.{get}
 use Rattle.formula.specs.Formula.{low, factorial}
 use Rattle.formula.specs.FixedPoint.{entry}
-use Rattle.numbers.proofs.Table.{entry-is}
+use Rattle.formula.proofs.Entries.{loss-and-entry}
 use Rattle.formula.proofs.fine_entry.Statement.{statement}
 use Rattle.formula.proofs.fine_entry.Tie as tie
 use Rattle.formula.proofs.fine_entry.Reads as reads
 use Rattle.formula.proofs.fine_entry.Lts as lts
-
-mul-result : tie.Need-mul-result
-mul-result c = search needs
-
-array-read-result : tie.Need-array-read-result
-array-read-result c = search needs
+use Rattle.formula.proofs.wide.Reads as wide-reads
 
 -- the list is the source's own, as it stands in the function's local
-returns : tie.Need-returns
+sum : (c : tie.After-wide) → c .wide .result + entry (c .before .args .m) 1024 ≡ 2 ^ 32
 unfolding low entry factorial
-returns c =
-    let table = get 2 (lts.T2 .locals) (lts.m1 reads.Pre reads.Post (c .args) (c .blocks)) in
-    entry-is (λ i. entry i 1024) table 64 tt (c .args .m) (c .pre)
+sum c =
+    let losses = get 3 (lts.T2 .locals) (lts.m1 (wide-reads.Asked, wide-reads.Learnt) reads.Pre reads.Post (c .before .args) (c .before .blocks)) in
+    loss-and-entry 1024 losses 64 tt (c .before .args .m) (c .wide .result) (c .before .pre) (c .wide .ensures .0)
+
+mul-wide : tie.Need-mul-wide
+mul-wide c = search needs
+
+array-read-wide : tie.Need-array-read-wide
+array-read-wide c = search needs
+
+wide-requires : tie.Need-wide-requires
+wide-requires c κs = search needs
+
+sub-result : tie.Need-sub-result
+sub-result c = search needs
+
+returns : tie.Need-returns
+returns c = omega (arith, sum c)
 
 pub fine-entry-spec : {M : Type 1} → statement M
-fine-entry-spec = tie.close (tie.spec mul-result array-read-result returns)
+fine-entry-spec = tie.close (tie.spec mul-wide array-read-wide wide-requires sub-result returns)

@@ -1,106 +1,96 @@
--- `judge_row`: before each turn the words before the row's column are sound. No axioms.
+-- `judge_row`: a row that is there whole and passes the one test is sound; any other is judged word by word. No axioms.
 use mathlib.Core.Path.{_≡_, _∙_, sym}
-use Prim.Native.Nat.{_+_, _-_, _≤_}
 use native.Mathlib.Omega.{arith}
 use borrow.Author.Needs.{needs}
-use Rattle.judgement.specs.DealSheet.{rowAt}
-use Rattle.judgement.specs.Refusals.{judged}
-use Rattle.judgement.specs.declared.Verdict.the-variants.{Sound}
-use Rattle.judgement.proofs.Judgement.{fault-of-row}
 use Rattle.judgement.proofs.SheetLimits.{row-at-most}
-use Rattle.judgement.proofs.JudgeSteps.{sound-before, word-judged, fault-stays}
+use Rattle.judgement.proofs.JudgeSteps.{sound-before}
+use Rattle.judgement.proofs.GoodRowLaw.{good-row-judged}
 use Rattle.judgement.proofs.judge_row.Statement.{statement}
 use Rattle.judgement.proofs.judge_row.Tie as tie
 
-abbrev Inv-loop : tie.InvT-loop
-Inv-loop s i resecuritised at column₀ column = (column ≤ 4) × (judged s (rowAt s i + column) ≡ Sound)
-
-abbrev μ-loop : tie.MeasureT-loop
-μ-loop s i resecuritised at column₀ column = 4 - column
-
-word-at-requires : tie.Need-word-at-requires Inv-loop μ-loop
+word-at-requires : tie.Need-word-at-requires
 word-at-requires c κs = search needs
 
-row-at-requires : tie.Need-row-at-requires Inv-loop μ-loop
+row-at-requires : tie.Need-row-at-requires
 row-at-requires c κs = (sound-before _ _ _ (c .before .before .pre .0) (omega arith), omega arith)
 
-loop-holds : tie.Need-loop-holds Inv-loop μ-loop
-loop-holds c = (omega arith, sound-before _ _ _ (c .before .before .before .pre .0) (omega arith))
-
-add-p : tie.Need-add-p Inv-loop μ-loop
-add-p c =
-    let start = c .before .before .before .before .before in
+add-if1 : tie.Need-add-if1
+add-if1 c =
+    let start = c .before .before .before in
     let s = start .args .s .now in
-    omega (arith, row-at-most s (start .args .i) (sound-before s _ _ (start .pre .0) (omega arith)) (omega arith))
+    omega (arith, c .row-at .ensures, row-at-most s (start .args .i) (sound-before s _ _ (start .pre .0) (omega arith)) (omega arith))
 
-word-at-requires-2 : tie.Need-word-at-requires-2 Inv-loop μ-loop
-word-at-requires-2 c κs = search needs
+mul-row-is-good : tie.Need-mul-row-is-good
+mul-row-is-good c = search needs
 
-row-fault-requires : tie.Need-row-fault-requires Inv-loop μ-loop
-row-fault-requires c κs = search needs
+shared-slice-read-row-is-good : tie.Need-shared-slice-read-row-is-good
+shared-slice-read-row-is-good c = search needs
 
-judge-word-requires : tie.Need-judge-word-requires Inv-loop μ-loop
-judge-word-requires c κs = search needs
+add-row-is-good : tie.Need-add-row-is-good
+add-row-is-good c = search needs
 
--- a column's verdict is that on the words up to it
-column-judged :
-    (c : tie.After-judge-word Inv-loop μ-loop) →
-    let l = c .before .before .before .before in
-    let start = l .before .before .before .before in
-    c .judge-word .result ≡ judged (start .args .s .now) (rowAt (start .args .s .now) (start .args .i) + l .loop .column + 1)
-column-judged c =
-    let l = c .before .before .before .before in
-    let start = l .before .before .before .before in
-    let s = start .args .s .now in
-    let i = start .args .i in
-    word-judged s (rowAt s i + l .loop .column) (l .loop .inv .1) (fault-of-row s i (l .loop .column) (omega arith) (omega arith))
-    (c .judge-word .ensures ∙
-    simp (
-      c .before .row-fault .ensures,
-      c .before .before .word-at2 .ensures,
-      l .before .row-at .ensures,
-      l .before .before .word-at .ensures,
-    ))
+mul-row-is-good-2 : tie.Need-mul-row-is-good-2
+mul-row-is-good-2 c = search needs
 
-enum-told : tie.Need-enum-told Inv-loop μ-loop
-enum-told c = search needs
+shared-slice-read-row-is-good-2 : tie.Need-shared-slice-read-row-is-good-2
+shared-slice-read-row-is-good-2 c = search needs
 
-enum-told-2 : tie.Need-enum-told-2 Inv-loop μ-loop
-enum-told-2 c = search needs
+add-row-is-good-2 : tie.Need-add-row-is-good-2
+add-row-is-good-2 c = search needs
 
-returns : tie.Need-returns Inv-loop μ-loop
-returns c = fault-stays _ _ _ (c .enum-told2 .given .1) (column-judged (c .before .before)) (omega arith)
+mul-row-is-good-3 : tie.Need-mul-row-is-good-3
+mul-row-is-good-3 c = search needs
 
-add-column : tie.Need-add-column Inv-loop μ-loop
-add-column c = search needs
+shared-slice-read-row-is-good-3 : tie.Need-shared-slice-read-row-is-good-3
+shared-slice-read-row-is-good-3 c = search needs
 
-loop-less : tie.Need-loop-less Inv-loop μ-loop
-loop-less c = search needs
+add-row-is-good-3 : tie.Need-add-row-is-good-3
+add-row-is-good-3 c = search needs
 
-loop-again : tie.Need-loop-again Inv-loop μ-loop
-loop-again c =
-    (omega arith, sound-before _ _ _ (sym (column-judged (c .before .before)) ∙ c .enum-told .given .1) (omega arith))
+mul-row-is-good-4 : tie.Need-mul-row-is-good-4
+mul-row-is-good-4 c = search needs
 
-returns-2 : tie.Need-returns-2 Inv-loop μ-loop
-returns-2 c = sym (sound-before _ _ _ (c .before .loop .inv .1) (omega arith))
+shared-slice-read-row-is-good-4 : tie.Need-shared-slice-read-row-is-good-4
+shared-slice-read-row-is-good-4 c = search needs
+
+row-is-good-requires : tie.Need-row-is-good-requires
+row-is-good-requires c κs = search needs
+
+returns : tie.Need-returns
+returns c =
+    let placed = c .before .before .before .before .before .before .before in
+    let start = placed .before .before .before in
+    let told = sym (c .before .row-is-good .ensures) ∙ c .if2 .taken in
+    sym
+    (good-row-judged (start .args .s .now) (start .args .i) (start .pre .0) (start .pre .1)
+    (omega (arith, placed .row-at .ensures))
+    (rw (placed .row-at .ensures, placed .before .word-at .ensures) at told))
+
+judge-row-words-requires : tie.Need-judge-row-words-requires
+judge-row-words-requires c κs = search needs
+
+returns-2 : tie.Need-returns-2
+returns-2 c = search needs
 
 pub judge-row-spec : {M : Type 1} → statement M
 judge-row-spec =
     tie.close
     (tie.spec
-    Inv-loop
-    μ-loop
     word-at-requires
     row-at-requires
-    loop-holds
-    add-p
-    word-at-requires-2
-    row-fault-requires
-    judge-word-requires
-    enum-told
-    enum-told-2
+    add-if1
+    mul-row-is-good
+    shared-slice-read-row-is-good
+    add-row-is-good
+    mul-row-is-good-2
+    shared-slice-read-row-is-good-2
+    add-row-is-good-2
+    mul-row-is-good-3
+    shared-slice-read-row-is-good-3
+    add-row-is-good-3
+    mul-row-is-good-4
+    shared-slice-read-row-is-good-4
+    row-is-good-requires
     returns
-    add-column
-    loop-less
-    loop-again
+    judge-row-words-requires
     returns-2)

@@ -1,6 +1,5 @@
 -- `with_row`: the row's words are read at their places, and each sum to the next row is the sum to this row with this row's term added. Each sum
 -- and each term is at most 1.25 × 10^16, so nothing wraps. No axioms.
-use mathlib.Core.Bool.{not}
 use mathlib.Core.Path.{_≡_}
 use Prim.Native.Nat.{ℕ, _*_, _≤_}
 use native.Mathlib.Nat.{mul-le-mul, add-zero}
@@ -76,82 +75,39 @@ mul-weighted c = omega (arith, small c)
 row-word-requires-4 : tie.Need-row-word-requires-4
 row-word-requires-4 c κs = let x = c .before .before .before .before in (x .pre .0, x .pre .1, x .pre .2, omega arith)
 
-add-t13 : tie.Need-add-t13
-add-t13 c = omega (arith, small (c .before .before .before .before))
+with-counted-requires : tie.Need-with-counted-requires
+with-counted-requires c κs = let terms = small (c .before .before .before) in (omega (arith, terms), omega (arith, terms), omega (arith, terms))
 
-add-t14 : tie.Need-add-t14
-add-t14 c = omega (arith, small (c .before .before .before .before .before))
-
-add-t15 : tie.Need-add-t15
-add-t15 c = omega (arith, small (c .before .before .before .before .before .before))
+with-counted-requires-2 : tie.Need-with-counted-requires-2
+with-counted-requires-2 c κs = let terms = small (c .before .before .before .before) in (omega (arith, terms), omega (arith, terms), omega (arith, terms))
 
 where-counted-requires : tie.Need-where-counted-requires
 where-counted-requires c κs = search needs
 
-add-t18 : tie.Need-add-t18
-add-t18 c =
-    let y = c .before .before .before .before .before .before .before in
+add-t16 : tie.Need-add-t16
+add-t16 c =
+    let status = c .before .before .before .before .before .before in
     omega (
       arith,
-      small (y .before),
+      small (status .before),
       c .before .where-counted .ensures,
-      counted-at-most (not (eqb (y .row-word4 .result) 2)) (y .before .before .before .row-word .result),
-    )
-
-where-counted-requires-2 : tie.Need-where-counted-requires-2
-where-counted-requires-2 c κs = search needs
-
-add-t20 : tie.Need-add-t20
-add-t20 c =
-    let y = c .before .before .before .before .before .before .before .before .before in
-    omega (
-      arith,
-      small (y .before),
-      c .before .where-counted2 .ensures,
-      counted-at-most (not (eqb (y .row-word4 .result) 2)) (y .before .before .row-word2 .result),
-    )
-
-where-counted-requires-3 : tie.Need-where-counted-requires-3
-where-counted-requires-3 c κs = search needs
-
-add-t22 : tie.Need-add-t22
-add-t22 c =
-    let y = c .before .before .before .before .before .before .before .before .before .before .before in
-    omega (
-      arith,
-      small (y .before),
-      c .before .where-counted3 .ensures,
-      counted-at-most (not (eqb (y .row-word4 .result) 2)) (y .before .before .before .row-word .result * y .before .row-word3 .result),
-    )
-
-where-counted-requires-4 : tie.Need-where-counted-requires-4
-where-counted-requires-4 c κs = search needs
-
-add-t25 : tie.Need-add-t25
-add-t25 c =
-    let y = c .before .before .before .before .before .before .before .before .before .before .before .before .before in
-    omega (
-      arith,
-      small (y .before),
-      c .before .where-counted4 .ensures,
-      counted-at-most (eqb (y .row-word4 .result) 1) (y .before .before .row-word2 .result),
+      counted-at-most (eqb (status .row-word4 .result) 1) (status .before .before .row-word2 .result),
     )
 
 returns : tie.Need-returns
 returns c =
-    let x = c .before .before .before .before .before .before .before .before .before .before .before .before .before in
-    let start = x .before .before .before .before .before in
+    let status = c .before .before .before .before .before .before in
+    let start = status .before .before .before .before .before in
     simp (
       sum-next,
+      c .before .where-counted .ensures,
+      c .before .before .with-counted2 .ensures,
+      c .before .before .before .with-counted .ensures,
       start .pre .3,
-      exposure-read (x .before .before .before),
-      nominal-read (x .before .before),
-      weight-read (x .before),
-      status-read x,
-      c .before .where-counted4 .ensures,
-      c .before .before .before .where-counted3 .ensures,
-      c .before .before .before .before .before .where-counted2 .ensures,
-      c .before .before .before .before .before .before .before .where-counted .ensures,
+      exposure-read (status .before .before .before),
+      nominal-read (status .before .before),
+      weight-read (status .before),
+      status-read status,
     )
 
 pub with-row-spec : {M : Type 1} → statement M
@@ -163,15 +119,8 @@ with-row-spec =
     row-word-requires-3
     mul-weighted
     row-word-requires-4
-    add-t13
-    add-t14
-    add-t15
+    with-counted-requires
+    with-counted-requires-2
     where-counted-requires
-    add-t18
-    where-counted-requires-2
-    add-t20
-    where-counted-requires-3
-    add-t22
-    where-counted-requires-4
-    add-t25
+    add-t16
     returns)
