@@ -2,6 +2,7 @@ pub mod JudgedLaws
 pub mod PlacesLaws
 pub mod SumLaws
 pub mod SumPermuted
+pub mod TotalsLaws
 pub mod PoolLaws
 pub mod ChargeLaws
 pub mod PointLaws

@@ -11,8 +11,8 @@ use Rattle.numbers.proofs.RoundingLaws.{rounded-up-at-most}
 use Rattle.numbers.proofs.Tests.{at-cond}
 use Rattle.judgement.specs.DealSheet.{rows, exposure, nominal, status, needed}
 use Rattle.deal.specs.Sum.{whereCounted}
-use Rattle.deal.specs.PointsAndCharge.{known, delinquent, weightedExposure, sumsTo, poolSums, baseCharge, lateShare, knownCharge, unknownExposure, mostlyKnown, poolCharge}
-use Rattle.deal.specs.SumLimits.{SumLimits}
+use Rattle.deal.specs.PointsAndCharge.{known, delinquent, weightedExposure, sumsTo, poolSums, baseCharge, lateShare, knownCharge, unknownExposure, mostlyKnown, poolCharge, totalsTo}
+use Rattle.deal.specs.SumLimits.{TotalLimits, SumLimits}
 use Rattle.deal.specs.Lines.{poolAverage, terms}
 use Rattle.judgement.specs.Refusals.{judged}
 use Rattle.deal.specs.declared.Sums.{Sums}
@@ -76,6 +76,22 @@ module _ (s : List ℕ) (accepted : judged s (needed s) ≡ Sound) where
   late-known i e =
       let one : status s i ≡ 1 = eqb-true (status s i) 1 e in
       simp (ne-eqb (status s i) 2 (λ two. omega arith))
+
+  -- the totals of some of the first n rows
+  pub total-limits : (counts : ℕ → Bool) (n : ℕ) → n ≤ rows s → TotalLimits (totalsTo s counts n) n
+  total-limits counts n within = record {
+    exposure-most =
+        sum-at-most (λ i. whereCounted (counts i) (exposure s i)) 10000000000 n
+        (λ i l. counted-within (counts i) (exposure s i) 10000000000 (good-row s i accepted (omega arith) .exposure-most));
+    nominal-most =
+        sum-at-most (λ i. whereCounted (counts i) (nominal s i)) 10000000000 n
+        (λ i l. counted-within (counts i) (nominal s i) 10000000000 (good-row s i accepted (omega arith) .nominal-most));
+    weighted-most =
+        sum-at-most (λ i. whereCounted (counts i) (weightedExposure s i)) 12500000000000 n
+        (λ i l.
+        counted-within (counts i) (weightedExposure s i) 12500000000000
+        (omega (arith, row-weighted i (omega arith), good-row s i accepted (omega arith) .exposure-most)));
+  }
 
   pub sum-limits-to : (n : ℕ) → n ≤ rows s → SumLimits (sumsTo s n)
   sum-limits-to n within =

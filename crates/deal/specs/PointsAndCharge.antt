@@ -1,7 +1,7 @@
 -- 01, "Points and pool charge" (d374 paragraphs 53 and 54 for A and D, which CRE44.14 and CRE44.15 give; 79 and 80 for the base charge, 81 to 83
 -- for delinquency and unknown status). Points, shares and charges are counted in millionths, amounts in whole currency units, risk weights in
 -- percent.
-use mathlib.Core.Bool.{Bool, cond, not}
+use mathlib.Core.Bool.{Bool, true, cond, not}
 use mathlib.Core.List.{List}
 use Prim.Native.Nat.{ℕ, _+_, _*_, _-_, _/_}
 use lib.Dec.{leb, ltb, eqb}
@@ -32,20 +32,20 @@ withCounted t counts e n w = record {
   weighted = t .weighted + whereCounted counts w;
 }
 
+-- the totals of those of the first n rows that count
+abbrev pub totalsTo : List ℕ → (ℕ → Bool) → ℕ → Totals
+totalsTo s counts n = record {
+  exposure = sum (λ i. whereCounted (counts i) (exposure s i)) n;
+  nominal = sum (λ i. whereCounted (counts i) (nominal s i)) n;
+  weighted = sum (λ i. whereCounted (counts i) (weightedExposure s i)) n;
+}
+
 -- the seven sums over the first n rows
 abbrev pub sumsTo : List ℕ → ℕ → Sums
 sumsTo s n = record {
-  all = record {
-    exposure = sum (λ i. exposure s i) n;
-    nominal = sum (λ i. nominal s i) n;
-    weighted = sum (λ i. weightedExposure s i) n;
-  };
-  known = record {
-    exposure = sum (λ i. whereCounted (known s i) (exposure s i)) n;
-    nominal = sum (λ i. whereCounted (known s i) (nominal s i)) n;
-    weighted = sum (λ i. whereCounted (known s i) (weightedExposure s i)) n;
-  };
-  late = sum (λ i. whereCounted (delinquent s i) (nominal s i)) n;
+  all = totalsTo s (λ i. true) n;
+  known = totalsTo s (λ i. known s i) n;
+  late = totalsTo s (λ i. delinquent s i) n .nominal;
 }
 
 unfoldable pub poolSums : List ℕ → Sums

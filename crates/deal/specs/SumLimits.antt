@@ -1,7 +1,14 @@
 -- Limits on a pool's sums, which the functions on them need so that nothing overflows. No reader has to trust this file: `sum-limits`
 -- (proofs/PoolLaws.antt) says that the sums of every sheet whose words are good keep them.
-use Prim.Native.Nat.{_*_, _≤_}
+use Prim.Native.Nat.{ℕ, _*_, _≤_}
 use Rattle.deal.specs.declared.Sums.{Sums}
+use Rattle.deal.specs.declared.Totals.{Totals}
+
+-- totals over some of n rows
+pub record TotalLimits (t : Totals) (n : ℕ) : Type 0 where
+  pub exposure-most : t .exposure ≤ 10000000000 * n
+  pub nominal-most : t .nominal ≤ 10000000000 * n
+  pub weighted-most : t .weighted ≤ 12500000000000 * n
 
 -- rows of known status are among all rows and delinquent ones among those of known status, no risk weight is above 1250, and no amount that is
 -- multiplied is above 10^13 (1,000 rows of 10^10)

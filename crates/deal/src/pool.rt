@@ -1,11 +1,12 @@
 // The pool: its sums, its charge, and what its deal's tranches share.
+ghost use mathlib.Core.Bool.{true, _||_};
 ghost use mathlib.Core.Path.{_≡_};
-ghost use Prim.Native.Nat.{_+_, _≤_, _<_};
-ghost use Rattle.judgement.specs.DealSheet.{rows, needed};
+ghost use lib.Dec.{eqb};
+ghost use Prim.Native.Nat.{_<_};
+ghost use Rattle.judgement.specs.DealSheet.{rows, exposure, nominal, status, needed};
 ghost use Rattle.deal.specs.SheetPlaces.{places};
-ghost use Rattle.deal.specs.PointsAndCharge.{withCounted, sumsTo, poolSums, baseCharge, lateShare, knownCharge, mostlyKnown, poolCharge};
-ghost use Rattle.deal.specs.SumLimits.{SumLimits};
-ghost use Rattle.deal.specs.Sum.{whereCounted};
+ghost use Rattle.deal.specs.PointsAndCharge.{weightedExposure, withCounted, totalsTo, poolSums, baseCharge, lateShare, knownCharge, mostlyKnown, poolCharge};
+ghost use Rattle.deal.specs.SumLimits.{TotalLimits, SumLimits};
 ghost use Rattle.deal.specs.Lines.{poolAverage, terms};
 ghost use Rattle.judgement.specs.Refusals.{judged};
 ghost use Rattle.judgement.specs.declared.Verdict.the-variants.{Sound};
@@ -19,71 +20,73 @@ use weights::Terms;
 // 1 in the units of shares and charges, millionths.
 const MILLION: u64 = 1000000;
 
-// x where it counts, and 0 where not.
-fn where_counted(counts: bool, x: u64) -> u64
-    ensures { λ r. ⌜ r ≡ whereCounted counts x ⌝ }
-{
-    if counts { x } else { 0 }
-}
-
-// Totals with a row added where it counts. A branch is quicker here than three sums of what may be 0.
-fn with_counted(t: Totals, counts: bool, exposure: u64, nominal: u64, weighted: u64) -> Totals
-    requires { ⌜ (t .exposure + exposure ≤ 20000000000000) × (t .nominal + nominal ≤ 20000000000000) × (t .weighted + weighted ≤ 20000000000000000) ⌝ }
-    ensures { λ r. ⌜ r ≡ withCounted t counts exposure nominal weighted ⌝ }
-{
-    if counts {
-        return Totals {
-            exposure: t.exposure + exposure,
-            nominal: t.nominal + nominal,
-            weighted: t.weighted + weighted,
-        };
-    }
-    t
-}
-
-// The sums with row i added: a row of status 2 is not known, one of status 1 is delinquent.
-fn with_row(s: &[u64], p: Places, sums: Sums, i: u64) -> Sums
-    requires { ⌜ (judged (now s) (needed (now s)) ≡ Sound) × (p ≡ places (now s)) × (i < rows (now s)) × (sums ≡ sumsTo (now s) i) ⌝ }
-    ensures { λ r. ⌜ r ≡ sumsTo (now (s .entry)) (i + 1) ⌝ }
+// Totals with row i added.
+fn with_row(s: &[u64], p: Places, t: Totals, i: u64) -> Totals
+    requires { ⌜ (judged (now s) (needed (now s)) ≡ Sound) × (p ≡ places (now s)) × (i < rows (now s)) × TotalLimits t i ⌝ }
+    ensures { λ r. ⌜ r ≡ withCounted t true (exposure (now (s .entry)) i) (nominal (now (s .entry)) i) (weightedExposure (now (s .entry)) i) ⌝ }
 {
     let exposure = row_word(s, p, i, 0);
     let nominal = row_word(s, p, i, 1);
     let weighted = exposure * row_word(s, p, i, 2);
-    let status = row_word(s, p, i, 3);
-    let all = sums.all;
-    let known = sums.known;
-    Sums {
-        all: with_counted(all, true, exposure, nominal, weighted),
-        known: with_counted(known, status != 2, exposure, nominal, weighted),
-        late: sums.late + where_counted(status == 1, nominal),
+    Totals {
+        exposure: t.exposure + exposure,
+        nominal: t.nominal + nominal,
+        weighted: t.weighted + weighted,
     }
 }
 
-// The sums over all rows.
+// Totals with row i added where it counts: where every row does, or where it has the wanted status.
+fn with_row_of(s: &[u64], p: Places, every: bool, wanted: u64, t: Totals, i: u64) -> Totals
+    requires { ⌜ (judged (now s) (needed (now s)) ≡ Sound) × (p ≡ places (now s)) × (i < rows (now s)) × TotalLimits t i ⌝ }
+    ensures { λ r. ⌜ r ≡ withCounted t (every || eqb (status (now (s .entry)) i) wanted) (exposure (now (s .entry)) i) (nominal (now (s .entry)) i) (weightedExposure (now (s .entry)) i) ⌝ }
+{
+    if every {
+        return with_row(s, p, t, i);
+    }
+    if row_word(s, p, i, 3) == wanted {
+        return with_row(s, p, t, i);
+    }
+    t
+}
+
+// The totals over every row, or over the rows of one status.
+fn totals_of(s: &[u64], p: Places, every: bool, wanted: u64) -> Totals
+    requires { ⌜ (judged (now s) (needed (now s)) ≡ Sound) × (p ≡ places (now s)) ⌝ }
+    ensures { λ r. ⌜ r ≡ totalsTo (now (s .entry)) (λ i. every || eqb (status (now (s .entry)) i) wanted) (rows (now (s .entry))) ⌝ }
+{
+    let rows = p.rows;
+    let mut t = Totals {
+        exposure: 0,
+        nominal: 0,
+        weighted: 0,
+    };
+    let mut i = 0;
+    while i < rows {
+        t = with_row_of(s, p, every, wanted, t, i);
+        i += 1;
+    }
+    t
+}
+
+// The pool's sums. Rows of status 2 are not known and rows of status 1 delinquent; both are few, so a pass of its own for each, which reads little of a row, is
+// quicker than one pass for all sums.
 pub(crate) fn pool_sums(s: &[u64], p: Places) -> Sums
     requires { ⌜ (judged (now s) (needed (now s)) ≡ Sound) × (p ≡ places (now s)) ⌝ }
     ensures { λ r. ⌜ r ≡ poolSums (now (s .entry)) ⌝ }
 {
-    let rows = p.rows;
-    let mut sums = Sums {
-        all: Totals {
-            exposure: 0,
-            nominal: 0,
-            weighted: 0,
-        },
-        known: Totals {
-            exposure: 0,
-            nominal: 0,
-            weighted: 0,
-        },
-        late: 0,
+    let all = totals_of(s, p, true, 0);
+    let unknown = totals_of(s, p, false, 2);
+    let late = totals_of(s, p, false, 1);
+    let known = Totals {
+        exposure: all.exposure - unknown.exposure,
+        nominal: all.nominal - unknown.nominal,
+        weighted: all.weighted - unknown.weighted,
     };
-    let mut i = 0;
-    while i < rows {
-        sums = with_row(s, p, sums, i);
-        i += 1;
+    Sums {
+        all,
+        known,
+        late: late.nominal,
     }
-    sums
 }
 
 // The base charge: 8% of the average risk weight of the rows with known status, rounded up.

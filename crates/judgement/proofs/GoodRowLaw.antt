@@ -1,18 +1,44 @@
 -- A row that passes the one test of its four words has no fault in any of them, so the judgement goes on after it. No axioms.
 use mathlib.Core.Bool.{Bool, true}
 use mathlib.Core.List.{List}
-use mathlib.Core.Path.{_≡_, _∙_}
-use Prim.Native.Nat.{ℕ, _+_, _*_, _≤_, _<_}
-use native.Mathlib.Nat.{add-zero}
+use mathlib.Core.Logic.{⊎-elim}
+use mathlib.Core.Path.{_≡_, refl, _∙_}
+use Prim.Native.Nat.{ℕ, zero, suc, _+_, _*_, _-_, _≤_, _<_}
+use native.Mathlib.Nat.{add-zero, eq-or-lt-of-le, eq-zero-or-pos}
 use native.Mathlib.Omega.{arith}
-use lib.Dec.{leb}
+use lib.Dec.{leb, eqb}
 use lib.ListN.{length}
-use borrow.Author.Tests.{lt-ltb}
+use borrow.Author.Tests.{lt-ltb, le-leb, lt-leb, ne-eqb}
 use Rattle.numbers.proofs.Tests.{both-true}
 use Rattle.judgement.specs.DealSheet.{word, resecuritisation, rows, rowAt}
 use Rattle.judgement.specs.Refusals.{within, statusAllowed, rowFault, rowIsGood, fault, judged}
 use Rattle.judgement.specs.declared.Verdict.the-variants.{Sound}
 use Rattle.judgement.proofs.Judgement.{judged-next, fault-of-row}
+
+-- the limits of a status as numbers: 0 to 2 where the fact is 0, 3 to 3 where it is 1
+
+ordinary-status : (w : ℕ) → within 0 2 w ≡ leb w 2
+ordinary-status w = simp (le-leb 0 w (omega arith))
+
+below-three : (w : ℕ) → w < 3 → within 3 3 w ≡ eqb w 3
+below-three w h = let other : w ≡ 3 → ⊥ = (λ e. omega arith) in simp (lt-leb 3 w h, ne-eqb w 3 other)
+
+above-three : (w : ℕ) → 3 < w → within 3 3 w ≡ eqb w 3
+above-three w h =
+    let other : w ≡ 3 → ⊥ = (λ e. omega arith) in
+    let least : 3 ≤ w = omega arith in
+    simp (le-leb 3 w least, lt-leb w 3 h, ne-eqb w 3 other)
+
+just-three : (w : ℕ) → within 3 3 w ≡ eqb w 3
+just-three w = ⊎-elim (λ none. from-three (omega arith)) (λ some. below-three w (omega arith)) (eq-zero-or-pos (3 - w))
+  where
+    from-three : 3 ≤ w → within 3 3 w ≡ eqb w 3
+    from-three least = ⊎-elim (λ (e : 3 ≡ w). rw (← e) refl) (λ h. above-three w h) (eq-or-lt-of-le least)
+
+pub status-limits : (fact w : ℕ) → fact ≤ 1 → within (3 * fact) (2 + fact) w ≡ statusAllowed (eqb fact 1) w
+status-limits zero w h = ordinary-status w
+status-limits (suc zero) w h = just-three w
+status-limits (suc (suc n)) w h = absurd (omega arith)
 
 row-faultless :
     (resecuritised : Bool) (e n w t : ℕ) → rowIsGood resecuritised e n w t ≡ true →

@@ -96,6 +96,12 @@ zero-alone false false e = absurd (omega arith)
 kind-code : (w : ℕ) → factFault 1 w ≡ 0 → w ≡ 0
 kind-code w e = eqb-true w 0 (zero-alone (eqb w 0) (leb w 2) e)
 
+-- the fact "re-securitisation", behind a good beginning that goes past it
+pub resecuritisation-fact : (s : List ℕ) (k : ℕ) → judged s k ≡ Sound → poolAt s < k → word s 2 ≤ 1
+resecuritisation-fact s k e h =
+    let five = pool-at-five s (first-of-prefix (judge s) 1 k (omega arith) e) in
+    fact-code 2 (word s 2) (omega arith) (sym (fault-of-fact s 2 (omega arith) (omega arith)) ∙ good-word s k 2 e (omega arith) .1)
+
 pub good-facts : (s : List ℕ) → judged s (needed s) ≡ Sound → GoodFacts s
 good-facts s e =
     record {

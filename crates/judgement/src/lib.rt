@@ -1,6 +1,7 @@
 // The judgement of a sheet's words, from place 0 upward; then words that follow. It needs no more than the words.
 ghost use mathlib.Core.Path.{_≡_};
-ghost use Prim.Native.Nat.{_+_, _-_, _<_};
+ghost use Prim.Native.Nat.{_+_, _-_, _≤_, _<_};
+ghost use lib.Dec.{eqb};
 ghost use lib.ListN.{length};
 ghost use Rattle.judgement.specs.DealSheet.{poolAt, rows, rowAt, tranchesAt, trancheCount, trancheAt, class, needed};
 ghost use Rattle.judgement.specs.Refusals.{unless, within, countFault, factFault, statusAllowed, rowFault, rowIsGood, classInOrder, trancheFault, judgeWith, judged, wordsVerdict};
@@ -185,9 +186,11 @@ fn judge_row_words(s: &[u64], i: u64) -> Verdict
     Verdict::Sound
 }
 
-// Whether the four words of a pool row are good, in one test.
-fn row_is_good(resecuritised: bool, exposure: u64, nominal: u64, weight: u64, status: u64) -> bool
-    ensures { λ r. ⌜ r ≡ rowIsGood resecuritised exposure nominal weight status ⌝ }
+// Whether the four words of a pool row are good, in one test. The fact "re-securitisation" gives the limits of a status as numbers, from 3 to 3 where it is 1
+// and from 0 to 2 where it is 0, so that the loop over the rows has no test of it.
+fn row_is_good(fact: u64, exposure: u64, nominal: u64, weight: u64, status: u64) -> bool
+    requires { ⌜ fact ≤ 1 ⌝ }
+    ensures { λ r. ⌜ r ≡ rowIsGood (eqb fact 1) exposure nominal weight status ⌝ }
 {
     if !within(1, POOL_AMOUNT, exposure) {
         return false;
@@ -198,7 +201,7 @@ fn row_is_good(resecuritised: bool, exposure: u64, nominal: u64, weight: u64, st
     if weight > 1250 {
         return false;
     }
-    status_allowed(resecuritised, status)
+    within(3 * fact, 2 + fact, status)
 }
 
 // The four words of pool row i. Most rows are there whole and good, which is soon told; the others are judged word by word.
@@ -206,10 +209,10 @@ fn judge_row(s: &[u64], i: u64) -> Verdict
     requires { ⌜ (judged (now s) (rowAt (now s) i) ≡ Sound) × (i < rows (now s)) ⌝ }
     ensures { λ r. ⌜ r ≡ judged (now (s .entry)) (rowAt (now (s .entry)) (i + 1)) ⌝ }
 {
-    let resecuritised = word_at(s, 2) == 1;
+    let fact = word_at(s, 2);
     let at = row_at(s, i) as usize;
     if at + 4 <= s.len() {
-        if row_is_good(resecuritised, s[at], s[at + 1], s[at + 2], s[at + 3]) {
+        if row_is_good(fact, s[at], s[at + 1], s[at + 2], s[at + 3]) {
             return Verdict::Sound;
         }
     }

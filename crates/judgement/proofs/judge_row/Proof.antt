@@ -2,7 +2,7 @@
 use mathlib.Core.Path.{_≡_, _∙_, sym}
 use native.Mathlib.Omega.{arith}
 use borrow.Author.Needs.{needs}
-use Rattle.judgement.proofs.SheetLimits.{row-at-most}
+use Rattle.judgement.proofs.SheetLimits.{row-at-most, resecuritisation-fact}
 use Rattle.judgement.proofs.JudgeSteps.{sound-before}
 use Rattle.judgement.proofs.GoodRowLaw.{good-row-judged}
 use Rattle.judgement.proofs.judge_row.Statement.{statement}
@@ -54,7 +54,10 @@ shared-slice-read-row-is-good-4 : tie.Need-shared-slice-read-row-is-good-4
 shared-slice-read-row-is-good-4 c = search needs
 
 row-is-good-requires : tie.Need-row-is-good-requires
-row-is-good-requires c κs = search needs
+row-is-good-requires c κs =
+    let placed = c .before .before .before .before .before in
+    let start = placed .before .before .before in
+    omega (arith, placed .before .word-at .ensures, resecuritisation-fact _ _ (start .pre .0) (omega arith))
 
 returns : tie.Need-returns
 returns c =

@@ -4,6 +4,7 @@ use mathlib.Core.Path.{_≡_, _∙_, sym}
 use borrow.Author.Tests.{not-true, not-false, lt-leb, le-leb}
 use borrow.Author.Needs.{needs}
 use Rattle.judgement.specs.Refusals.{within}
+use Rattle.judgement.proofs.GoodRowLaw.{status-limits}
 use Rattle.judgement.proofs.row_is_good.Statement.{statement}
 use Rattle.judgement.proofs.row_is_good.Tie as tie
 
@@ -29,17 +30,25 @@ returns-2 c = simp (first-good (c .before .before), sym (c .before .within2 .ens
 returns-3 : tie.Need-returns-3
 returns-3 c = simp (first-good (c .before .before .before), second-good (c .before), lt-leb (c .before .before .before .before .before .args .weight) 1250 (c .if3 .taken))
 
-status-allowed-requires : tie.Need-status-allowed-requires
-status-allowed-requires c κs = search needs
+mul-within : tie.Need-mul-within
+mul-within c = search needs
+
+add-within : tie.Need-add-within
+add-within c = search needs
+
+within-requires-3 : tie.Need-within-requires-3
+within-requires-3 c κs = search needs
 
 returns-4 : tie.Need-returns-4
 returns-4 c =
     let third = c .before in
+    let start = third .before .before .before .before .before in
     simp (
-      c .status-allowed .ensures,
+      c .within3 .ensures,
+      status-limits (start .args .fact) (start .args .status) (start .pre),
       first-good (third .before .before .before),
       second-good (third .before),
-      le-leb (third .before .before .before .before .before .args .weight) 1250 (third .if3 .left),
+      le-leb (start .args .weight) 1250 (third .if3 .left),
     )
 
 pub row-is-good-spec : {M : Type 1} → statement M
@@ -51,5 +60,7 @@ row-is-good-spec =
     within-requires-2
     returns-2
     returns-3
-    status-allowed-requires
+    mul-within
+    add-within
+    within-requires-3
     returns-4)

@@ -1,55 +1,59 @@
--- `pool_sums`: before row i the sums are those over the first i rows. No axioms.
-use mathlib.Core.Path.{_≡_, refl}
-use Prim.Native.Nat.{_≤_, _-_}
-use native.Mathlib.Omega.{arith}
+-- `pool_sums`: rows of unknown status are among all rows, and what is left without them is the rows of known status. No axioms.
+use mathlib.Core.List.{List}
+use mathlib.Core.Path.{ap}
+use Prim.Native.Nat.{ℕ, _≤_}
 use borrow.Author.Needs.{needs}
 use Rattle.judgement.specs.DealSheet.{rows}
-use Rattle.deal.specs.PointsAndCharge.{sumsTo, poolSums}
-use Rattle.deal.specs.Sum.{sum}
-use Rattle.deal.proofs.PlacesLaws.{rows-is}
+use Rattle.deal.specs.PointsAndCharge.{poolSums}
+use Rattle.deal.specs.declared.Totals.{Totals}
+use Rattle.deal.proofs.TotalsLaws.{unknown-among-all, sums-made}
 use Rattle.deal.proofs.pool.pool_sums.Statement.{statement}
 use Rattle.deal.proofs.pool.pool_sums.Tie as tie
 
-abbrev Inv-loop : tie.InvT-loop
-Inv-loop s p count sums₀ i₀ sums i = (i ≤ count) × (sums ≡ sumsTo s i)
+totals-of-requires : tie.Need-totals-of-requires
+totals-of-requires c κs = search needs
 
-abbrev μ-loop : tie.MeasureT-loop
-μ-loop s p count sums₀ i₀ sums i = count - i
+totals-of-requires-2 : tie.Need-totals-of-requires-2
+totals-of-requires-2 c κs = search needs
 
-loop-holds : tie.Need-loop-holds Inv-loop μ-loop
-unfolding sum
-loop-holds c = (omega arith, refl)
+totals-of-requires-3 : tie.Need-totals-of-requires-3
+totals-of-requires-3 c κs = search needs
 
-with-row-requires : tie.Need-with-row-requires Inv-loop μ-loop
-with-row-requires c κs =
-    let start = c .before .before .before in
-    (start .pre .0, start .pre .1, omega (arith, rows-is _ _ (start .pre .1)), c .before .loop .inv .1)
+-- the totals of all rows and of those of unknown status
+module _ (c : tie.After-totals-of2) where
+  abbrev s : List ℕ
+  s = c .before .before .before .args .s .now
 
-add-i : tie.Need-add-i Inv-loop μ-loop
-add-i c = search needs
+  among :
+      (c .totals-of2 .result .exposure ≤ c .before .totals-of .result .exposure) ×
+      ((c .totals-of2 .result .nominal ≤ c .before .totals-of .result .nominal) × (c .totals-of2 .result .weighted ≤ c .before .totals-of .result .weighted))
+  among = unknown-among-all s (rows s) (c .before .totals-of .result) (c .totals-of2 .result) (c .before .totals-of .ensures) (c .totals-of2 .ensures)
 
-loop-less : tie.Need-loop-less Inv-loop μ-loop
-loop-less c = search needs
+sub-t7 : tie.Need-sub-t7
+sub-t7 c = among (c .before .before .before) .0
 
-loop-again : tie.Need-loop-again Inv-loop μ-loop
-loop-again c = (omega arith, c .with-row .ensures)
+sub-t8 : tie.Need-sub-t8
+sub-t8 c = among (c .before .before .before .before .before) .1 .0
 
-returns : tie.Need-returns Inv-loop μ-loop
+sub-t9 : tie.Need-sub-t9
+sub-t9 c = among (c .before .before .before .before .before .before .before) .1 .1
+
+returns : tie.Need-returns
 unfolding poolSums
 returns c =
-    let x = c .before in
-    let end : x .loop .i ≡ rows (x .before .before .args .s .now) = omega (arith, rows-is _ _ (x .before .before .pre .1)) in
-    rw (x .loop .inv .1, end)
+    let third = c .before .before .before .before .before .before in
+    let second = third .before in
+    sums-made (s second) (rows (s second)) (second .before .totals-of .result) (second .totals-of2 .result) (second .before .totals-of .ensures) (second .totals-of2 .ensures) _
+    (ap (λ (t : Totals). t .nominal) (third .totals-of3 .ensures))
 
 pub pool-sums-spec : {M : Type 1} → statement M
 pool-sums-spec =
     tie.close
     (tie.spec
-    Inv-loop
-    μ-loop
-    loop-holds
-    with-row-requires
-    add-i
-    loop-less
-    loop-again
+    totals-of-requires
+    totals-of-requires-2
+    totals-of-requires-3
+    sub-t7
+    sub-t8
+    sub-t9
     returns)

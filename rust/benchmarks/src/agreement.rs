@@ -1,0 +1,101 @@
+//! Answers are compared before anything is timed.
+
+use crate::deals::ROOM;
+use independent::{Deal, Line, Refusal};
+
+/// Count and charge, or else number and place of the refusal.
+type Outcome = Result<(u64, u64), (u64, u64)>;
+
+/// Holds the proved and the plain answer to what document 01 admits, as the exact version lists it. A proved answer
+/// outside that is an error; a plain one is a remark.
+pub fn check(name: &str, sheet: &[u64]) -> Result<Option<String>, String> {
+    let admitted = independent::weigh(sheet, ROOM as u64);
+    let mut results = [0; ROOM];
+    let proved = tranche_weights::weigh_words(sheet, &mut results);
+    let proved = proved
+        .map(|deal| (deal.count, deal.charge))
+        .map_err(|refusal| (refusal.number(), refusal.place()));
+    if let Some(difference) = difference(&admitted, proved, &results) {
+        return Err(format!(
+            "the proved version differs on the sheet \"{name}\": {difference}"
+        ));
+    }
+    let mut results = [0; ROOM];
+    let plain = plain::weigh(sheet, &mut results);
+    let remark = difference(&admitted, plain, &results);
+    Ok(remark.map(|difference| format!("The plain version differs on the sheet \"{name}\": {difference}.")))
+}
+
+/// What in an answer is not admitted, if anything.
+fn difference(admitted: &Result<Deal, Refusal>, outcome: Outcome, results: &[u64]) -> Option<String> {
+    let expected = match admitted {
+        Ok(deal) => Ok((deal.lines.len() as u64, deal.charge)),
+        Err(refusal) => Err((refusal.number, refusal.place)),
+    };
+    if outcome != expected {
+        return Some(format!("{outcome:?} where {expected:?} is due"));
+    }
+    let lines = admitted.as_ref().map_or(&[][..], |deal| &deal.lines);
+    let wrong = lines
+        .iter()
+        .zip(results.as_chunks().0)
+        .filter(|(line, words)| !admits(line, words))
+        .count();
+    (wrong > 0).then(|| format!("{wrong} of {} lines", lines.len()))
+}
+
+/// Whether the six words are an admitted form of the line.
+fn admits(line: &Line, &[approach, attachment, detachment, weight, risk_weighted, capital]: &[u64; 6]) -> bool {
+    (line.approach, line.attachment, line.detachment) == (approach, attachment, detachment)
+        && line
+            .amounts
+            .iter()
+            .any(|one| (one.weight, one.risk_weighted, one.capital) == (weight, risk_weighted, capital))
+}
+
+#[cfg(test)]
+mod tests {
+    use super::*;
+    use crate::deals;
+
+    /// The exact answer itself is admitted; with any one word changed it is not.
+    #[test]
+    fn every_changed_word_is_a_difference() {
+        let admitted = independent::weigh(&deals::small(), ROOM as u64);
+        let deal = admitted.as_ref().expect("the small deal is accepted");
+        let words = |line: &Line| {
+            let amounts = line.amounts[0];
+            [
+                line.approach,
+                line.attachment,
+                line.detachment,
+                amounts.weight,
+                amounts.risk_weighted,
+                amounts.capital,
+            ]
+        };
+        let results: Vec<u64> = deal.lines.iter().flat_map(words).collect();
+        let outcome = Ok((3, deal.charge));
+        assert_eq!(difference(&admitted, outcome, &results), None);
+        for place in 0..results.len() {
+            let mut changed = results.clone();
+            changed[place] += 5;
+            assert_eq!(
+                difference(&admitted, outcome, &changed),
+                Some("1 of 3 lines".to_string())
+            );
+        }
+        assert!(difference(&admitted, Ok((3, deal.charge + 1)), &results).is_some());
+        assert!(difference(&admitted, Ok((2, deal.charge)), &results).is_some());
+        assert!(difference(&admitted, Err((1, 2)), &results).is_some());
+    }
+
+    /// Number and place both count.
+    #[test]
+    fn another_refusal_is_a_difference() {
+        let admitted = Err(Refusal { number: 11, place: 7 });
+        assert_eq!(difference(&admitted, Err((11, 7)), &[]), None);
+        assert!(difference(&admitted, Err((11, 8)), &[]).is_some());
+        assert!(difference(&admitted, Err((10, 7)), &[]).is_some());
+    }
+}

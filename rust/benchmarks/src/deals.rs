@@ -1,0 +1,207 @@
+//! The sheets that are timed.
+
+/// Result words for the most tranches that a sheet can hold.
+pub const ROOM: usize = 192;
+
+/// Ordinary deal of an SA pool, due diligence held, pool composition known.
+const FACTS: [u64; 5] = [4, 0, 0, 1, 1];
+
+/// A row of the pool: exposure amount, nominal amount, risk weight, status.
+type Row = [u64; 4];
+
+/// A row of a tranche: amount, class, months, amount held, three ratings.
+type Tranche = [u64; 7];
+
+/// The sheets on which the versions are compared, with their names in the table.
+pub fn compared() -> [(&'static str, Vec<u64>); 6] {
+    [
+        ("small: 3 rows, 3 tranches, one unrated", small()),
+        ("small, all tranches rated", small_rated()),
+        ("large: 1,000 rows, 32 tranches", large()),
+        ("large, refused at its last word", large_refused()),
+        ("formula: 3 rows, 32 SEC-SA tranches, 3 millionths each", thin()),
+        ("formula: 3 rows, 32 SEC-SA tranches, 1% each", with_tranches(32)),
+    ]
+}
+
+/// The shape of document 01's checked deal, with a junior tranche that is unrated and reaches above the pool charge, so
+/// that its weight needs the exponential.
+pub fn small() -> Vec<u64> {
+    sheet(&few_rows(100), &three_tranches(1_000_000_000, 0))
+}
+
+/// The same, but the junior tranche has a rating.
+fn small_rated() -> Vec<u64> {
+    sheet(&few_rows(100), &three_tranches(1_000_000_000, 14))
+}
+
+/// The most rows and tranches; two tranches to a class here and there, and every second one unrated.
+pub fn large() -> Vec<u64> {
+    let rows = rows(1_000);
+    let amount = nominal(&rows) / 32;
+    let mut class = 1;
+    let tranche = |number: u64| {
+        class += u64::from(number % 5 != 4 && number > 0);
+        let rating = if number.is_multiple_of(2) { 1 + number / 2 } else { 0 };
+        let second = if number.is_multiple_of(8) { 1 + number / 3 } else { 0 };
+        [
+            amount,
+            class,
+            12 + 3 * number,
+            amount / (1 + number % 3),
+            rating,
+            second,
+            0,
+        ]
+    };
+    let tranches: Vec<Tranche> = (0..32).map(tranche).collect();
+    sheet(&rows, &tranches)
+}
+
+/// The large deal with a last word that is no rating code.
+fn large_refused() -> Vec<u64> {
+    let mut sheet = large();
+    sheet.pop();
+    sheet.push(19);
+    sheet
+}
+
+/// Tranches of three millionths of the pool, all above the pool charge, so that each weight needs two exponentials that
+/// lie close together. The risk weights are high, so that the weights lie above the floor.
+fn thin() -> Vec<u64> {
+    sheet(&few_rows(500), &unrated_tranches(32, 3_000))
+}
+
+/// The same pool with the given number of such tranches, but each a hundredth of the pool. Much thinner tranches, and points
+/// very far above the charge, take the proved formula less time.
+pub fn with_tranches(count: u64) -> Vec<u64> {
+    sheet(&few_rows(500), &unrated_tranches(count, 10_000_000))
+}
+
+/// A pool of the given number of rows, with three tranches.
+pub fn with_rows(count: u64) -> Vec<u64> {
+    let rows = rows(count);
+    sheet(&rows, &three_tranches(nominal(&rows), 0))
+}
+
+/// The sheet of the given rows.
+fn sheet(rows: &[Row], tranches: &[Tranche]) -> Vec<u64> {
+    let counts = [rows.len(), tranches.len()].map(|count| [count as u64]);
+    [
+        &FACTS[..],
+        &counts[0],
+        rows.as_flattened(),
+        &counts[1],
+        tranches.as_flattened(),
+    ]
+    .concat()
+}
+
+/// Three rows of 10^9 in all, of the given risk weight or a little less, one of them delinquent.
+fn few_rows(risk_weight: u64) -> [Row; 3] {
+    [
+        [600_000_000, 600_000_000, risk_weight, 0],
+        [350_000_000, 350_000_000, risk_weight - 25, 0],
+        [50_000_000, 50_000_000, risk_weight, 1],
+    ]
+}
+
+/// Rows of varied amounts and risk weights; two of a hundred are delinquent, and two have no known status.
+fn rows(count: u64) -> Vec<Row> {
+    let row = |number: u64| {
+        let varied = number.wrapping_mul(0x9E37_79B9_7F4A_7C15) >> 32;
+        let exposure = 500_000 + varied % 1_000_000;
+        let status = match number % 50 {
+            17 => 1,
+            33 => 2,
+            _ => 0,
+        };
+        [exposure, exposure + varied % 1_000, 40 + varied % 61, status]
+    };
+    (0..count).map(row).collect()
+}
+
+/// The sum of nominal amounts.
+fn nominal(rows: &[Row]) -> u64 {
+    rows.iter().map(|row| row[1]).sum()
+}
+
+/// Senior AAA, BBB, and a junior tranche of the given rating: 70%, 15% and 15% of the pool.
+fn three_tranches(nominal: u64, junior: u64) -> [Tranche; 3] {
+    let (senior, part) = (nominal / 100 * 70, nominal / 100 * 15);
+    [
+        [senior, 1, 72, senior, 1, 0, 0],
+        [part, 2, 60, part / 2, 9, 0, 0],
+        [part, 3, 36, part, junior, 0, 0],
+    ]
+}
+
+/// Unrated tranches of the same amount, a class each, from the top of the pool down.
+fn unrated_tranches(count: u64, amount: u64) -> Vec<Tranche> {
+    (1..=count).map(|class| [amount, class, 60, amount, 0, 0, 0]).collect()
+}
+
+#[cfg(test)]
+mod tests {
+    use super::*;
+    use independent::{Deal, Line};
+
+    /// The exact answer to a sheet that must be accepted.
+    fn deal(sheet: &[u64]) -> Deal {
+        independent::weigh(sheet, ROOM as u64).expect("an accepted sheet")
+    }
+
+    /// Whether a line's weight needs the exponential.
+    fn needs_formula(line: &Line, charge: u64) -> bool {
+        line.approach == 2 && charge >= 1 && line.detachment > charge
+    }
+
+    /// The unrated tranche takes the formula.
+    #[test]
+    fn small_deals_are_as_named() {
+        let small = deal(&small());
+        assert_eq!(
+            small.lines.iter().map(|line| line.approach).collect::<Vec<_>>(),
+            [1, 1, 2]
+        );
+        assert!(needs_formula(&small.lines[2], small.charge));
+        assert!(deal(&small_rated()).lines.iter().all(|line| line.approach == 1));
+    }
+
+    /// Half of the tranches are rated; the damage is found at the last word and not before.
+    #[test]
+    fn large_deal_mixes_approaches_and_its_damaged_form_is_refused_at_the_end() {
+        let large = deal(&large());
+        assert_eq!(large.lines.len(), 32);
+        let count = |approach| large.lines.iter().filter(|line| line.approach == approach).count();
+        assert_eq!((count(1), count(2)), (16, 16));
+        let sheet = large_refused();
+        let refusal = independent::weigh(&sheet, ROOM as u64).expect_err("a refused sheet");
+        assert_eq!((refusal.number, refusal.place), (11, sheet.len() as u64 - 1));
+    }
+
+    /// A lies above the charge, so neither exponential is that of 0; and neither floor nor cap hides the raw weight.
+    #[test]
+    fn unrated_tranches_all_need_two_exponentials() {
+        for sheet in [thin(), with_tranches(32)] {
+            let deal = deal(&sheet);
+            assert_eq!(deal.lines.len(), 32);
+            let both = |line: &Line| needs_formula(line, deal.charge) && line.attachment > deal.charge;
+            assert!(deal.lines.iter().all(both));
+            assert!(deal.lines.iter().all(|line| line.amounts[0].weight > 1_500));
+            assert!(
+                deal.lines[0].amounts[0].weight < 100 * 475,
+                "below the least risk weight, so below the cap"
+            );
+        }
+    }
+
+    /// With every number of rows the junior tranche takes the formula, so that the steps differ in rows alone.
+    #[test]
+    fn growing_deals_keep_their_approaches() {
+        for count in [1, 10, 100, 250, 500, 1_000] {
+            let deal = deal(&with_rows(count));
+            assert!(needs_formula(&deal.lines[2], deal.charge), "{count} rows");
+        }
+    }
+}

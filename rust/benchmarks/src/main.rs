@@ -1,0 +1,108 @@
+//! Times of the proved calculator beside a plain double-precision one and the exact independent one.
+//!
+//! `cargo run --release -p benchmarks` prints, as text that can stand in a README: the time per sheet of the three on
+//! some sheets, with ratios; sheets per second on one core and on all; and how the time grows with rows and tranches.
+//! Before a sheet is timed, its answers are compared. `--quick` takes fewer rounds and shorter runs.
+
+#![forbid(unsafe_code)]
+
+mod agreement;
+mod deals;
+mod growth;
+mod machine;
+mod table;
+mod timing;
+mod versions;
+
+use std::env;
+use std::process::ExitCode;
+use table::{duration, table};
+use timing::{Plan, Work};
+
+/// Reads the flag and runs. Status 1: an answer of the proved version is not admitted. Status 2: another flag.
+fn main() -> ExitCode {
+    let arguments: Vec<String> = env::args().skip(1).collect();
+    let plan = match arguments.iter().map(String::as_str).collect::<Vec<_>>()[..] {
+        [] => timing::FULL,
+        ["--quick"] => timing::QUICK,
+        _ => {
+            eprintln!("benchmarks: the only flag is --quick");
+            return ExitCode::from(2);
+        }
+    };
+    match run(&plan) {
+        Ok(()) => ExitCode::SUCCESS,
+        Err(difference) => {
+            eprintln!("benchmarks: {difference}");
+            ExitCode::FAILURE
+        }
+    }
+}
+
+/// Prints all parts in order. An answer of the proved version that document 01 does not admit ends the run.
+fn run(plan: &Plan) -> Result<(), String> {
+    println!("{}", machine::description());
+    compare(plan)?;
+    throughput(plan);
+    for series in [growth::by_rows(), growth::by_tranches()] {
+        println!("\n{}", series.measured(plan)?);
+    }
+    Ok(())
+}
+
+/// The time per sheet of the three versions, and the ratios of their medians. All sheets and versions are timed in turn.
+fn compare(plan: &Plan) -> Result<(), String> {
+    let deals = deals::compared();
+    let mut remarks = Vec::new();
+    for (name, sheet) in &deals {
+        remarks.extend(agreement::check(name, sheet)?);
+    }
+    let works = deals
+        .iter()
+        .flat_map(|(_, sheet)| versions::ALL.map(|version| Work { version, sheet }));
+    let times = timing::rounds(&works.collect::<Vec<_>>(), plan);
+    let names = deals.iter().map(|(name, _)| name.to_string());
+    let lines: Vec<_> = names
+        .zip(times.as_chunks().0)
+        .map(|(name, times)| compared(name, times))
+        .collect();
+    println!(
+        "\nTime per sheet: median of {} rounds; sheets and versions timed in turn.",
+        plan.rounds
+    );
+    println!("Ratios: of the medians; in brackets the quartiles of the ratio round by round.\n");
+    let head = ["sheet", "proved", "plain", "exact", "proved/plain", "proved/exact"];
+    print!("{}", table(&head, &lines));
+    println!("\nThe proved answers are all among those that document 01 admits.");
+    if remarks.is_empty() {
+        println!("So are the plain ones, on these sheets.");
+    }
+    remarks.iter().for_each(|remark| println!("{remark}"));
+    Ok(())
+}
+
+/// A sheet's line of the table, from the times of its three versions.
+fn compared(name: String, times: &[Vec<f64>; 3]) -> Vec<String> {
+    let [proved, plain, exact] = times;
+    let medians = [proved, plain, exact].map(|times| duration(timing::median(times)));
+    let ratios = [plain, exact].map(|other| timing::ratio(proved, other).to_string());
+    [&[name][..], &medians, &ratios].concat()
+}
+
+/// Sheets per second of the proved version, on one core and on all of them.
+fn throughput(plan: &Plan) {
+    let cores = machine::cores();
+    println!(
+        "\nProved sheets per second: median of {} runs. Other work on the machine lowers them.\n",
+        plan.runs
+    );
+    let line = |(name, sheet): (&str, Vec<u64>)| {
+        let version = versions::proved;
+        let [one, all] = timing::rates(&Work { version, sheet: &sheet }, [1, cores], plan);
+        let ratio = format!("{:.2}", all / one);
+        vec![name.to_string(), table::grouped(one), table::grouped(all), ratio]
+    };
+    let lines = [("small", deals::small()), ("large", deals::large())].map(line);
+    let all = format!("{cores} cores");
+    print!("{}", table(&["sheet", "one core", &all, "all/one"], &lines));
+}

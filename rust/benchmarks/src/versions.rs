@@ -1,0 +1,25 @@
+//! The three versions in the one form that is timed. Inputs and answers pass through `black_box`, so that the compiler
+//! can neither foresee the sheet nor drop the answer.
+
+use std::hint::black_box;
+
+/// Weighs a sheet once. The results are lent to every version; the exact one makes its own.
+pub type Version = fn(&[u64], &mut [u64]);
+
+/// The versions in the order of the table's columns.
+pub const ALL: [Version; 3] = [proved, plain, exact];
+
+/// The proved version, through the safe crate.
+pub fn proved(sheet: &[u64], results: &mut [u64]) {
+    let _ = black_box(tranche_weights::weigh_words(black_box(sheet), black_box(results)));
+}
+
+/// The plain double-precision version.
+pub fn plain(sheet: &[u64], results: &mut [u64]) {
+    let _ = black_box(plain::weigh(black_box(sheet), black_box(results)));
+}
+
+/// The exact independent version.
+pub fn exact(sheet: &[u64], results: &mut [u64]) {
+    let _ = black_box(independent::weigh(black_box(sheet), black_box(results.len() as u64)));
+}

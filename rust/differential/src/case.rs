@@ -1,0 +1,133 @@
+//! One sheet of a run with all that is done with it: its room for results, its file, and a second sheet made from it.
+
+use crate::damage;
+use crate::kind::{File, Kind, Relation, Room};
+use crate::limits;
+use crate::pool;
+use crate::random::Random;
+use crate::sheet::{file_form, Deal, Facts, FILE_BYTES, LINE_WORDS};
+use crate::tranches;
+
+/// One sheet of a run. It is made from seed and index alone; making another one reuses its lists.
+#[derive(Debug)]
+pub struct Case {
+    /// What the sheet is made to show.
+    pub kind: Kind,
+    /// The sheet's words.
+    pub sheet: Vec<u64>,
+    /// What sort of room is lent for the results.
+    pub room_kind: Room,
+    /// How many result words are lent.
+    pub room: usize,
+    /// What sort of file is made of the sheet.
+    pub file_kind: File,
+    /// The file's bytes.
+    pub file: Vec<u8>,
+    /// How the second sheet follows from the first.
+    pub relation: Relation,
+    /// The second sheet's words.
+    pub second: Vec<u64>,
+    /// The tranche whose ratings the second sheet changes, from 0.
+    pub rerated: usize,
+    /// The deal that the sheet was written from.
+    deal: Deal,
+}
+
+impl Case {
+    /// The sheet of this index in the run of this seed.
+    pub fn new(seed: u64, index: u64) -> Case {
+        let mut case = Case::blank();
+        case.make(seed, index);
+        case
+    }
+
+    /// Empty lists, for sheets to be made over them.
+    pub fn blank() -> Case {
+        Case {
+            kind: Kind::Ordinary,
+            sheet: Vec::new(),
+            room_kind: Room::Ample,
+            room: 0,
+            file_kind: File::Unused,
+            file: Vec::new(),
+            relation: Relation::Unused,
+            second: Vec::new(),
+            rerated: 0,
+            deal: Deal::default(),
+        }
+    }
+
+    /// Makes the sheet of this index in the run of this seed, over the one that was there.
+    pub fn make(&mut self, seed: u64, index: u64) {
+        let mut random = Random::of_sheet(seed, index);
+        self.kind = Kind::draw(&mut random);
+        let sound = if self.kind.is_sound() {
+            self.kind
+        } else {
+            Kind::draw_sound(&mut random)
+        };
+        fill_deal(sound, &mut random, &mut self.deal);
+        self.deal.write(&mut self.sheet);
+        self.room_kind = Room::draw(&mut random);
+        self.room = self.room_kind.words(LINE_WORDS * self.deal.tranches.len(), &mut random);
+        self.relation = Relation::Unused;
+        if self.kind.is_sound() {
+            self.make_second(&mut random);
+        } else {
+            damage::apply(self.kind, &mut random, self.deal.layout(), &mut self.sheet);
+        }
+        self.make_file(&mut random);
+    }
+
+    /// Makes the second sheet of a sound one.
+    fn make_second(&mut self, random: &mut Random) {
+        self.relation = Relation::draw(random);
+        match self.relation {
+            Relation::Unused => return,
+            Relation::RowOrder => random.shuffle(&mut self.deal.rows),
+            Relation::OtherRatings => {
+                self.rerated = random.below(self.deal.tranches.len() as u64) as usize;
+                self.deal.tranches[self.rerated].ratings = tranches::any_ratings(random);
+            }
+            Relation::WithoutCap => self.deal.facts.composition = 0,
+        }
+        self.deal.write(&mut self.second);
+    }
+
+    /// Makes the file, and spoils its length where its sort says so.
+    fn make_file(&mut self, random: &mut Random) {
+        self.file_kind = File::draw(random);
+        self.file.clear();
+        if self.file_kind == File::Unused {
+            return;
+        }
+        self.file.extend(file_form(&self.sheet));
+        let length = match self.file_kind {
+            File::Ragged => (self.file.len() + random.below(16) as usize).saturating_sub(8),
+            File::Stretched if random.once_in(8) => 4 * FILE_BYTES + random.below(9) as usize,
+            File::Stretched => FILE_BYTES + random.below(33) as usize - 16,
+            File::Unused | File::Whole => self.file.len(),
+        };
+        self.file.resize(length, random.below(256) as u8);
+    }
+}
+
+/// Fills a deal of a sound kind: facts, pool and tranches.
+fn fill_deal(kind: Kind, random: &mut Random, deal: &mut Deal) {
+    if kind == Kind::Limits {
+        return limits::fill(random, deal);
+    }
+    let resecuritisation = match kind {
+        Kind::Resecuritisation => true,
+        Kind::Ordinary | Kind::UnknownShare | Kind::AllUnknown | Kind::AllDelinquent => false,
+        _ => random.once_in(5),
+    };
+    deal.facts = Facts {
+        pool_kind: 0,
+        resecuritisation: u64::from(resecuritisation),
+        due_diligence: u64::from(!random.once_in(12)),
+        composition: random.below(2),
+    };
+    pool::fill(kind, random, deal);
+    tranches::fill(kind, random, deal);
+}

@@ -1,0 +1,49 @@
+//! All comparisons of one sheet.
+
+use crate::case::Case;
+use crate::difference::Difference;
+use crate::kind::{File, Relation};
+use crate::lent::Lent;
+use crate::library::Library;
+use crate::second;
+use crate::tally::Tally;
+use crate::text;
+use crate::words;
+use independent::{Deal, Refusal};
+
+/// Compares all that is compared of one sheet and notes what was met.
+pub fn check(library: &Library, case: &Case, lent: &mut Lent, tally: &mut Tally) -> Result<(), Difference> {
+    let expected = independent::weigh(&case.sheet, case.room as u64);
+    let said = lent.lend(library.weigh, &case.sheet, case.room);
+    words::compare(&expected, &said, lent)?;
+    tally.note(case, &expected, lent);
+    if case.file_kind != File::Unused {
+        tally.note_file(&text::compare(library.report, &case.file)?);
+    }
+    check_second(library, case, &expected, lent, tally)
+}
+
+/// Compares the second sheet with the first.
+fn check_second(
+    library: &Library,
+    case: &Case,
+    expected: &Result<Deal, Refusal>,
+    lent: &mut Lent,
+    tally: &mut Tally,
+) -> Result<(), Difference> {
+    let compared = match case.relation {
+        Relation::Unused => true,
+        Relation::RowOrder => second::compare_row_order(library, case, lent).map(|()| true)?,
+        Relation::OtherRatings => second::compare_other_ratings(library, case, lent)?,
+        Relation::WithoutCap => expected.as_ref().is_ok_and(|deal| {
+            if second::cap_decided(deal, case) {
+                tally.note_cap();
+            }
+            true
+        }),
+    };
+    if compared {
+        tally.note_second(case.relation);
+    }
+    Ok(())
+}

@@ -1,0 +1,208 @@
+//! Damage to sheets, so that every refusal and every order of faults occurs.
+
+use crate::kind::Kind;
+use crate::random::Random;
+use crate::sheet::{Layout, FILE_BYTES, MONTHS, POOL_AMOUNT, RISK_WEIGHT, ROWS, TRANCHES, TRANCHE_AMOUNT};
+
+/// Values at which some field's rule changes, and the ends of 32, 63 and 64 bits.
+const EDGES: [u64; 38] = [
+    0,
+    1,
+    2,
+    3,
+    4,
+    5,
+    18,
+    19,
+    20,
+    21,
+    24,
+    25,
+    TRANCHES - 1,
+    TRANCHES,
+    TRANCHES + 1,
+    ROWS - 1,
+    ROWS,
+    ROWS + 1,
+    MONTHS - 1,
+    MONTHS,
+    MONTHS + 1,
+    RISK_WEIGHT - 1,
+    RISK_WEIGHT,
+    RISK_WEIGHT + 1,
+    POOL_AMOUNT - 1,
+    POOL_AMOUNT,
+    POOL_AMOUNT + 1,
+    TRANCHE_AMOUNT - 1,
+    TRANCHE_AMOUNT,
+    TRANCHE_AMOUNT + 1,
+    (1 << 32) - 1,
+    1 << 32,
+    (1 << 32) + 1,
+    (1 << 63) - 1,
+    1 << 63,
+    (1 << 63) + 1,
+    u64::MAX - 1,
+    u64::MAX,
+];
+
+/// Damages a sheet as its kind says. `layout` holds the places of the sheet before any damage.
+pub fn apply(kind: Kind, random: &mut Random, layout: Layout, words: &mut Vec<u64>) {
+    match kind {
+        Kind::Truncated => truncate(random, layout, words),
+        Kind::WordsAdded => add_words(random, words),
+        Kind::EdgeWord => set_edge(random, layout, words),
+        Kind::Swapped => swap(random, layout, words),
+        Kind::PoolKind => set(words, Layout::POOL_KIND, random.between(1, 2)),
+        Kind::SeveralDamages => {
+            for _ in 0..random.between(2, 4) {
+                apply(one_damage(random), random, layout, words);
+            }
+        }
+        Kind::RandomWords => random_words(random, words),
+        sound => unreachable!("{sound:?} sheets are not damaged"),
+    }
+}
+
+/// One of several damages; those that leave the places as they are come more often.
+fn one_damage(random: &mut Random) -> Kind {
+    let rare = random.pick(&[Kind::Truncated, Kind::WordsAdded, Kind::PoolKind]);
+    random.pick(&[Kind::EdgeWord, Kind::EdgeWord, Kind::EdgeWord, Kind::Swapped, rare])
+}
+
+/// Sets a word, where the sheet reaches so far.
+fn set(words: &mut [u64], place: usize, word: u64) {
+    if let Some(old) = words.get_mut(place) {
+        *old = word;
+    }
+}
+
+/// Cuts the sheet anywhere, or where a section begins or ends.
+fn truncate(random: &mut Random, layout: Layout, words: &mut Vec<u64>) {
+    let count = layout.tranche_count();
+    let special = [
+        0,
+        1,
+        Layout::POOL_COUNT,
+        Layout::POOL_COUNT + 1,
+        count,
+        count + 1,
+        layout.words() - 1,
+    ];
+    let length = match random.once_in(3) {
+        true => random.pick(&special),
+        false => random.below(words.len().max(1) as u64) as usize,
+    };
+    words.truncate(length);
+}
+
+/// Adds a few words; now and then so many that the sheet is longer than any sound one.
+fn add_words(random: &mut Random, words: &mut Vec<u64>) {
+    let count = match random.once_in(40) {
+        true => FILE_BYTES / 8 + random.below(3) as usize - 1,
+        false => random.between(1, 8) as usize,
+    };
+    words.extend((0..count).map(|_| random.pick(&EDGES)));
+}
+
+/// Draws the place of a word: each sort of field comes often, however many rows there are.
+fn place(random: &mut Random, layout: Layout, words: &[u64]) -> usize {
+    let row = layout.row(random.below(layout.rows as u64) as usize);
+    let tranche = layout.tranche(random.below(layout.tranches as u64) as usize);
+    match random.below(12) {
+        0 => Layout::FACTS_COUNT,
+        1 => Layout::POOL_KIND + random.below(4) as usize,
+        2 => Layout::POOL_COUNT,
+        3 => layout.tranche_count(),
+        4..=6 => row + random.below(Layout::ROW_WORDS as u64) as usize,
+        7..=10 => tranche + random.below(Layout::TRANCHE_WORDS as u64) as usize,
+        _ => random.below(words.len().max(1) as u64) as usize,
+    }
+}
+
+/// The values at which the rule of the field at this place changes ("The deal sheet").
+fn own_edges(layout: Layout, place: usize) -> &'static [u64] {
+    let count = layout.tranche_count();
+    match place {
+        Layout::FACTS_COUNT => &[0, 3, 4, 5],
+        Layout::POOL_KIND..Layout::POOL_COUNT => &[0, 1, 2, 3],
+        Layout::POOL_COUNT => &[0, 1, ROWS, ROWS + 1],
+        _ if place < count => match (place - layout.row(0)) % Layout::ROW_WORDS {
+            0 | 1 => &[0, 1, POOL_AMOUNT, POOL_AMOUNT + 1],
+            2 => &[0, RISK_WEIGHT, RISK_WEIGHT + 1],
+            _ => &[0, 1, 2, 3, 4],
+        },
+        _ if place == count => &[0, 1, TRANCHES, TRANCHES + 1],
+        _ => match (place - layout.tranche(0)) % Layout::TRANCHE_WORDS {
+            0 | Layout::HELD => &[0, 1, TRANCHE_AMOUNT, TRANCHE_AMOUNT + 1],
+            Layout::CLASS => &[0, 1, 2, TRANCHES + 1],
+            Layout::MONTHS => &[0, 1, MONTHS, MONTHS + 1],
+            _ => &[0, 1, 18, 19, 20, 21, 24, 25],
+        },
+    }
+}
+
+/// Sets one word to an edge value of its own field or of any, or to one more or less than it was; now and then an
+/// amount held to one more than its tranche's amount.
+fn set_edge(random: &mut Random, layout: Layout, words: &mut [u64]) {
+    let place = place(random, layout, words);
+    let Some(&old) = words.get(place) else { return };
+    match random.below(8) {
+        0 => set(words, place, old.wrapping_add(1)),
+        1 => set(words, place, old.wrapping_sub(1)),
+        2 => {
+            let tranche = layout.tranche(random.below(layout.tranches as u64) as usize);
+            let amount = words.get(tranche).copied().unwrap_or(0);
+            set(words, tranche + Layout::HELD, amount.wrapping_add(1));
+        }
+        3..=5 => set(words, place, random.pick(own_edges(layout, place))),
+        _ => set(words, place, random.pick(&EDGES)),
+    }
+}
+
+/// Swaps two words, where the sheet reaches so far.
+fn swap(random: &mut Random, layout: Layout, words: &mut [u64]) {
+    let one = place(random, layout, words);
+    let other = place(random, layout, words);
+    if one.max(other) < words.len() {
+        words.swap(one, other);
+    }
+}
+
+/// Random words in place of the sheet: of any size, small ones, or edge values; mostly after facts that are right, so
+/// that later words are judged.
+fn random_words(random: &mut Random, words: &mut Vec<u64>) {
+    words.clear();
+    if !random.once_in(4) {
+        let count = random.between(1, 3);
+        words.extend([4, 0, random.below(2), random.below(2), random.below(2), count]);
+    }
+    let length = random.below(40);
+    let sort = random.below(3);
+    let mut draw = || match sort {
+        0 => random.word(),
+        1 => random.below(4),
+        _ => random.pick(&EDGES),
+    };
+    words.extend((0..length).map(|_| draw()));
+}
+
+#[cfg(test)]
+mod tests {
+    use super::*;
+
+    /// Damage keeps to the words there are, whatever was cut before: no sheet makes it panic, and an empty one stays
+    /// possible.
+    #[test]
+    fn several_damages_on_a_short_sheet() {
+        let layout = Layout { rows: 1, tranches: 1 };
+        let mut empty = false;
+        for index in 0..5_000 {
+            let mut random = Random::of_sheet(1, index);
+            let mut words = vec![1; layout.words()];
+            apply(Kind::SeveralDamages, &mut random, layout, &mut words);
+            empty |= words.is_empty();
+        }
+        assert!(empty);
+    }
+}

@@ -1,0 +1,102 @@
+//! What the two sides may differ in, and a difference that was found.
+
+use std::fmt;
+
+/// The compared part in which the sides differ.
+#[derive(Debug, Clone, Copy, PartialEq, Eq)]
+pub enum Part {
+    /// One side weighs, the other refuses.
+    Outcome,
+    /// The refusal's number.
+    Number,
+    /// The refusal's place.
+    Place,
+    /// The tranche count.
+    Count,
+    /// The pool charge.
+    Charge,
+    /// A line's approach.
+    Approach,
+    /// A line's attachment point.
+    Attachment,
+    /// A line's detachment point.
+    Detachment,
+    /// A line's weight.
+    Weight,
+    /// A line's risk-weighted amount.
+    RiskWeighted,
+    /// A line's capital.
+    Capital,
+    /// A word after the lines was written.
+    AfterLines,
+    /// A result word was written on a refusal.
+    ResultsOnRefusal,
+    /// The report's text.
+    Text,
+    /// The answer changes with the order of the pool's rows.
+    RowOrder,
+    /// A line changes with another tranche's ratings.
+    OtherRatings,
+    /// One side stopped with a panic.
+    Panic,
+}
+
+impl fmt::Display for Part {
+    fn fmt(&self, to: &mut fmt::Formatter<'_>) -> fmt::Result {
+        to.write_str(match self {
+            Part::Outcome => "weighed or refused",
+            Part::Number => "refusal number",
+            Part::Place => "refusal place",
+            Part::Count => "tranche count",
+            Part::Charge => "pool charge",
+            Part::Approach => "approach",
+            Part::Attachment => "attachment point",
+            Part::Detachment => "detachment point",
+            Part::Weight => "weight",
+            Part::RiskWeighted => "risk-weighted amount",
+            Part::Capital => "capital",
+            Part::AfterLines => "a word after the lines was written",
+            Part::ResultsOnRefusal => "results were written on a refusal",
+            Part::Text => "report text",
+            Part::RowOrder => "order of rows",
+            Part::OtherRatings => "another tranche's ratings",
+            Part::Panic => "a panic",
+        })
+    }
+}
+
+/// A difference between the two sides.
+#[derive(Debug, Clone, PartialEq, Eq)]
+pub struct Difference {
+    /// In which part.
+    pub part: Part,
+    /// What it should be.
+    pub expected: String,
+    /// What the compared library said.
+    pub said: String,
+}
+
+impl Difference {
+    /// A difference in this part.
+    pub fn new(part: Part, expected: impl fmt::Debug, said: impl fmt::Debug) -> Difference {
+        Difference {
+            part,
+            expected: format!("{expected:?}"),
+            said: format!("{said:?}"),
+        }
+    }
+}
+
+impl fmt::Display for Difference {
+    fn fmt(&self, to: &mut fmt::Formatter<'_>) -> fmt::Result {
+        write!(to, "{}: expected {}, said {}", self.part, self.expected, self.said)
+    }
+}
+
+/// No difference where both are equal, else one in this part.
+pub fn same<T: PartialEq + fmt::Debug>(part: Part, expected: T, said: T) -> Result<(), Difference> {
+    if expected == said {
+        return Ok(());
+    }
+    Err(Difference::new(part, expected, said))
+}

@@ -1,0 +1,246 @@
+//! The kinds of sheets, the kinds of room for results and the kinds of files that a run is made of, each with its name
+//! and its share.
+
+use crate::random::Random;
+
+/// An entry of a table of kinds: the kind, its name in the printed counts, and its share of the draws.
+type Entry<K> = (K, &'static str, u64);
+
+/// Draws a kind by the shares of its table.
+fn draw<K: Copy>(table: &[Entry<K>], random: &mut Random) -> K {
+    let all = table.iter().map(|entry| entry.2).sum();
+    let mut left = random.below(all);
+    for &(kind, _, share) in table {
+        if left < share {
+            return kind;
+        }
+        left -= share;
+    }
+    unreachable!("the draw is below the sum of the shares")
+}
+
+/// What a sheet is made to show.
+#[derive(Debug, Clone, Copy, PartialEq, Eq)]
+pub enum Kind {
+    /// An ordinary securitisation of any sort.
+    Ordinary,
+    /// A re-securitisation of any sort.
+    Resecuritisation,
+    /// Points at the pool charge or a few millionths beside it.
+    AroundCharge,
+    /// Tranches of 0, 1 or 2 millionths.
+    Thin,
+    /// Tranches that together pass the pool.
+    Overshoot,
+    /// Unknown rows just below, at and just above 5% of the exposure.
+    UnknownShare,
+    /// All rows of status not known.
+    AllUnknown,
+    /// All rows delinquent.
+    AllDelinquent,
+    /// All risk weights zero and none late: the pool charge is 0.
+    ZeroCharge,
+    /// A pool charge of a few millionths, so that the formula's exponents are large.
+    SmallCharge,
+    /// Ratings on every tranche.
+    Rated,
+    /// Up to 1,000 rows.
+    LargePool,
+    /// Every word at its lowest or highest allowed value.
+    Limits,
+    /// Cut at a random place.
+    Truncated,
+    /// Words added after the last section.
+    WordsAdded,
+    /// One word set to an edge value.
+    EdgeWord,
+    /// Two words swapped.
+    Swapped,
+    /// Several damages at once.
+    SeveralDamages,
+    /// Random words.
+    RandomWords,
+    /// Pool kind 1 or 2.
+    PoolKind,
+}
+
+impl Kind {
+    /// All kinds, in the order of the enum.
+    pub const TABLE: [Entry<Kind>; 20] = [
+        (Kind::Ordinary, "ordinary", 24),
+        (Kind::Resecuritisation, "re-securitisation", 10),
+        (Kind::AroundCharge, "points around the charge", 12),
+        (Kind::Thin, "thin tranches", 10),
+        (Kind::Overshoot, "tranches pass the pool", 5),
+        (Kind::UnknownShare, "unknown share near 5%", 8),
+        (Kind::AllUnknown, "all rows unknown", 2),
+        (Kind::AllDelinquent, "all rows delinquent", 2),
+        (Kind::ZeroCharge, "charge 0", 3),
+        (Kind::SmallCharge, "small charge", 6),
+        (Kind::Rated, "rated", 10),
+        (Kind::LargePool, "large pool", 3),
+        (Kind::Limits, "at the limits", 3),
+        (Kind::Truncated, "truncated", 4),
+        (Kind::WordsAdded, "words added", 3),
+        (Kind::EdgeWord, "one edge word", 16),
+        (Kind::Swapped, "two words swapped", 4),
+        (Kind::SeveralDamages, "several damages", 5),
+        (Kind::RandomWords, "random words", 4),
+        (Kind::PoolKind, "pool kind 1 or 2", 1),
+    ];
+
+    /// How many entries of the table, from its start, are kinds of sound sheets.
+    const SOUND: usize = 13;
+
+    /// Draws a kind.
+    pub fn draw(random: &mut Random) -> Kind {
+        draw(&Kind::TABLE, random)
+    }
+
+    /// Draws a kind of sound sheet, to be damaged afterwards.
+    pub fn draw_sound(random: &mut Random) -> Kind {
+        draw(&Kind::TABLE[..Kind::SOUND], random)
+    }
+
+    /// Whether sheets of this kind keep every limit of document 01's sheet.
+    pub fn is_sound(self) -> bool {
+        (self as usize) < Kind::SOUND
+    }
+
+    /// The name in the printed counts.
+    pub fn name(self) -> &'static str {
+        Kind::TABLE[self as usize].1
+    }
+}
+
+/// How many result words are lent.
+#[derive(Debug, Clone, Copy, PartialEq, Eq)]
+pub enum Room {
+    /// More than the sheet's tranches need.
+    Ample,
+    /// Just what they need.
+    Exact,
+    /// One word less.
+    OneLess,
+    /// Any number that is too small.
+    Short,
+    /// No word.
+    Nothing,
+}
+
+impl Room {
+    /// All kinds of room, in the order of the enum.
+    pub const TABLE: [Entry<Room>; 5] = [
+        (Room::Ample, "room to spare", 30),
+        (Room::Exact, "exact room", 6),
+        (Room::OneLess, "one word short", 1),
+        (Room::Short, "some words short", 1),
+        (Room::Nothing, "no room", 1),
+    ];
+
+    /// Draws a kind of room.
+    pub fn draw(random: &mut Random) -> Room {
+        draw(&Room::TABLE, random)
+    }
+
+    /// The number of words to lend, where the lines need `needed` words.
+    pub fn words(self, needed: usize, random: &mut Random) -> usize {
+        match self {
+            Room::Ample => needed + random.between(1, 24) as usize,
+            Room::Exact => needed,
+            Room::OneLess => needed.saturating_sub(1),
+            Room::Short => random.below(needed.max(1) as u64) as usize,
+            Room::Nothing => 0,
+        }
+    }
+}
+
+/// What file a sheet is also handed in as.
+#[derive(Debug, Clone, Copy, PartialEq, Eq)]
+pub enum File {
+    /// No file is made.
+    Unused,
+    /// The sheet's words.
+    Whole,
+    /// Some bytes more or less than whole words.
+    Ragged,
+    /// Made about as long as the longest file, or far longer.
+    Stretched,
+}
+
+impl File {
+    /// All kinds of files, in the order of the enum.
+    pub const TABLE: [Entry<File>; 4] = [
+        (File::Unused, "no file", 96),
+        (File::Whole, "whole file", 24),
+        (File::Ragged, "ragged file", 4),
+        (File::Stretched, "stretched file", 1),
+    ];
+
+    /// Draws a kind of file.
+    pub fn draw(random: &mut Random) -> File {
+        draw(&File::TABLE, random)
+    }
+}
+
+/// A second sheet, made from the first, whose answer is known from the first's.
+#[derive(Debug, Clone, Copy, PartialEq, Eq)]
+pub enum Relation {
+    /// No second sheet.
+    Unused,
+    /// The rows in another order: the same answer.
+    RowOrder,
+    /// Other ratings on one tranche: the other tranches' lines are the same.
+    OtherRatings,
+    /// Composition not known: shows by the independent answer whether the cap decided.
+    WithoutCap,
+}
+
+impl Relation {
+    /// All relations, in the order of the enum.
+    pub const TABLE: [Entry<Relation>; 4] = [
+        (Relation::Unused, "no second sheet", 5),
+        (Relation::RowOrder, "rows in another order", 1),
+        (Relation::OtherRatings, "another tranche's ratings", 1),
+        (Relation::WithoutCap, "without the cap", 1),
+    ];
+
+    /// Draws a relation.
+    pub fn draw(random: &mut Random) -> Relation {
+        draw(&Relation::TABLE, random)
+    }
+}
+
+#[cfg(test)]
+mod tests {
+    use super::*;
+
+    /// Counts are kept by the enum's order, so each table must follow it.
+    #[test]
+    fn tables_follow_the_enums() {
+        assert!((0..).zip(Kind::TABLE).all(|(place, entry)| entry.0 as usize == place));
+        assert!((0..).zip(Room::TABLE).all(|(place, entry)| entry.0 as usize == place));
+        assert!((0..).zip(File::TABLE).all(|(place, entry)| entry.0 as usize == place));
+        assert!((0..)
+            .zip(Relation::TABLE)
+            .all(|(place, entry)| entry.0 as usize == place));
+    }
+
+    /// The last sound kind is the one at the limits.
+    #[test]
+    fn sound_kinds_end_with_the_limits() {
+        assert!(Kind::Limits.is_sound());
+        assert!(!Kind::Truncated.is_sound());
+    }
+
+    /// Every kind is drawn, about as often as its share says.
+    #[test]
+    fn draws_follow_the_shares() {
+        let mut random = Random::of_sheet(3, 0);
+        let mut counts = [0u64; Room::TABLE.len()];
+        (0..39_000).for_each(|_| counts[Room::draw(&mut random) as usize] += 1);
+        for (count, (_, name, share)) in counts.iter().zip(Room::TABLE) {
+            assert!((share * 800..share * 1_200).contains(count), "{name}: {count}");
+        }
+    }
+}

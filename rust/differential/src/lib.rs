@@ -1,0 +1,37 @@
+//! Holds the proved library of tranche weights against the independent implementation of document 01 ("the scope
+//! paper"), on seeded random sheets.
+//!
+//! Every sheet is made from a seed and its index alone ([`Case`]), so that a run can be split over threads and any
+//! sheet can be made again. [`Run::go`] compares all sheets and gives the counts of what it met ([`Tally`]) or the
+//! first difference ([`Found`]). A run counts only where [`Tally::missing`] is empty.
+
+#![forbid(unsafe_code)]
+#![deny(missing_docs)]
+
+mod case;
+mod check;
+mod damage;
+mod difference;
+mod kind;
+mod lent;
+mod library;
+mod limits;
+mod pool;
+mod random;
+mod run;
+mod second;
+pub mod sheet;
+pub mod show;
+mod tally;
+mod text;
+mod tranches;
+mod words;
+
+pub use case::Case;
+pub use check::check;
+pub use difference::{Difference, Part};
+pub use kind::{File, Kind, Relation, Room};
+pub use lent::Lent;
+pub use library::{Answer, Library};
+pub use run::{Found, Run};
+pub use tally::{Feature, Tally};

@@ -1,0 +1,90 @@
+//! Sheets at the limits: every word at its lowest or highest allowed value.
+
+use crate::random::Random;
+use crate::sheet::{
+    status, Deal, Facts, Row, Tranche, MONTHS, POOL_AMOUNT, RISK_WEIGHT, ROWS, TRANCHES, TRANCHE_AMOUNT,
+};
+
+/// At which end the words of one field are.
+#[derive(Clone, Copy)]
+enum Ends {
+    /// All at the lowest value.
+    Low,
+    /// All at the highest value.
+    High,
+    /// Each at one of the two.
+    Either,
+}
+
+impl Ends {
+    /// Draws the ends of one field. The highest comes most often, so that the largest sums occur.
+    fn draw(random: &mut Random) -> Ends {
+        random.pick(&[Ends::Low, Ends::High, Ends::High, Ends::Either])
+    }
+
+    /// Draws one word of the field.
+    fn word(self, random: &mut Random, low: u64, high: u64) -> u64 {
+        match self {
+            Ends::Low => low,
+            Ends::High => high,
+            Ends::Either => random.pick(&[low, high]),
+        }
+    }
+}
+
+/// Fills the whole deal with words at the limits.
+pub fn fill(random: &mut Random, deal: &mut Deal) {
+    deal.facts = Facts {
+        pool_kind: 0,
+        resecuritisation: random.below(2),
+        due_diligence: u64::from(!random.once_in(4)),
+        composition: random.below(2),
+    };
+    fill_rows(random, deal);
+    fill_tranches(random, deal);
+}
+
+/// One row or 1,000 of them.
+fn fill_rows(random: &mut Random, deal: &mut Deal) {
+    let count = random.pick(&[1, 1, 1, ROWS]);
+    let [exposures, nominals, weights, statuses] = [(); 4].map(|_| Ends::draw(random));
+    deal.rows.clear();
+    for _ in 0..count {
+        let ordinary = statuses.word(random, status::PAYING, status::NOT_KNOWN);
+        let resecuritisation = deal.facts.resecuritisation == 1;
+        deal.rows.push(Row {
+            exposure: exposures.word(random, 1, POOL_AMOUNT),
+            nominal: nominals.word(random, 1, POOL_AMOUNT),
+            risk_weight: weights.word(random, 0, RISK_WEIGHT),
+            status: if resecuritisation { status::TRANCHE } else { ordinary },
+        });
+    }
+}
+
+/// One tranche or 32 of them; the lowest class is the one before, the highest one more.
+fn fill_tranches(random: &mut Random, deal: &mut Deal) {
+    let count = random.pick(&[1, TRANCHES]);
+    let [amounts, classes, months, held, ratings] = [(); 5].map(|_| Ends::draw(random));
+    deal.tranches.clear();
+    let mut class = 1;
+    for _ in 0..count {
+        let amount = amounts.word(random, 1, TRANCHE_AMOUNT);
+        deal.tranches.push(Tranche {
+            amount,
+            class,
+            months: months.word(random, 1, MONTHS),
+            held: held.word(random, 0, amount),
+            ratings: [(); 3].map(|_| rating(ratings, random)),
+        });
+        class = classes.word(random, class, class + 1);
+    }
+}
+
+/// None or the last code; where either may come, also the ends of the two lists of grades.
+fn rating(ends: Ends, random: &mut Random) -> u64 {
+    match ends {
+        Ends::Low => 0,
+        Ends::High => 24,
+        Ends::Either => random.pick(&[0, 1, 18, 21, 24]),
+    }
+}

@@ -1,0 +1,126 @@
+//! The second sheet: its answer is known from the first sheet's.
+
+use crate::case::Case;
+use crate::difference::{Difference, Part};
+use crate::lent::Lent;
+use crate::library::{Answer, Library};
+use crate::sheet::LINE_WORDS;
+
+/// An answer with the lines that were written.
+type Weighed = (Answer, Vec<[u64; LINE_WORDS]>);
+
+/// Weighs a sheet with room for its lines.
+fn weigh(library: &Library, sheet: &[u64], room: usize, lent: &mut Lent) -> Weighed {
+    let answer = lent.lend(library.weigh, sheet, room);
+    let count = answer.map_or(0, |weighed| weighed.0);
+    (answer, lent.lines(count).to_vec())
+}
+
+/// The order of the pool's rows does not matter: sums alone enter charge and points. The second sheet has the same
+/// answer and the same lines.
+pub fn compare_row_order(library: &Library, case: &Case, lent: &mut Lent) -> Result<(), Difference> {
+    let first = weigh(library, &case.sheet, case.room, lent);
+    let second = weigh(library, &case.second, case.room, lent);
+    if first == second {
+        return Ok(());
+    }
+    Err(Difference::new(Part::RowOrder, first, (second, &case.second)))
+}
+
+/// A tranche's line depends on no other tranche's ratings, both sheets being accepted ("Agreed between us"). Gives
+/// whether both were accepted.
+pub fn compare_other_ratings(library: &Library, case: &Case, lent: &mut Lent) -> Result<bool, Difference> {
+    let (first, mut first_lines) = weigh(library, &case.sheet, case.room, lent);
+    let (second, mut second_lines) = weigh(library, &case.second, case.room, lent);
+    let (Ok(first), Ok(second)) = (first, second) else {
+        return Ok(false);
+    };
+    if case.rerated < first_lines.len().min(second_lines.len()) {
+        first_lines.remove(case.rerated);
+        second_lines.remove(case.rerated);
+    }
+    if (first, &first_lines) == (second, &second_lines) {
+        return Ok(true);
+    }
+    let said = (second, second_lines, &case.second);
+    Err(Difference::new(Part::OtherRatings, (first, first_lines), said))
+}
+
+/// Whether the cap decided a line of an accepted sheet: with the composition not known, which takes the cap away, the
+/// independent weight is higher.
+pub fn cap_decided(deal: &independent::Deal, case: &Case) -> bool {
+    let Ok(without) = independent::weigh(&case.second, case.room as u64) else {
+        return false;
+    };
+    let mut lines = deal.lines.iter().zip(&without.lines);
+    lines.any(|(line, free)| {
+        let highest = line.amounts.iter().map(|amounts| amounts.weight).max();
+        let lowest = free.amounts.iter().map(|amounts| amounts.weight).min();
+        highest < lowest
+    })
+}
+
+#[cfg(test)]
+mod tests {
+    use super::*;
+    use crate::kind::Relation;
+    use crate::sheet::Layout;
+
+    /// The proved library, with the pool's first exposure added to the charge: right sums, but the order of rows
+    /// matters.
+    fn order_matters(sheet: &[u64], results: &mut [u64]) -> Answer {
+        let (count, charge) = (Library::PROVED.weigh)(sheet, results)?;
+        Ok((count, charge + sheet[Layout::POOL_COUNT + 1]))
+    }
+
+    /// The proved library, with all tranches' ratings added to each attachment point.
+    fn ratings_matter(sheet: &[u64], results: &mut [u64]) -> Answer {
+        let weighed = (Library::PROVED.weigh)(sheet, results)?;
+        let layout = Layout::of_sheet(sheet);
+        let ratings = |tranche| layout.tranche(tranche) + Layout::RATINGS..layout.tranche(tranche + 1);
+        let sum: u64 = (0..layout.tranches)
+            .map(|tranche| sheet[ratings(tranche)].iter().sum::<u64>())
+            .sum();
+        (0..layout.tranches).for_each(|line| results[LINE_WORDS * line + 1] += sum);
+        Ok(weighed)
+    }
+
+    /// How many of the first sheets with this relation a comparison finds different.
+    fn differences(relation: Relation, compare: impl Fn(&Case) -> Result<(), Difference>) -> usize {
+        let cases = (0..2_000)
+            .map(|index| Case::new(4, index))
+            .filter(|case| case.relation == relation);
+        cases.filter(|case| compare(case).is_err()).count()
+    }
+
+    /// A library for which the order of rows matters is found out; the proved one is not.
+    #[test]
+    fn row_order_is_compared() {
+        let wrong = Library {
+            weigh: order_matters,
+            ..Library::PROVED
+        };
+        let compare = |library| {
+            differences(Relation::RowOrder, |case| {
+                compare_row_order(library, case, &mut Lent::default())
+            })
+        };
+        assert!(compare(&wrong) > 10);
+        assert_eq!(compare(&Library::PROVED), 0);
+    }
+
+    /// A library for which another tranche's ratings matter is found out; the proved one is not.
+    #[test]
+    fn other_ratings_are_compared() {
+        let wrong = Library {
+            weigh: ratings_matter,
+            ..Library::PROVED
+        };
+        let compare = |library| {
+            let other = |case: &Case| compare_other_ratings(library, case, &mut Lent::default()).map(|_| ());
+            differences(Relation::OtherRatings, other)
+        };
+        assert!(compare(&wrong) > 10);
+        assert_eq!(compare(&Library::PROVED), 0);
+    }
+}

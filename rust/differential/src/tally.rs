@@ -1,0 +1,257 @@
+//! What a run went through, counted, and what of it must occur for the run to count as one.
+
+use crate::case::Case;
+use crate::kind::{File, Kind, Relation, Room};
+use crate::lent::Lent;
+use crate::sheet::Layout;
+use independent::{Deal, Line, Refusal};
+use std::fmt;
+
+/// What must be met on some accepted line.
+#[derive(Debug, Clone, Copy, PartialEq, Eq)]
+pub enum Feature {
+    /// The floor of an ordinary securitisation decided a SEC-SA weight.
+    OrdinaryFloor,
+    /// The floor of a re-securitisation decided a SEC-SA weight.
+    ResecuritisationFloor,
+    /// The cap decided a weight.
+    CapDecided,
+    /// The cap decided a weight below the floor.
+    CapBelowFloor,
+    /// Raw weight 125,000 because D is at most K.
+    BelowCharge,
+    /// K is 0 and D above it: raw weight 0.
+    ZeroCharge,
+    /// K and D are 0: raw weight 125,000.
+    ZeroChargeAndPoint,
+    /// SEC-SA with A below K and D above it.
+    AcrossCharge,
+    /// SEC-SA with A equal to K.
+    FromCharge,
+    /// Two raw weights pass and give two weights.
+    TwoWeights,
+}
+
+impl Feature {
+    /// All features with their names, in the order of the enum.
+    const TABLE: [(Feature, &'static str); 10] = [
+        (Feature::OrdinaryFloor, "lines: floor 1,500 decided"),
+        (Feature::ResecuritisationFloor, "lines: floor 10,000 decided"),
+        (Feature::CapDecided, "sheets: cap decided"),
+        (Feature::CapBelowFloor, "lines: cap below the floor decided"),
+        (Feature::BelowCharge, "lines: weight 125,000 with D at most K"),
+        (Feature::ZeroCharge, "lines: K = 0 and D above 0"),
+        (Feature::ZeroChargeAndPoint, "lines: K = 0 and D = 0"),
+        (Feature::AcrossCharge, "lines: A below K and D above K"),
+        (Feature::FromCharge, "lines: A = K and D above K"),
+        (Feature::TwoWeights, "lines: two weights admitted"),
+    ];
+}
+
+/// The number of SEC-SA among the approaches.
+const SEC_SA: u64 = 2;
+/// The highest weight.
+const HIGHEST_WEIGHT: u64 = 125_000;
+
+/// The floor of an ordinary securitisation.
+const ORDINARY_FLOOR: u64 = 1_500;
+/// The floor of a re-securitisation.
+const RESECURITISATION_FLOOR: u64 = 10_000;
+
+/// What of a sheet decides about floor and cap of one tranche ("Which approach, then floor, then cap").
+struct Terms {
+    /// Whether the deal is an ordinary securitisation.
+    ordinary: bool,
+    /// Whether the cap applies to the tranche.
+    capped: bool,
+}
+
+impl Terms {
+    /// The terms of a tranche of an accepted sheet.
+    fn of_tranche(sheet: &[u64], tranche: usize) -> Terms {
+        let class = sheet[Layout::of_sheet(sheet).tranche(tranche) + Layout::CLASS];
+        let ordinary = sheet[Layout::RESECURITISATION] == 0;
+        Terms {
+            ordinary,
+            capped: ordinary && class == 1 && sheet[Layout::COMPOSITION] == 1,
+        }
+    }
+}
+
+/// Whether a line of an accepted deal shows a feature. Whether the cap decided is not told from the line alone.
+fn shows(feature: Feature, charge: u64, line: &Line, terms: &Terms) -> bool {
+    let weight = line.amounts[0].weight;
+    let standardised = line.approach == SEC_SA;
+    let formula = standardised && line.detachment > charge;
+    // Where two neighbouring raw weights give one weight and there is no cap, the lower of them is below the floor.
+    let floored = formula && !terms.capped && line.amounts.len() == 1;
+    match feature {
+        Feature::OrdinaryFloor => floored && terms.ordinary && weight == ORDINARY_FLOOR,
+        Feature::ResecuritisationFloor => floored && !terms.ordinary && weight == RESECURITISATION_FLOOR,
+        Feature::CapDecided => false,
+        Feature::CapBelowFloor => terms.capped && line.approach != 0 && weight < ORDINARY_FLOOR,
+        Feature::BelowCharge => standardised && line.detachment <= charge && weight == HIGHEST_WEIGHT,
+        Feature::ZeroCharge => formula && charge == 0,
+        Feature::ZeroChargeAndPoint => standardised && charge == 0 && line.detachment == 0,
+        Feature::AcrossCharge => formula && line.attachment < charge,
+        Feature::FromCharge => formula && charge > 0 && line.attachment == charge,
+        Feature::TwoWeights => line.amounts.len() == 2,
+    }
+}
+
+/// The counts of a run.
+#[derive(Debug, Clone, Default, PartialEq, Eq)]
+pub struct Tally {
+    /// Sheets of each kind.
+    pub kinds: [u64; Kind::TABLE.len()],
+    /// Sheets with each sort of room.
+    pub rooms: [u64; Room::TABLE.len()],
+    /// Sheets with each sort of file.
+    pub files: [u64; File::TABLE.len()],
+    /// Sheets with each sort of second sheet, where it was compared.
+    pub relations: [u64; Relation::TABLE.len()],
+    /// Refusals by number: 1 to 14 of sheets, 15 of files. Place 0 counts the accepted sheets.
+    pub refusals: [u64; 16],
+    /// Lines by approach.
+    pub approaches: [u64; 3],
+    /// Lines that show each feature; sheets, for the cap that decided.
+    pub features: [u64; Feature::TABLE.len()],
+    /// Lines with two admitted weights where the higher one is taken.
+    pub higher_taken: u64,
+}
+
+impl Tally {
+    /// Notes a sheet whose answers were found equal.
+    pub fn note(&mut self, case: &Case, answer: &Result<Deal, Refusal>, lent: &Lent) {
+        self.kinds[case.kind as usize] += 1;
+        self.rooms[case.room_kind as usize] += 1;
+        self.files[case.file_kind as usize] += 1;
+        match answer {
+            Ok(deal) => {
+                self.refusals[0] += 1;
+                self.note_lines(&case.sheet, deal, lent);
+            }
+            Err(refusal) => self.refusals[refusal.number as usize] += 1,
+        }
+    }
+
+    /// Notes the lines of an accepted sheet, with the weights that were written.
+    fn note_lines(&mut self, sheet: &[u64], deal: &Deal, lent: &Lent) {
+        let written = lent.lines(deal.lines.len() as u64);
+        for (tranche, (line, words)) in deal.lines.iter().zip(written).enumerate() {
+            let terms = Terms::of_tranche(sheet, tranche);
+            self.approaches[line.approach as usize] += 1;
+            for (count, (feature, _)) in self.features.iter_mut().zip(Feature::TABLE) {
+                *count += u64::from(shows(feature, deal.charge, line, &terms));
+            }
+            let higher = line.amounts.get(1).map(|amounts| amounts.weight);
+            self.higher_taken += u64::from(higher == Some(words[3]));
+        }
+    }
+
+    /// Notes the answer to a file. Numbers below 15 are counted for sheets only.
+    pub fn note_file(&mut self, answer: &Result<Deal, Refusal>) {
+        if let Err(Refusal { number: 15, .. }) = answer {
+            self.refusals[15] += 1;
+        }
+    }
+
+    /// Notes that a second sheet was compared.
+    pub fn note_second(&mut self, relation: Relation) {
+        self.relations[relation as usize] += 1;
+    }
+
+    /// Notes that the cap decided some line of a sheet.
+    pub fn note_cap(&mut self) {
+        self.features[Feature::CapDecided as usize] += 1;
+    }
+
+    /// Adds another tally's counts.
+    pub fn add(&mut self, other: &Tally) {
+        let add = |counts: &mut [u64], others: &[u64]| counts.iter_mut().zip(others).for_each(|(one, two)| *one += two);
+        add(&mut self.kinds, &other.kinds);
+        add(&mut self.rooms, &other.rooms);
+        add(&mut self.files, &other.files);
+        add(&mut self.relations, &other.relations);
+        add(&mut self.refusals, &other.refusals);
+        add(&mut self.approaches, &other.approaches);
+        add(&mut self.features, &other.features);
+        self.higher_taken += other.higher_taken;
+    }
+
+    /// All counts with their names, each with whether it must occur.
+    fn named(&self) -> Vec<(String, u64, bool)> {
+        let kinds = Kind::TABLE.map(|(_, name, _)| format!("kind: {name}"));
+        let rooms = Room::TABLE.map(|(_, name, _)| format!("room: {name}"));
+        let files = File::TABLE.map(|(_, name, _)| format!("file: {name}"));
+        let seconds = Relation::TABLE.map(|(_, name, _)| format!("second sheet: {name}"));
+        let refusals = (1..16).map(|number| format!("refusal {number}"));
+        let approaches = ["fallback", "SEC-ERBA", "SEC-SA"].map(|name| format!("lines: {name}"));
+        let features = Feature::TABLE.map(|(_, name)| name.to_string());
+        let names = kinds.into_iter().chain(rooms).chain(files).chain(seconds);
+        let names = names
+            .chain(["accepted".to_string()])
+            .chain(refusals)
+            .chain(approaches)
+            .chain(features);
+        let counts = self
+            .kinds
+            .iter()
+            .chain(&self.rooms)
+            .chain(&self.files)
+            .chain(&self.relations);
+        let counts = counts
+            .chain(&self.refusals)
+            .chain(&self.approaches)
+            .chain(&self.features);
+        let mut named: Vec<_> = names.zip(counts).map(|(name, &count)| (name, count, true)).collect();
+        named.push((
+            "lines: the higher of two weights taken".to_string(),
+            self.higher_taken,
+            false,
+        ));
+        named
+    }
+
+    /// The names of what must occur and did not.
+    pub fn missing(&self) -> Vec<String> {
+        let missing = self.named().into_iter().filter(|(_, count, must)| *must && *count == 0);
+        missing.map(|(name, _, _)| name).collect()
+    }
+}
+
+impl fmt::Display for Tally {
+    fn fmt(&self, to: &mut fmt::Formatter<'_>) -> fmt::Result {
+        for (name, count, _) in self.named() {
+            writeln!(to, "{name:<45} {count:>12}")?;
+        }
+        Ok(())
+    }
+}
+
+#[cfg(test)]
+mod tests {
+    use super::*;
+
+    /// Features are counted by the enum's order, so the table must follow it.
+    #[test]
+    fn table_follows_the_enum() {
+        assert!((0..)
+            .zip(Feature::TABLE)
+            .all(|(place, entry)| entry.0 as usize == place));
+    }
+
+    /// An empty run misses every count but the one that is only printed, and each count that occurs is no longer
+    /// missed.
+    #[test]
+    fn missing_names_each_count_that_is_zero() {
+        let mut tally = Tally::default();
+        let all = tally.named().len();
+        assert_eq!(tally.missing().len(), all - 1);
+        tally.refusals[13] = 1;
+        tally.note_cap();
+        assert_eq!(tally.missing().len(), all - 3);
+        assert!(!tally.missing().contains(&"refusal 13".to_string()));
+        assert!(!tally.missing().contains(&"sheets: cap decided".to_string()));
+    }
+}

@@ -1,0 +1,292 @@
+//! Random tranches over a given pool.
+
+use crate::kind::Kind;
+use crate::random::Random;
+use crate::sheet::{Deal, Facts, Tranche, LINE_WORDS, MONTHS, TRANCHES, TRANCHE_AMOUNT, WHOLE};
+
+/// How the pool is divided into classes.
+#[derive(Clone, Copy)]
+enum Division {
+    /// Points anywhere.
+    Anywhere,
+    /// Points mostly near 0.
+    LowEnd,
+    /// Points at the pool charge or a few millionths beside it.
+    AroundCharge,
+    /// Classes of 0, 1 or 2 millionths.
+    Thin,
+    /// Equal amounts.
+    Equal,
+    /// Classes that together pass the pool.
+    Overshoot,
+    /// Amounts that have nothing to do with the pool.
+    AnyAmounts,
+}
+
+impl Division {
+    /// Draws a division for a deal of this kind.
+    fn draw(kind: Kind, random: &mut Random) -> Division {
+        match kind {
+            Kind::AroundCharge => Division::AroundCharge,
+            Kind::Thin => Division::Thin,
+            Kind::Overshoot => Division::Overshoot,
+            _ => match random.below(16) {
+                0..=5 => Division::Anywhere,
+                6..=8 => Division::LowEnd,
+                9..=11 => Division::AroundCharge,
+                12 | 13 => Division::Equal,
+                14 => Division::Overshoot,
+                _ => Division::AnyAmounts,
+            },
+        }
+    }
+
+    /// The amounts of the classes, senior first.
+    fn amounts(self, random: &mut Random, deal: &Deal) -> Vec<u64> {
+        let pool = deal.nominal();
+        let count = class_count(random);
+        match self {
+            Division::Anywhere => amounts_at(random, pool, |random| (0..count).map(|_| random.below(WHOLE)).collect()),
+            Division::LowEnd => amounts_at(random, pool, |random| {
+                (0..count).map(|_| random.spread(WHOLE - 1)).collect()
+            }),
+            Division::AroundCharge => amounts_at(random, pool, |random| points_around(random, charge(deal), count)),
+            Division::Thin => amounts_at(random, pool, |random| thin_points(random, charge(deal), count)),
+            Division::Equal => vec![(pool / count).max(1); count as usize],
+            Division::Overshoot => overshooting(random, pool, count),
+            Division::AnyAmounts => (0..count).map(|_| random.spread(TRANCHE_AMOUNT)).collect(),
+        }
+    }
+}
+
+/// Draws how many classes a deal has.
+fn class_count(random: &mut Random) -> u64 {
+    match random.below(16) {
+        0 => random.between(1, TRANCHES),
+        1..=4 => random.between(1, 10),
+        _ => random.between(1, 4),
+    }
+}
+
+/// The pool charge of the deal's pool. The independent implementation gives it for a sheet with one tranche under the
+/// fallback.
+fn charge(deal: &Deal) -> u64 {
+    let tranche = Tranche {
+        amount: 1,
+        class: 1,
+        months: 1,
+        held: 0,
+        ratings: [0; 3],
+    };
+    let facts = Facts {
+        due_diligence: 0,
+        ..deal.facts
+    };
+    let mut words = Vec::new();
+    Deal {
+        facts,
+        rows: deal.rows.clone(),
+        tranches: vec![tranche],
+    }
+    .write(&mut words);
+    let answer = independent::weigh(&words, LINE_WORDS as u64);
+    answer.expect("a sound pool under the fallback is accepted").charge
+}
+
+/// Points at the charge or up to three millionths beside it, with some anywhere. Equal ones are mostly left out, since
+/// they make refusal 13.
+fn points_around(random: &mut Random, charge: u64, count: u64) -> Vec<u64> {
+    let draw = |random: &mut Random| match random.below(4) {
+        0 => random.below(WHOLE),
+        1 => charge,
+        _ => (charge + random.below(7)).saturating_sub(3),
+    };
+    let mut points: Vec<u64> = (0..count).map(|_| draw(random)).collect();
+    if !random.once_in(8) {
+        points.sort_unstable();
+        points.dedup();
+    }
+    points
+}
+
+/// Points 0, 1 or 2 millionths apart, from near the charge, near the top or anywhere. Gaps of 0 above the charge make
+/// refusal 13, so half of the deals have none.
+fn thin_points(random: &mut Random, charge: u64, count: u64) -> Vec<u64> {
+    let mut point = match random.below(4) {
+        0 => WHOLE - random.below(3),
+        1 => charge + random.below(2 * count + 1),
+        2 => random.below(charge.max(1)),
+        _ => random.below(WHOLE),
+    };
+    let least = random.below(2);
+    let mut next = || {
+        let here = point;
+        point = point.saturating_sub(random.between(least, 2));
+        here
+    };
+    (0..count).map(|_| next()).collect()
+}
+
+/// Amounts of classes with the drawn attachment points, put in falling order. Half of the time the lowest class goes
+/// down to 0. Within its millionth a point lies at the lower end or anywhere.
+fn amounts_at(random: &mut Random, pool: u64, draw: impl FnOnce(&mut Random) -> Vec<u64>) -> Vec<u64> {
+    let mut points = draw(random);
+    points.sort_unstable_by(|one, other| other.cmp(one));
+    if let Some(last) = points.last_mut().filter(|_| random.once_in(2)) {
+        *last = 0;
+    }
+    let within = if random.once_in(2) { 1 } else { (pool / WHOLE).max(1) };
+    let mut left = pool;
+    let mut class_down_to = |point: u64| {
+        let lowest = (u128::from(point.min(WHOLE)) * u128::from(pool)).div_ceil(u128::from(WHOLE)) as u64;
+        let target = if point == 0 { 0 } else { lowest + random.below(within) };
+        let amount = left.saturating_sub(target).clamp(1, TRANCHE_AMOUNT);
+        left = left.saturating_sub(amount);
+        amount
+    };
+    points.into_iter().map(&mut class_down_to).collect()
+}
+
+/// Some classes that use up the pool, the last of them by a unit or by far more than is left, then others of any
+/// amount.
+fn overshooting(random: &mut Random, pool: u64, count: u64) -> Vec<u64> {
+    let inside = random.between(1, count);
+    let mut amounts = vec![(pool / inside).max(1); inside as usize];
+    amounts[inside as usize - 1] = match random.below(3) {
+        0 => TRANCHE_AMOUNT,
+        1 => pool.min(TRANCHE_AMOUNT),
+        _ => (pool / inside + pool % inside + 1).min(TRANCHE_AMOUNT),
+    };
+    amounts.extend((inside..count).map(|_| random.spread(TRANCHE_AMOUNT)));
+    amounts
+}
+
+/// How the ratings of a deal's tranches are drawn.
+#[derive(Clone, Copy)]
+enum Ratings {
+    /// No tranche is rated.
+    Unrated,
+    /// One rating on each, at any of the three places.
+    One,
+    /// Two or three ratings on each.
+    Several,
+    /// One to three short-term ratings on each.
+    ShortTerm,
+    /// Each word none or any code.
+    Any,
+}
+
+impl Ratings {
+    /// Draws a way for a deal of this kind.
+    fn draw(kind: Kind, random: &mut Random) -> Ratings {
+        let rated = [
+            Ratings::One,
+            Ratings::Several,
+            Ratings::ShortTerm,
+            Ratings::Any,
+            Ratings::Any,
+        ];
+        if kind == Kind::Rated || random.once_in(3) {
+            random.pick(&rated)
+        } else {
+            Ratings::Unrated
+        }
+    }
+
+    /// Draws the three rating words of one tranche.
+    fn words(self, random: &mut Random) -> [u64; 3] {
+        match self {
+            Ratings::Unrated => [0; 3],
+            Ratings::One => placed(random, 1, long_term),
+            Ratings::Several => {
+                let count = random.between(2, 3);
+                placed(random, count, any_code)
+            }
+            Ratings::ShortTerm => {
+                let count = random.between(1, 3);
+                placed(random, count, short_term)
+            }
+            Ratings::Any => any_ratings(random),
+        }
+    }
+}
+
+/// So many codes at random places of the three.
+fn placed(random: &mut Random, count: u64, code: fn(&mut Random) -> u64) -> [u64; 3] {
+    let mut words = [0; 3];
+    words
+        .iter_mut()
+        .take(count as usize)
+        .for_each(|word| *word = code(random));
+    random.shuffle(&mut words);
+    words
+}
+
+/// A row of the rating table.
+fn long_term(random: &mut Random) -> u64 {
+    random.between(1, 18)
+}
+
+/// A short-term grade.
+fn short_term(random: &mut Random) -> u64 {
+    random.between(21, 24)
+}
+
+/// A rating of either sort.
+fn any_code(random: &mut Random) -> u64 {
+    if random.once_in(5) {
+        short_term(random)
+    } else {
+        long_term(random)
+    }
+}
+
+/// Three rating words, each none or any listed code.
+pub fn any_ratings(random: &mut Random) -> [u64; 3] {
+    let count = random.below(4);
+    placed(random, count, any_code)
+}
+
+/// Draws a maturity: around the months where a rule changes, or anywhere.
+fn months(random: &mut Random) -> u64 {
+    match random.below(4) {
+        0 | 1 => random.pick(&[1, 11, 12, 13, 35, 36, 37, 59, 60, 61, 71, 72, 73, MONTHS - 1, MONTHS]),
+        2 => random.between(1, 90),
+        _ => random.between(1, MONTHS),
+    }
+}
+
+/// Draws the amount held of a tranche: nothing, all, or a part.
+fn held(random: &mut Random, amount: u64) -> u64 {
+    match random.below(8) {
+        0 => 0,
+        1..=3 => amount,
+        4 => random.spread(amount),
+        _ => random.between(0, amount),
+    }
+}
+
+/// Fills the deal with tranches of this kind over its pool, which must be there already. Some classes are split into
+/// tranches that rank pari passu.
+pub fn fill(kind: Kind, random: &mut Random, deal: &mut Deal) {
+    let amounts = Division::draw(kind, random).amounts(random, deal);
+    let ratings = Ratings::draw(kind, random);
+    let splits = random.once_in(3);
+    deal.tranches.clear();
+    let mut spare = TRANCHES as usize - amounts.len();
+    for (class, mut left) in (1..).zip(amounts) {
+        while left > 0 {
+            let split = splits && spare > 0 && left > 1 && random.once_in(3);
+            let amount = if split { random.between(1, left - 1) } else { left };
+            spare -= usize::from(split);
+            left -= amount;
+            deal.tranches.push(Tranche {
+                amount,
+                class,
+                months: months(random),
+                held: held(random, amount),
+                ratings: ratings.words(random),
+            });
+        }
+    }
+}

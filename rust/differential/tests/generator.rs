@@ -1,0 +1,176 @@
+//! The random sheets are what their kinds say. Points and charges are taken from the independent implementation.
+
+use differential::sheet::{Layout, MONTHS, POOL_AMOUNT, ROWS, TRANCHES, TRANCHE_AMOUNT};
+use differential::{Case, Kind};
+use std::cmp::Ordering;
+use std::collections::BTreeSet;
+
+/// The sheets of one kind among the first `count` ones of a seed.
+fn sheets(kind: Kind, count: u64) -> impl Iterator<Item = Vec<u64>> {
+    let cases = (0..count).map(|index| Case::new(11, index));
+    cases.filter(move |case| case.kind == kind).map(|case| case.sheet)
+}
+
+/// The accepted deals of one kind among the first `count` ones of a seed, with room enough.
+fn deals(kind: Kind, count: u64) -> impl Iterator<Item = independent::Deal> {
+    sheets(kind, count).filter_map(|sheet| independent::weigh(&sheet, 192).ok())
+}
+
+/// A sound sheet is refused for too little room or a tranche without thickness, and for nothing else.
+#[test]
+fn sound_sheets_keep_the_limits() {
+    let mut accepted = 0;
+    for index in 0..10_000 {
+        let case = Case::new(12, index);
+        if case.kind.is_sound() {
+            match independent::weigh(&case.sheet, case.room as u64) {
+                Ok(_) => accepted += 1,
+                Err(refusal) => assert!([13, 14].contains(&refusal.number), "index {index}: {refusal:?}"),
+            }
+        }
+    }
+    assert!(accepted > 5_000);
+}
+
+/// The unknown exposure comes within a unit of 5% from below and from above, and meets it.
+#[test]
+fn unknown_share_meets_five_percent() {
+    let (mut below, mut at, mut above) = (0, 0, 0);
+    for sheet in sheets(Kind::UnknownShare, 10_000) {
+        let layout = Layout::of_sheet(&sheet);
+        let (rows, _) = sheet[layout.row(0)..layout.tranche_count()].as_chunks::<4>();
+        let all: u64 = rows.iter().map(|row| row[0]).sum();
+        let unknown: u64 = rows.iter().filter(|row| row[3] == 2).map(|row| row[0]).sum();
+        let near = (20 * unknown).abs_diff(all) <= 20;
+        match (20 * unknown).cmp(&all) {
+            Ordering::Less => below += u64::from(near),
+            Ordering::Equal => at += 1,
+            Ordering::Greater => above += u64::from(near),
+        }
+    }
+    assert!(below > 50 && at > 50 && above > 50, "{below} {at} {above}");
+}
+
+/// Points lie at the charge and one millionth to each side of it.
+#[test]
+fn points_meet_the_charge() {
+    let mut apart = BTreeSet::new();
+    for deal in deals(Kind::AroundCharge, 5_000) {
+        let points = deal
+            .lines
+            .iter()
+            .flat_map(|line| [('A', line.attachment), ('D', line.detachment)]);
+        apart.extend(points.map(|(name, point)| (name, point.wrapping_sub(deal.charge) as i64)));
+    }
+    let wanted = ['A', 'D']
+        .into_iter()
+        .flat_map(|name| [-1, 0, 1].map(|distance| (name, distance)));
+    assert_eq!(wanted.filter(|point| !apart.contains(point)).collect::<Vec<_>>(), []);
+}
+
+/// Accepted tranches of 0, 1 and 2 millionths occur, above the charge too where that is allowed.
+#[test]
+fn thin_tranches_are_thin() {
+    let mut thick = BTreeSet::new();
+    for deal in deals(Kind::Thin, 5_000) {
+        let above = |line: &independent::Line| line.detachment > deal.charge;
+        thick.extend(
+            deal.lines
+                .iter()
+                .map(|line| (line.approach, above(line), line.detachment - line.attachment)),
+        );
+    }
+    let wanted = [
+        (2, false, 0),
+        (2, false, 1),
+        (2, true, 1),
+        (2, true, 2),
+        (1, true, 0),
+        (1, true, 1),
+        (0, true, 0),
+    ];
+    assert_eq!(
+        wanted
+            .into_iter()
+            .filter(|case| !thick.contains(case))
+            .collect::<Vec<_>>(),
+        []
+    );
+}
+
+/// Tranches beyond the pool have both points at 0.
+#[test]
+fn overshooting_tranches_have_points_zero() {
+    let beyond = |line: &independent::Line| (line.attachment, line.detachment) == (0, 0);
+    assert!(
+        deals(Kind::Overshoot, 2_000)
+            .filter(|deal| deal.lines.iter().any(beyond))
+            .count()
+            > 10
+    );
+}
+
+/// Charges of 0, of a few millionths and of one million occur where their kinds say so.
+#[test]
+fn charges_follow_the_kinds() {
+    assert!(deals(Kind::ZeroCharge, 5_000).all(|deal| deal.charge == 0));
+    assert!(deals(Kind::AllUnknown, 5_000).all(|deal| deal.charge == 1_000_000));
+    assert!(deals(Kind::AllDelinquent, 5_000).all(|deal| deal.charge == 500_000));
+    assert!(
+        deals(Kind::SmallCharge, 5_000)
+            .filter(|deal| (1..=3).contains(&deal.charge))
+            .count()
+            > 10
+    );
+}
+
+/// The limits are met: counts, amounts, maturities, and the largest sums.
+#[test]
+fn limits_are_met() {
+    let mut met = BTreeSet::new();
+    for sheet in sheets(Kind::Limits, 20_000) {
+        let layout = Layout::of_sheet(&sheet);
+        let (rows, _) = sheet[layout.row(0)..layout.tranche_count()].as_chunks::<4>();
+        let nominal: u64 = rows.iter().map(|row| row[1]).sum();
+        let amounts: u64 = (0..layout.tranches).map(|tranche| sheet[layout.tranche(tranche)]).sum();
+        met.extend([("rows", rows.len() as u64), ("tranches", layout.tranches as u64)]);
+        met.extend([
+            ("nominal", nominal),
+            ("amounts", amounts),
+            ("months", sheet[layout.tranche(0) + Layout::MONTHS]),
+        ]);
+    }
+    let counts = [
+        ("rows", 1),
+        ("rows", ROWS),
+        ("tranches", 1),
+        ("tranches", TRANCHES),
+        ("months", 1),
+        ("months", MONTHS),
+    ];
+    let sums = [
+        ("nominal", 1),
+        ("nominal", ROWS * POOL_AMOUNT),
+        ("amounts", 1),
+        ("amounts", TRANCHES * TRANCHE_AMOUNT),
+    ];
+    assert_eq!(
+        counts
+            .iter()
+            .chain(&sums)
+            .filter(|case| !met.contains(case))
+            .collect::<Vec<_>>(),
+        Vec::<&(&str, u64)>::new()
+    );
+}
+
+/// The same seed and index give the same sheet, whatever was made before.
+#[test]
+fn sheets_follow_seed_and_index() {
+    let mut used = Case::new(13, 1_000);
+    for index in 0..500 {
+        used.make(13, index);
+        assert_eq!(format!("{:?}", used.sheet), format!("{:?}", Case::new(13, index).sheet));
+    }
+    assert!((0..50).any(|index| Case::new(13, index).sheet != Case::new(14, index).sheet));
+}

@@ -1,0 +1,256 @@
+//! "Points and pool charge" of document 01. All shares are in millionths.
+
+use crate::sheet::{Row, Status, Tranche};
+
+/// One whole, in millionths.
+pub const WHOLE: u128 = 1_000_000;
+/// The charge of a delinquent part: one half, in millionths.
+const LATE_CHARGE: u128 = 500_000;
+
+/// A tranche's attachment point A and detachment point D in millionths.
+#[derive(Debug, Clone, Copy, PartialEq, Eq)]
+pub struct Points {
+    pub attachment: u64,
+    pub detachment: u64,
+}
+
+/// The pool charge in millionths, and whether the unknown rows are above 5% of all exposure.
+#[derive(Debug, Clone, Copy, PartialEq, Eq)]
+pub struct PoolCharge {
+    pub charge: u64,
+    pub unknown_above_limit: bool,
+}
+
+/// N: the sum of nominal amounts, over all rows.
+pub fn nominal_sum(pool: &[Row]) -> u128 {
+    sum(pool.iter(), |row| row.nominal.into())
+}
+
+/// A is max(0, N minus all tranches of this or a senior class) x 10^6 / N, rounded down. D is the same with senior
+/// classes only. Class 1 is the senior class, so senior classes have the lower numbers.
+pub fn points(nominal: u128, tranches: &[Tranche], class: u64) -> Points {
+    let share_left = |counts: fn(u64, u64) -> bool| {
+        let ahead: u128 = tranches
+            .iter()
+            .filter(|other| counts(other.class, class))
+            .map(|t| u128::from(t.amount))
+            .sum();
+        to_word(nominal.saturating_sub(ahead) * WHOLE / nominal)
+    };
+    Points {
+        attachment: share_left(|other, this| other <= this),
+        detachment: share_left(|other, this| other < this),
+    }
+}
+
+/// The pool charge. Unknown rows up to and including 5% of all exposure: (known exposure x charge + unknown exposure x
+/// 10^6) / all exposure, rounded up. Above 5%: reported as 1,000,000.
+///
+/// Every exposure is at least 1, so a pool without a known row is 100% unknown and takes the second case. The first
+/// case therefore never divides by zero.
+pub fn pool_charge(pool: &[Row]) -> PoolCharge {
+    let known: Vec<Row> = pool
+        .iter()
+        .copied()
+        .filter(|row| row.status != Status::Unknown)
+        .collect();
+    let exposure = sum(pool.iter(), |row| row.exposure.into());
+    let known_exposure = sum(known.iter(), |row| row.exposure.into());
+    let unknown_exposure = exposure - known_exposure;
+    if unknown_exposure * 100 > exposure * 5 {
+        return PoolCharge {
+            charge: to_word(WHOLE),
+            unknown_above_limit: true,
+        };
+    }
+    let charge = (known_exposure * known_charge(&known) + unknown_exposure * WHOLE).div_ceil(exposure);
+    PoolCharge {
+        charge: to_word(charge),
+        unknown_above_limit: false,
+    }
+}
+
+/// The charge of the rows with known status: ((10^6 - W) x base + 500,000 x W) / 10^6, rounded up.
+fn known_charge(known: &[Row]) -> u128 {
+    let late = late_share(known);
+    ((WHOLE - late) * base_charge(known) + LATE_CHARGE * late).div_ceil(WHOLE)
+}
+
+/// The base charge: 800 x (sum of exposure x risk weight) / (sum of exposure), rounded up. A risk weight of 100% gives
+/// 8%, which is 80,000 millionths.
+fn base_charge(known: &[Row]) -> u128 {
+    average_risk_weight_times(800, known)
+}
+
+/// The late share W: delinquent nominal x 10^6 / nominal, rounded up. Status 3 counts as not delinquent.
+fn late_share(known: &[Row]) -> u128 {
+    let late = known.iter().filter(|row| row.status == Status::Delinquent);
+    (sum(late, |row| row.nominal.into()) * WHOLE).div_ceil(nominal_sum(known))
+}
+
+/// `factor` x (sum of exposure x risk weight) / (sum of exposure), rounded up. The base charge takes it with 800 over
+/// the known rows, the cap with 100 over all rows.
+pub fn average_risk_weight_times(factor: u128, rows: &[Row]) -> u128 {
+    let weighted = sum(rows.iter(), |row| {
+        u128::from(row.exposure) * u128::from(row.risk_weight)
+    });
+    (factor * weighted).div_ceil(sum(rows.iter(), |row| row.exposure.into()))
+}
+
+/// The sum of one figure over some rows.
+fn sum<'a>(rows: impl Iterator<Item = &'a Row>, figure: impl Fn(&Row) -> u128) -> u128 {
+    rows.map(figure).sum()
+}
+
+/// A result as a word. Every result of the calculator fits (the largest, a risk-weighted amount, is 1.25 x 10^14).
+pub fn to_word(value: u128) -> u64 {
+    u64::try_from(value).expect("a result fits a word")
+}
+
+#[cfg(test)]
+mod tests {
+    use super::*;
+
+    /// A row whose exposure and nominal amounts are equal.
+    fn row(amount: u64, risk_weight: u64, status: Status) -> Row {
+        Row {
+            exposure: amount,
+            nominal: amount,
+            risk_weight,
+            status,
+        }
+    }
+
+    /// Checked deal: rows (2, 100%) and (1, 50%) have base charge 66,667.
+    #[test]
+    fn base_charge_is_rounded_up() {
+        let pool = [row(2, 100, Status::Paying), row(1, 50, Status::Paying)];
+        assert_eq!(base_charge(&pool), 66_667);
+        assert_eq!(
+            pool_charge(&pool),
+            PoolCharge {
+                charge: 66_667,
+                unknown_above_limit: false
+            }
+        );
+    }
+
+    /// Checked deal: base 80,000, none late. 5% unknown gives 126,000; 5.1% is above the limit.
+    #[test]
+    fn unknown_rows_up_to_five_percent() {
+        let pool = |unknown| {
+            [
+                row(1000 - unknown, 100, Status::Paying),
+                row(unknown, 100, Status::Unknown),
+            ]
+        };
+        assert_eq!(base_charge(&pool(50)[..1]), 80_000);
+        assert_eq!(
+            pool_charge(&pool(50)),
+            PoolCharge {
+                charge: 126_000,
+                unknown_above_limit: false
+            }
+        );
+        assert_eq!(
+            pool_charge(&pool(51)),
+            PoolCharge {
+                charge: 1_000_000,
+                unknown_above_limit: true
+            }
+        );
+    }
+
+    /// A pool of unknown rows only has no base charge and needs none.
+    #[test]
+    fn all_rows_unknown() {
+        let pool = [row(7, 100, Status::Unknown)];
+        assert_eq!(
+            pool_charge(&pool),
+            PoolCharge {
+                charge: 1_000_000,
+                unknown_above_limit: true
+            }
+        );
+    }
+
+    /// The late share is over the nominal amounts of the known rows, rounded up, and raises the charge.
+    #[test]
+    fn late_share_counts_known_nominal() {
+        let late = Row {
+            exposure: 900,
+            nominal: 1,
+            risk_weight: 0,
+            status: Status::Delinquent,
+        };
+        let paying = Row {
+            exposure: 100,
+            nominal: 2,
+            risk_weight: 0,
+            status: Status::Paying,
+        };
+        let unknown = Row {
+            exposure: 1,
+            nominal: 10,
+            risk_weight: 0,
+            status: Status::Unknown,
+        };
+        assert_eq!(late_share(&[late, paying]), 333_334);
+        assert_eq!(known_charge(&[late, paying]), 166_667);
+        // (1000 x 166,667 + 1 x 1,000,000) / 1001 = 167,499.5
+        assert_eq!(pool_charge(&[late, paying, unknown]).charge, 167_500);
+    }
+
+    /// The charge of the known rows is rounded up: 1 millionth late gives (999,999 x 80,000 + 500,000) / 10^6 = 80,000.42.
+    #[test]
+    fn known_charge_is_rounded_up() {
+        let pool = [row(999_999, 100, Status::Paying), row(1, 100, Status::Delinquent)];
+        assert_eq!((late_share(&pool), base_charge(&pool)), (1, 80_000));
+        assert_eq!(known_charge(&pool), 80_001);
+    }
+
+    /// A securitisation tranche in the pool counts as not delinquent.
+    #[test]
+    fn securitisation_tranche_is_not_late() {
+        let pool = [row(3, 100, Status::SecuritisationTranche)];
+        assert_eq!(
+            pool_charge(&pool),
+            PoolCharge {
+                charge: 80_000,
+                unknown_above_limit: false
+            }
+        );
+    }
+
+    /// A tranche of which only amount and class matter.
+    fn tranche(amount: u64, class: u64) -> Tranche {
+        Tranche {
+            amount,
+            class,
+            months: 1,
+            held: 0,
+            ratings: [0; 3],
+            place: 0,
+        }
+    }
+
+    /// Both points are rounded down, equal classes rank together, and tranches beyond the pool leave 0.
+    #[test]
+    fn points_by_class() {
+        let tranches = [
+            tranche(1, 1),
+            tranche(1, 2),
+            tranche(2, 2),
+            tranche(9, 3),
+            tranche(1, 4),
+        ];
+        let of_class = |class| {
+            let Points { attachment, detachment } = points(7, &tranches, class);
+            (attachment, detachment)
+        };
+        assert_eq!(of_class(1), (857_142, 1_000_000));
+        assert_eq!(of_class(2), (428_571, 857_142));
+        assert_eq!(of_class(3), (0, 428_571));
+        assert_eq!(of_class(4), (0, 0));
+    }
+}

@@ -1,0 +1,239 @@
+//! "The deal sheet" and "Refusals, by who can cause them" of document 01.
+//!
+//! The words are read from place 0 upward, each judged as it is read, so the first bad word decides at its own place.
+//! A missing word comes after all words that are there, so it is found only when none of those is bad.
+
+use crate::approach::Approach;
+use crate::charge::Points;
+use crate::Refusal;
+
+/// A needed word is missing.
+const MISSING: u64 = 1;
+/// A count is outside its limits.
+const COUNT: u64 = 2;
+/// Words follow the last section.
+const TOO_LONG: u64 = 3;
+/// A fact outside its codes.
+const FACT: u64 = 4;
+/// A pool amount outside 1 to 10^10.
+const POOL_AMOUNT: u64 = 5;
+/// A risk weight above 1250.
+const RISK_WEIGHT: u64 = 6;
+/// A status above 3; a 3 in an ordinary deal; any other in a re-securitisation.
+const STATUS: u64 = 7;
+/// A tranche amount outside its limits, or held above the amount.
+const TRANCHE_AMOUNT: u64 = 8;
+/// A class out of order.
+const CLASS: u64 = 9;
+/// A maturity outside 1 to 1200.
+const MATURITY: u64 = 10;
+/// A rating code not listed.
+const RATING: u64 = 11;
+/// Pool kind 1 or 2.
+const POOL_KIND: u64 = 12;
+/// SEC-SA applies, A equals D, and D is above the pool charge.
+const NO_THICKNESS: u64 = 13;
+/// Results shorter than six words per tranche.
+const SHORT_RESULTS: u64 = 14;
+/// The file's length is not a multiple of 8 or over 33,848 bytes.
+const FILE_LENGTH: u64 = 15;
+
+/// The most bytes a file may have: 4 facts, 1,000 rows of 4 words, 32 rows of 7 words and 3 counts, 8 bytes each.
+const FILE_BYTES: usize = 33_848;
+/// The largest amount of a pool row.
+const POOL_AMOUNT_MOST: u64 = 10_000_000_000;
+/// The largest tranche amount.
+const TRANCHE_AMOUNT_MOST: u64 = 10_000_000_000_000;
+/// How many result words a tranche takes.
+const WORDS_PER_LINE: u64 = 6;
+
+/// The facts section without the pool kind, which is 0 in every accepted sheet.
+#[derive(Debug, Clone, Copy)]
+pub struct Facts {
+    pub resecuritisation: bool,
+    pub due_diligence_held: bool,
+    pub composition_known: bool,
+}
+
+/// The status of a pool row, in the order of its codes 0 to 3.
+#[derive(Debug, Clone, Copy, PartialEq, Eq)]
+pub enum Status {
+    Paying,
+    Delinquent,
+    Unknown,
+    SecuritisationTranche,
+}
+
+/// A pool row. The risk weight is in whole percent.
+#[derive(Debug, Clone, Copy)]
+pub struct Row {
+    pub exposure: u64,
+    pub nominal: u64,
+    pub risk_weight: u64,
+    pub status: Status,
+}
+
+/// A tranche row, with the place of its amount.
+#[derive(Debug, Clone, Copy)]
+pub struct Tranche {
+    pub amount: u64,
+    pub class: u64,
+    pub months: u64,
+    pub held: u64,
+    pub ratings: [u64; 3],
+    pub place: u64,
+}
+
+/// A sheet in which no word is bad, none is missing and none follows.
+#[derive(Debug, Clone)]
+pub struct Sheet {
+    pub facts: Facts,
+    pub pool: Vec<Row>,
+    pub tranches: Vec<Tranche>,
+}
+
+/// The words and the place of the next one to be read.
+struct Reader<'a> {
+    words: &'a [u64],
+    next: usize,
+}
+
+impl Reader<'_> {
+    /// The place of the next word.
+    fn place(&self) -> u64 {
+        self.next as u64
+    }
+
+    /// Reads the next word. A missing word is refusal 1 at the sheet's length; a word that is not good is refused under
+    /// `number` at its own place.
+    fn word(&mut self, number: u64, good: impl Fn(u64) -> bool) -> Result<u64, Refusal> {
+        let place = self.place();
+        let word = *self.words.get(self.next).ok_or(Refusal { number: MISSING, place })?;
+        self.next += 1;
+        if good(word) {
+            Ok(word)
+        } else {
+            Err(Refusal { number, place })
+        }
+    }
+}
+
+/// Reads the three sections in their order, then refuses words that follow (refusal 3, at the first of them).
+pub fn read(words: &[u64]) -> Result<Sheet, Refusal> {
+    let mut reader = Reader { words, next: 0 };
+    let facts = read_facts(&mut reader)?;
+    let rows = reader.word(COUNT, |count| (1..=1_000).contains(&count))?;
+    let pool = (0..rows)
+        .map(|_| read_row(&mut reader, facts.resecuritisation))
+        .collect::<Result<Vec<_>, _>>()?;
+    let tranches = read_tranches(&mut reader)?;
+    if reader.next < words.len() {
+        return Err(Refusal {
+            number: TOO_LONG,
+            place: reader.place(),
+        });
+    }
+    Ok(Sheet { facts, pool, tranches })
+}
+
+/// The facts: count 4, pool kind, then three answers of 0 or 1. A pool kind above 2 is outside its codes (4); kinds 1
+/// and 2 are codes, but the deal is refused for them (12). Both stand at the pool kind's place.
+fn read_facts(reader: &mut Reader) -> Result<Facts, Refusal> {
+    reader.word(COUNT, |count| count == 4)?;
+    let place = reader.place();
+    let kind = reader.word(FACT, |kind| kind <= 2)?;
+    if kind != 0 {
+        return Err(Refusal {
+            number: POOL_KIND,
+            place,
+        });
+    }
+    let mut answer = || Ok(reader.word(FACT, |answer| answer <= 1)? == 1);
+    Ok(Facts {
+        resecuritisation: answer()?,
+        due_diligence_held: answer()?,
+        composition_known: answer()?,
+    })
+}
+
+/// A pool row: exposure amount, nominal amount, risk weight, status.
+fn read_row(reader: &mut Reader, resecuritisation: bool) -> Result<Row, Refusal> {
+    let amount_good = |amount| (1..=POOL_AMOUNT_MOST).contains(&amount);
+    Ok(Row {
+        exposure: reader.word(POOL_AMOUNT, amount_good)?,
+        nominal: reader.word(POOL_AMOUNT, amount_good)?,
+        risk_weight: reader.word(RISK_WEIGHT, |weight| weight <= 1250)?,
+        status: match reader.word(STATUS, |status| status <= 3 && (status == 3) == resecuritisation)? {
+            0 => Status::Paying,
+            1 => Status::Delinquent,
+            2 => Status::Unknown,
+            _ => Status::SecuritisationTranche,
+        },
+    })
+}
+
+/// The tranches, count 1 to 32. The first row has class 1; each next row has the class before it or one more.
+fn read_tranches(reader: &mut Reader) -> Result<Vec<Tranche>, Refusal> {
+    let count = reader.word(COUNT, |count| (1..=32).contains(&count))?;
+    let mut tranches: Vec<Tranche> = Vec::new();
+    for _ in 0..count {
+        let classes = tranches.last().map_or(1..=1, |before| before.class..=before.class + 1);
+        tranches.push(read_tranche(reader, |class| classes.contains(&class))?);
+    }
+    Ok(tranches)
+}
+
+/// A tranche row: amount, class, maturity, amount held, three rating words.
+fn read_tranche(reader: &mut Reader, class_good: impl Fn(u64) -> bool) -> Result<Tranche, Refusal> {
+    let place = reader.place();
+    let amount = reader.word(TRANCHE_AMOUNT, |amount| (1..=TRANCHE_AMOUNT_MOST).contains(&amount))?;
+    let class = reader.word(CLASS, class_good)?;
+    let months = reader.word(MATURITY, |months| (1..=1200).contains(&months))?;
+    let held = reader.word(TRANCHE_AMOUNT, |held| held <= amount)?;
+    let mut rating = || reader.word(RATING, |code| matches!(code, 0..=18 | 21..=24));
+    let ratings = [rating()?, rating()?, rating()?];
+    Ok(Tranche {
+        amount,
+        class,
+        months,
+        held,
+        ratings,
+        place,
+    })
+}
+
+/// Refusal 14: results shorter than six words per tranche; place 0.
+pub fn refuse_short_results(sheet: &Sheet, room: u64) -> Result<(), Refusal> {
+    if room < WORDS_PER_LINE * sheet.tranches.len() as u64 {
+        return Err(Refusal {
+            number: SHORT_RESULTS,
+            place: 0,
+        });
+    }
+    Ok(())
+}
+
+/// Refusal 13: SEC-SA applies, A equals D, and D is above the pool charge; place of the tranche amount.
+pub fn refuse_no_thickness(approach: Approach, points: &Points, charge: u64, place: u64) -> Result<(), Refusal> {
+    let no_thickness = points.attachment == points.detachment;
+    if approach == Approach::SecSa && no_thickness && points.detachment > charge {
+        return Err(Refusal {
+            number: NO_THICKNESS,
+            place,
+        });
+    }
+    Ok(())
+}
+
+/// The words of a file, eight bytes each, lowest byte first; refusal 15 at place 0 for a length that is not a multiple
+/// of 8 or over 33,848 bytes.
+pub fn words_of_file(file: &[u8]) -> Result<Vec<u64>, Refusal> {
+    let (words, rest) = file.as_chunks::<8>();
+    if !rest.is_empty() || file.len() > FILE_BYTES {
+        return Err(Refusal {
+            number: FILE_LENGTH,
+            place: 0,
+        });
+    }
+    Ok(words.iter().map(|bytes| u64::from_le_bytes(*bytes)).collect())
+}

@@ -1,0 +1,302 @@
+//! The checked deals and the misreadings of document 01, and the largest deal, as whole sheets.
+
+mod common;
+
+use common::{file, sheet};
+use independent::{weigh, weigh_file, Amounts, Deal, Line};
+
+/// Facts of an ordinary deal with due diligence and known composition.
+const ORDINARY: [u64; 4] = [0, 0, 1, 1];
+/// Facts of a re-securitisation with due diligence and known composition.
+const RESECURITISATION: [u64; 4] = [0, 1, 1, 1];
+
+/// A paying pool of 1,000 at one risk weight.
+fn pool_at(risk_weight: u64) -> Vec<[u64; 4]> {
+    vec![[1_000, 1_000, risk_weight, 0]]
+}
+
+/// A tranche held whole, with one rating.
+fn tranche(amount: u64, class: u64, months: u64, rating: u64) -> [u64; 7] {
+    [amount, class, months, amount, rating, 0, 0]
+}
+
+/// Weighs an accepted sheet with just enough room for its results.
+fn weighed(facts: [u64; 4], pool: &[[u64; 4]], tranches: &[[u64; 7]]) -> Deal {
+    weigh(&sheet(facts, pool, tranches), 6 * tranches.len() as u64).expect("an accepted sheet")
+}
+
+/// The weights that a line admits.
+fn weights(line: &Line) -> Vec<u64> {
+    line.amounts.iter().map(|amounts| amounts.weight).collect()
+}
+
+/// The approach, A, D and the weights of each line.
+fn summary(deal: &Deal) -> Vec<(u64, u64, u64, Vec<u64>)> {
+    deal.lines
+        .iter()
+        .map(|line| (line.approach, line.attachment, line.detachment, weights(line)))
+        .collect()
+}
+
+/// Checked deal: the whole report of the sample sheet, read as a file, with its totals.
+#[test]
+fn sample_sheet() {
+    let words = [
+        4, 0, 0, 1, 1, 2, 950, 950, 100, 0, 50, 50, 100, 1, 3, 800, 1, 72, 800, 1, 0, 0, 150, 2, 72, 100, 9, 0, 0, 50,
+        3, 72, 50, 0, 0, 0,
+    ];
+    let line = |approach, attachment, detachment, weight, risk_weighted, capital| {
+        let amounts = vec![Amounts {
+            weight,
+            risk_weighted,
+            capital,
+        }];
+        Line {
+            approach,
+            attachment,
+            detachment,
+            amounts,
+        }
+    };
+    let lines = vec![
+        line(1, 200_000, 1_000_000, 2_000, 160, 13),
+        line(1, 50_000, 200_000, 26_350, 264, 22),
+        line(2, 0, 50_000, 125_000, 625, 50),
+    ];
+    let deal = weigh_file(&file(&words), 18).expect("an accepted file");
+    assert_eq!(deal, Deal { charge: 101_000, lines });
+    assert_eq!(weigh(&words, 18), Ok(deal.clone()));
+    let total = |figure: fn(&Amounts) -> u64| deal.lines.iter().map(|line| figure(&line.amounts[0])).sum::<u64>();
+    assert_eq!((total(|a| a.risk_weighted), total(|a| a.capital)), (1_049, 85));
+}
+
+/// Checked deals: senior AA, 36 months: 3,100; non-senior A+, 12 months, half thick: 4,000.
+#[test]
+fn rated_tranches() {
+    let deal = weighed(
+        ORDINARY,
+        &pool_at(100),
+        &[tranche(500, 1, 36, 3), tranche(500, 2, 12, 5)],
+    );
+    assert_eq!(
+        summary(&deal),
+        [(1, 500_000, 1_000_000, vec![3_100]), (1, 0, 500_000, vec![4_000])]
+    );
+}
+
+/// Checked deal: senior AAA over loans of 10%: 1,000. Floor after cap would lift it to 1,500. No cap holds where the
+/// composition is not known, and none for class 2.
+#[test]
+fn senior_cap_below_floor() {
+    let tranches = [tranche(500, 1, 72, 1), tranche(400, 1, 12, 21), tranche(100, 2, 12, 21)];
+    let weights_with = |facts| {
+        summary(&weighed(facts, &pool_at(10), &tranches))
+            .into_iter()
+            .map(|line| line.3)
+            .collect()
+    };
+    let known: Vec<Vec<u64>> = weights_with(ORDINARY);
+    let unknown: Vec<Vec<u64>> = weights_with([0, 0, 1, 0]);
+    assert_eq!(known, [[1_000], [1_000], [1_500]]);
+    assert_eq!(unknown, [[2_000], [1_500], [1_500]]);
+}
+
+/// Misreading: maturity cut to five years before the 80% rule. 72 months would give 252 and senior AAA 1,900.
+#[test]
+fn maturity_is_cut_after_the_rule() {
+    let weight_at = |months| weights(&weighed(ORDINARY, &pool_at(100), &[tranche(1_000, 1, months, 1)]).lines[0]);
+    assert_eq!(
+        [1, 12, 36, 60, 72, 1200].map(weight_at),
+        [[1_500], [1_500], [1_700], [1_900], [2_000], [2_000]]
+    );
+}
+
+/// Checked deal: rows (2, 100%) and (1, 50%): base 66,667, cap 8,334. The formula's line is capped as a rated one is.
+#[test]
+fn base_charge_and_cap() {
+    let pool = [[2, 2, 100, 0], [1, 1, 50, 0]];
+    let deal = weighed(ORDINARY, &pool, &[tranche(3, 1, 72, 18)]);
+    assert_eq!((deal.charge, weights(&deal.lines[0])), (66_667, vec![8_334]));
+    assert_eq!(
+        weights(&weighed(ORDINARY, &pool, &[tranche(3, 1, 72, 0)]).lines[0]),
+        [8_334]
+    );
+}
+
+/// Checked deal: base 80,000, none late, 5% unknown: charge 126,000; 5.1%: fallback, which takes no cap. A rating still
+/// gives SEC-ERBA there.
+#[test]
+fn unknown_rows() {
+    let pool = |unknown| [[1_000 - unknown, 1, 100, 0], [unknown, 1, 100, 2]];
+    let tranches = [tranche(1, 1, 72, 0), tranche(1, 2, 72, 9)];
+    let within = weighed(ORDINARY, &pool(50), &tranches);
+    let above = weighed(ORDINARY, &pool(51), &tranches);
+    assert_eq!((within.charge, within.lines[0].approach), (126_000, 2));
+    // 31,500 x (e^(-374/126) - e^(-874/126)) = 1,588.3
+    assert_eq!(weights(&within.lines[0]), [1_589, 1_590]);
+    let rated = (1, 0, 500_000, vec![15_500]);
+    assert_eq!(
+        (above.charge, summary(&above)),
+        (1_000_000, vec![(0, 500_000, 1_000_000, vec![125_000]), rated])
+    );
+}
+
+/// Checked deals: K = 0 and D above 0: raw 0, which the floor raises and the cap of 0 lowers again; K = 0 and D = 0:
+/// 125,000.
+#[test]
+fn charge_zero() {
+    let tranches = [tranche(500, 1, 72, 0), tranche(500, 2, 72, 0), tranche(1, 3, 72, 0)];
+    let deal = weighed(ORDINARY, &pool_at(0), &tranches);
+    let lines = [
+        (2, 500_000, 1_000_000, vec![0]),
+        (2, 0, 500_000, vec![1_500]),
+        (2, 0, 0, vec![125_000]),
+    ];
+    assert_eq!((deal.charge, summary(&deal)), (0, lines.to_vec()));
+}
+
+/// Checked deals: D = K gives 125,000; K = A = 100,000 and D = 200,000 give 79,016 or 79,017, where e^(-u/s) taken as 0
+/// would give 125,000. Each weight has its own amounts.
+#[test]
+fn formula_at_the_charge() {
+    let tranches = [tranche(800, 1, 72, 0), tranche(100, 2, 72, 0), tranche(100, 3, 72, 0)];
+    let deal = weighed(ORDINARY, &pool_at(125), &tranches);
+    assert_eq!(deal.charge, 100_000);
+    assert_eq!(
+        summary(&deal)[1..],
+        [
+            (2, 100_000, 200_000, vec![79_016, 79_017]),
+            (2, 0, 100_000, vec![125_000])
+        ]
+    );
+    let mut held_more = tranches;
+    held_more[1] = [100_000_000, 2, 72, 100_000_000, 0, 0, 0];
+    let pool = [[1_000, 1_000_000_000, 125, 0]];
+    held_more[0][0] = 800_000_000;
+    held_more[2][0] = 100_000_000;
+    let amounts = |weight, risk_weighted, capital| Amounts {
+        weight,
+        risk_weighted,
+        capital,
+    };
+    let two = [
+        amounts(79_016, 790_160_000, 63_212_800),
+        amounts(79_017, 790_170_000, 63_213_600),
+    ];
+    assert_eq!(weighed(ORDINARY, &pool, &held_more).lines[1].amounts, two);
+}
+
+/// Checked deal: K = 100,000, A = 50,000 and D = 150,000 give 111,684 or 111,685.
+#[test]
+fn formula_across_the_charge() {
+    let tranches = [tranche(850, 1, 72, 0), tranche(100, 2, 72, 0), tranche(50, 3, 72, 0)];
+    let deal = weighed(ORDINARY, &pool_at(125), &tranches);
+    assert_eq!(
+        summary(&deal)[1..],
+        [
+            (2, 50_000, 150_000, vec![111_684, 111_685]),
+            (2, 0, 50_000, vec![125_000])
+        ]
+    );
+}
+
+/// A re-securitisation: parameter 1.5, floor 10,000, no cap, ratings not used. K = A = 100,000 and D = 200,000 have the
+/// value 187,500 x (1 - e^(-2/3)) = 91,234.29.
+#[test]
+fn resecuritisation() {
+    let tranches = [tranche(800, 1, 72, 1), tranche(100, 2, 72, 24), tranche(100, 3, 72, 0)];
+    let deal = weighed(RESECURITISATION, &[[1_000, 1_000, 125, 3]], &tranches);
+    assert_eq!(deal.charge, 100_000);
+    assert_eq!(summary(&deal)[1], (2, 100_000, 200_000, vec![91_235, 91_236]));
+    let low_charge = weighed(RESECURITISATION, &[[1_000, 1_000, 1, 3]], &tranches);
+    assert_eq!(summary(&low_charge)[0], (2, 200_000, 1_000_000, vec![10_000]));
+}
+
+/// Without due diligence every line is the fallback, with no cap, also for a rated tranche of a re-securitisation.
+#[test]
+fn no_due_diligence() {
+    let tranches = [tranche(900, 1, 72, 1), tranche(100, 2, 72, 0)];
+    let lines = [(0, 100_000, 1_000_000, vec![125_000]), (0, 0, 100_000, vec![125_000])];
+    for (resecuritisation, status) in [(0, 0), (1, 3)] {
+        let deal = weighed([0, resecuritisation, 0, 1], &[[1_000, 1_000, 10, status]], &tranches);
+        assert_eq!((deal.charge, summary(&deal)), (8_000, lines.to_vec()));
+    }
+}
+
+/// Equal classes share both points. Two raw weights that meet at the floor are listed once.
+#[test]
+fn pari_passu_and_equal_weights() {
+    let tranches = [
+        tranche(200, 1, 72, 0),
+        tranche(300, 2, 72, 0),
+        tranche(100, 2, 72, 0),
+        tranche(400, 3, 72, 0),
+    ];
+    let deal = weighed([0, 0, 1, 0], &pool_at(100), &tranches);
+    assert_eq!(summary(&deal)[0], (2, 800_000, 1_000_000, vec![1_500]));
+    assert_eq!(summary(&deal)[1], (2, 400_000, 800_000, vec![1_500]));
+    assert_eq!(summary(&deal)[2], summary(&deal)[1]);
+}
+
+/// A tranche's line depends on no other tranche's ratings.
+#[test]
+fn lines_depend_on_their_own_ratings() {
+    let with_rating = |rating| {
+        let tranches = [
+            tranche(800, 1, 72, rating),
+            tranche(100, 2, 72, 0),
+            tranche(100, 3, 72, 7),
+        ];
+        weighed(ORDINARY, &pool_at(125), &tranches).lines
+    };
+    let unrated = with_rating(0);
+    for rating in (1..=18).chain(21..=24) {
+        assert_eq!(with_rating(rating)[1..], unrated[1..]);
+        assert_ne!(with_rating(rating)[0].approach, unrated[0].approach);
+    }
+}
+
+/// The largest deal: 1,000 rows and 32 tranches, all amounts and weights at their most, fills the largest file. Each
+/// tranche holds the whole pool, so all but the first have A = D = 0.
+#[test]
+fn largest_amounts() {
+    let most = 10_000_000_000;
+    let pool = vec![[most, most, 1250, 0]; 1_000];
+    let tranches: Vec<[u64; 7]> = (1..=32).map(|class| tranche(1_000 * most, class, 1200, 0)).collect();
+    let words = sheet(ORDINARY, &pool, &tranches);
+    assert_eq!(file(&words).len(), 33_848);
+    let deal = weigh_file(&file(&words), 192).expect("an accepted file");
+    assert_eq!((deal.charge, deal.lines.len()), (1_000_000, 32));
+    let amounts = Amounts {
+        weight: 125_000,
+        risk_weighted: 125_000_000_000_000,
+        capital: 10_000_000_000_000,
+    };
+    assert!(deal
+        .lines
+        .iter()
+        .all(|line| line.approach == 2 && line.attachment == 0 && line.amounts == [amounts]));
+    assert!(deal
+        .lines
+        .iter()
+        .enumerate()
+        .all(|(i, line)| line.detachment == if i == 0 { 1_000_000 } else { 0 }));
+}
+
+/// The largest deal once more, cut into 32 equal slices that all go through the formula: weights rise toward the most
+/// junior slice, and every slice above the charge admits two neighbours, one only at 125,000.
+#[test]
+fn largest_deal_in_slices() {
+    let most = 10_000_000_000;
+    let pool = vec![[most, most, 20, 0]; 1_000];
+    let tranches: Vec<[u64; 7]> = (1..=32)
+        .map(|class| tranche(most * 1_000 / 32, class, 1200, 0))
+        .collect();
+    let deal = weighed([0, 0, 1, 0], &pool, &tranches);
+    assert_eq!(deal.charge, 16_000);
+    let all: Vec<Vec<u64>> = deal.lines.iter().map(weights).collect();
+    assert!(all.windows(2).all(|pair| pair[0] <= pair[1]));
+    assert_eq!(all[0], [1_500]);
+    assert!(all[30].len() == 2 && all[30][1] == all[30][0] + 1);
+    assert_eq!((deal.lines[31].attachment, deal.lines[31].detachment), (0, 31_250));
+}

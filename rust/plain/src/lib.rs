@@ -1,0 +1,61 @@
+//! A plain double-precision calculator of tranche weights.
+//!
+//! It reads the deal sheet of document 01, refuses what 01 refuses in the same order, and writes the same six result
+//! words for each tranche. Sums of whole amounts are kept in `u64`. Every figure with a division or an exponential in
+//! it is worked in `f64`, with `exp`, `ceil` and `floor`.
+//!
+//! **Its rounding differs from document 01's in rare places.** A product above 2^53 loses its last digits in `f64`, and
+//! a quotient that lies very near a whole number can be taken for that number, or for one just past it. A figure that 01
+//! rounds up or down can then be one unit off, and what follows from it can be off as well. Nothing is proved here:
+//! the crate shows what time a calculator of this kind takes.
+
+#![forbid(unsafe_code)]
+
+mod pool;
+mod rating;
+mod sheet;
+mod tranche;
+
+use sheet::{Deal, MOST_TRANCHES, TRANCHE_WORDS};
+use tranche::{Approach, Points, Terms};
+
+/// A refusal: its number and its place.
+pub type Refusal = (u64, u64);
+
+/// Result words for each tranche: approach, A, D, weight, risk-weighted amount, capital.
+const LINE_WORDS: usize = 6;
+
+/// Weighs the deal of a sheet and writes a line of six words for each tranche into `results`.
+///
+/// The answer is the tranche count and the pool charge, or else the number and the place of the refusal. On a refusal
+/// `results` is left as it was; words after the last line are never written.
+pub fn weigh(sheet: &[u64], results: &mut [u64]) -> Result<(u64, u64), Refusal> {
+    let deal = sheet::read(sheet)?;
+    let count = deal.tranches.len();
+    if results.len() < LINE_WORDS * count {
+        return Err((14, 0));
+    }
+    let terms = Terms::of(&deal);
+    let mut points = [Points::default(); MOST_TRANCHES];
+    let points = &mut points[..count];
+    tranche::place(deal.tranches, deal.pool.nominal(), points);
+    refuse_empty_tranche(&deal, &terms, points)?;
+    let (lines, _) = results.as_chunks_mut::<LINE_WORDS>();
+    for ((line, words), points) in lines.iter_mut().zip(deal.tranches).zip(points) {
+        *line = terms.line(&words.into(), points);
+    }
+    Ok((count as u64, terms.charge as u64))
+}
+
+/// Refusal 13: the first tranche under SEC-SA that has no thickness and detaches above the pool charge.
+fn refuse_empty_tranche(deal: &Deal, terms: &Terms, points: &[Points]) -> Result<(), Refusal> {
+    let empty = |(words, points): (&[u64; TRANCHE_WORDS], &Points)| {
+        points.attachment == points.detachment
+            && points.detachment > terms.charge
+            && terms.approach(&words.into()) == Approach::SecSa
+    };
+    match deal.tranches.iter().zip(points).position(empty) {
+        Some(number) => Err((13, (deal.first_tranche + TRANCHE_WORDS * number) as u64)),
+        None => Ok(()),
+    }
+}

@@ -1,0 +1,152 @@
+//! "The deal sheet" and "Refusals": reading the words in order and refusing the first bad one.
+
+use crate::pool::{Pool, Row};
+use crate::Refusal;
+use std::ops::RangeInclusive;
+
+/// Words of a tranche's row.
+pub const TRANCHE_WORDS: usize = 7;
+/// The most tranches that a sheet can hold.
+pub const MOST_TRANCHES: usize = 32;
+
+const MOST_ROWS: u64 = 1_000;
+const MOST_POOL_AMOUNT: u64 = 10_000_000_000;
+const MOST_TRANCHE_AMOUNT: u64 = 10_000_000_000_000;
+
+/// A sheet that has no bad word: its facts, the sums of its pool, and its tranches as they stand in the sheet.
+pub struct Deal<'a> {
+    pub facts: Facts,
+    pub pool: Pool,
+    pub tranches: &'a [[u64; TRANCHE_WORDS]],
+    /// Place of the first tranche's amount.
+    pub first_tranche: usize,
+}
+
+/// The facts that matter once the pool kind is known to be SA.
+pub struct Facts {
+    pub resecuritisation: bool,
+    pub due_diligence: bool,
+    pub composition_known: bool,
+}
+
+/// A tranche's row by its names. The amount is used in the points alone and is left out.
+pub struct Tranche {
+    pub class: u64,
+    pub months: u64,
+    pub held: u64,
+    pub ratings: [u64; 3],
+}
+
+impl From<&[u64; TRANCHE_WORDS]> for Tranche {
+    /// Names the words of a row.
+    fn from(&[_, class, months, held, first, second, third]: &[u64; TRANCHE_WORDS]) -> Self {
+        Tranche {
+            class,
+            months,
+            held,
+            ratings: [first, second, third],
+        }
+    }
+}
+
+/// Reads the whole sheet. The first bad word decides; then words that follow the last section are refused.
+pub fn read(sheet: &[u64]) -> Result<Deal<'_>, Refusal> {
+    let mut reader = Reader { sheet, place: 0 };
+    let facts = reader.facts()?;
+    let pool = reader.pool(facts.resecuritisation)?;
+    let count = reader.within(1..=MOST_TRANCHES as u64, 2)?;
+    let first_tranche = reader.place;
+    reader.check_tranches(count)?;
+    if reader.place < sheet.len() {
+        return Err((3, reader.place as u64));
+    }
+    let (tranches, _) = sheet[first_tranche..].as_chunks();
+    Ok(Deal {
+        facts,
+        pool,
+        tranches,
+        first_tranche,
+    })
+}
+
+/// The sheet and the place of the next word.
+struct Reader<'a> {
+    sheet: &'a [u64],
+    place: usize,
+}
+
+impl Reader<'_> {
+    /// The next word. A missing one is refusal 1 at the sheet's length.
+    fn next(&mut self) -> Result<u64, Refusal> {
+        let word = *self.sheet.get(self.place).ok_or((1, self.sheet.len() as u64))?;
+        self.place += 1;
+        Ok(word)
+    }
+
+    /// Refuses the word that was read last.
+    fn refuse<T>(&self, number: u64) -> Result<T, Refusal> {
+        Err((number, self.place as u64 - 1))
+    }
+
+    /// The next word, refused by `number` where it is outside `limits`.
+    fn within(&mut self, limits: RangeInclusive<u64>, number: u64) -> Result<u64, Refusal> {
+        let word = self.next()?;
+        if limits.contains(&word) {
+            Ok(word)
+        } else {
+            self.refuse(number)
+        }
+    }
+
+    /// A fact that is 0 for no and 1 for yes.
+    fn flag(&mut self) -> Result<bool, Refusal> {
+        Ok(self.within(0..=1, 4)? == 1)
+    }
+
+    /// The section of facts. Pool kinds 1 and 2 are listed codes, and refused by 12.
+    fn facts(&mut self) -> Result<Facts, Refusal> {
+        self.within(4..=4, 2)?;
+        if self.within(0..=2, 4)? != 0 {
+            return self.refuse(12);
+        }
+        Ok(Facts {
+            resecuritisation: self.flag()?,
+            due_diligence: self.flag()?,
+            composition_known: self.flag()?,
+        })
+    }
+
+    /// The section of the pool, added up row by row. A re-securitisation holds securitisation tranches and nothing else.
+    fn pool(&mut self, resecuritisation: bool) -> Result<Pool, Refusal> {
+        let statuses = if resecuritisation { 3..=3 } else { 0..=2 };
+        let count = self.within(1..=MOST_ROWS, 2)?;
+        let mut pool = Pool::default();
+        for _ in 0..count {
+            pool.add(&Row {
+                exposure: self.within(1..=MOST_POOL_AMOUNT, 5)?,
+                nominal: self.within(1..=MOST_POOL_AMOUNT, 5)?,
+                risk_weight: self.within(0..=1250, 6)?,
+                status: self.within(statuses.clone(), 7)?,
+            });
+        }
+        Ok(pool)
+    }
+
+    /// The rows of the tranches. Each class is the one before it or one more; the first is 1.
+    fn check_tranches(&mut self, count: u64) -> Result<(), Refusal> {
+        let mut classes = 1..=1;
+        for _ in 0..count {
+            let amount = self.within(1..=MOST_TRANCHE_AMOUNT, 8)?;
+            let class = self.within(classes, 9)?;
+            self.within(1..=1200, 10)?;
+            self.within(0..=amount, 8)?;
+            for _ in 0..3 {
+                if !matches!(self.next()?, 0..=18 | 21..=24) {
+                    return self.refuse(11);
+                }
+            }
+            classes = class..=class + 1;
+        }
+        Ok(())
+    }
+}

@@ -1,0 +1,141 @@
+//! "Points and pool charge", "Which approach, then floor, then cap" and "The formula and its series", tranche by tranche.
+
+use crate::rating;
+use crate::sheet::{Deal, Tranche, TRANCHE_WORDS};
+use crate::LINE_WORDS;
+
+/// 1250%, in hundredths of a percent.
+const FULL: f64 = 125_000.0;
+
+/// Where a tranche attaches and detaches, in millionths of the pool.
+#[derive(Clone, Copy, Default)]
+pub struct Points {
+    pub attachment: f64,
+    pub detachment: f64,
+}
+
+/// The approaches with their result words.
+#[derive(Clone, Copy, PartialEq)]
+pub enum Approach {
+    Fallback = 0,
+    SecErba = 1,
+    SecSa = 2,
+}
+
+/// Works out the points of each tranche, one class at a time from the senior class down. Each class detaches where the
+/// class above it attaches.
+pub fn place(tranches: &[[u64; TRANCHE_WORDS]], nominal: u64, mut points: &mut [Points]) {
+    let mut below = nominal;
+    let mut detachment = 1e6;
+    for class in tranches.chunk_by(|one, next| one[1] == next[1]) {
+        let amount = class.iter().map(|words| words[0]).sum();
+        below = below.saturating_sub(amount);
+        let attachment = (below as f64 * 1e6 / nominal as f64).floor();
+        let of_class;
+        (of_class, points) = points.split_at_mut(class.len());
+        of_class.fill(Points { attachment, detachment });
+        detachment = attachment;
+    }
+}
+
+/// What all tranches of a deal share.
+pub struct Terms {
+    /// The pool charge K as it is reported.
+    pub charge: f64,
+    charge_known: bool,
+    due_diligence: bool,
+    resecuritisation: bool,
+    /// The supervisory parameter p.
+    parameter: f64,
+    floor: f64,
+    /// The cap of class 1; infinite where the deal has none.
+    senior_cap: f64,
+}
+
+impl Terms {
+    /// Works out the charge, the parameter, the floor and the cap of a deal.
+    pub fn of(deal: &Deal) -> Self {
+        let facts = &deal.facts;
+        let charge = deal.pool.charge();
+        let (parameter, floor) = if facts.resecuritisation {
+            (1.5, 10_000.0)
+        } else {
+            (1.0, 1_500.0)
+        };
+        let capped = facts.composition_known && !facts.resecuritisation;
+        Terms {
+            charge: charge.unwrap_or(1e6),
+            charge_known: charge.is_some(),
+            due_diligence: facts.due_diligence,
+            resecuritisation: facts.resecuritisation,
+            parameter,
+            floor,
+            senior_cap: if capped { deal.pool.cap() } else { f64::INFINITY },
+        }
+    }
+
+    /// Which approach a tranche takes.
+    pub fn approach(&self, tranche: &Tranche) -> Approach {
+        if !self.due_diligence {
+            Approach::Fallback
+        } else if self.resecuritisation {
+            Approach::SecSa
+        } else if tranche.ratings != [0; 3] {
+            Approach::SecErba
+        } else if self.charge_known {
+            Approach::SecSa
+        } else {
+            Approach::Fallback
+        }
+    }
+
+    /// The six result words of a tranche.
+    pub fn line(&self, tranche: &Tranche, points: &Points) -> [u64; LINE_WORDS] {
+        let approach = self.approach(tranche);
+        let weight = match approach {
+            Approach::Fallback => FULL,
+            Approach::SecErba => self.limited(tranche, rated_weight(tranche, points)),
+            Approach::SecSa => self.limited(tranche, self.formula(points)),
+        };
+        let weighted = tranche.held as f64 * weight;
+        let risk_weighted = (weighted / 1e4).ceil();
+        let capital = (weighted * 8.0 / 1e6).ceil();
+        let words = [points.attachment, points.detachment, weight, risk_weighted, capital].map(|figure| figure as u64);
+        [approach as u64, words[0], words[1], words[2], words[3], words[4]]
+    }
+
+    /// A weight raised to the floor, then lowered to the cap of class 1.
+    fn limited(&self, tranche: &Tranche, weight: f64) -> f64 {
+        let cap = if tranche.class == 1 {
+            self.senior_cap
+        } else {
+            f64::INFINITY
+        };
+        weight.max(self.floor).min(cap)
+    }
+
+    /// The raw weight of SEC-SA. With D above K the tranche has a thickness: the other sheets were refused.
+    fn formula(&self, points: &Points) -> f64 {
+        let Points { attachment, detachment } = *points;
+        if detachment <= self.charge {
+            return FULL;
+        }
+        if self.charge == 0.0 {
+            return 0.0;
+        }
+        let scale = self.parameter * self.charge;
+        let lower = (attachment - self.charge).max(0.0);
+        let upper = detachment - self.charge;
+        let full_part = (self.charge - attachment).max(0.0);
+        let part = full_part + scale * ((-lower / scale).exp() - (-upper / scale).exp());
+        (FULL * part / (detachment - attachment)).ceil().min(FULL)
+    }
+}
+
+/// The highest weight of the ratings that are present.
+fn rated_weight(tranche: &Tranche, points: &Points) -> f64 {
+    let present = tranche.ratings.iter().filter(|&&code| code != 0);
+    present
+        .map(|&code| rating::weight(code, tranche.class == 1, tranche.months, points))
+        .fold(0.0, f64::max)
+}

@@ -1,0 +1,109 @@
+//! A weighed deal and its lines (document 01, "The deal sheet", the results).
+
+/// A weighed deal.
+#[derive(Debug, Clone, PartialEq, Eq, Hash)]
+pub struct Deal {
+    /// The pool charge, in millionths: 80,000 is 8%.
+    pub charge: u64,
+    /// A line for each tranche, in the sheet's order.
+    pub lines: Vec<Line>,
+}
+
+impl Deal {
+    /// The sum of the lines' risk-weighted amounts, in whole currency units. It is wide enough for lines of any
+    /// amounts.
+    pub fn total_risk_weighted_amount(&self) -> u128 {
+        self.lines
+            .iter()
+            .map(|line| u128::from(line.risk_weighted_amount))
+            .sum()
+    }
+
+    /// The sum of the lines' capital, in whole currency units. It is wide enough for lines of any amounts.
+    pub fn total_capital(&self) -> u128 {
+        self.lines.iter().map(|line| u128::from(line.capital)).sum()
+    }
+}
+
+/// The line of a tranche.
+#[derive(Debug, Clone, Copy, PartialEq, Eq, Hash)]
+pub struct Line {
+    /// The approach that gave the weight.
+    pub approach: Approach,
+    /// The attachment point A, in millionths of the pool's nominal amount, rounded down.
+    pub attachment: u64,
+    /// The detachment point D, in millionths of the pool's nominal amount, rounded down.
+    pub detachment: u64,
+    /// The risk weight after floor and cap, in hundredths of a percent: 125,000 is 1250%.
+    ///
+    /// Under the formula (SEC-SA), the raw weight before floor and cap is no lower than the exact value and less than
+    /// 2 above it.
+    pub weight: u64,
+    /// The risk-weighted amount of what is held, in whole currency units, rounded up.
+    pub risk_weighted_amount: u64,
+    /// The capital for what is held, 8% of held amount times weight, in whole currency units, rounded up.
+    pub capital: u64,
+}
+
+impl Line {
+    /// The line that six result words state.
+    pub(crate) fn of(&[approach, attachment, detachment, weight, risk_weighted_amount, capital]: &[u64; 6]) -> Line {
+        Line {
+            approach: Approach::of(approach),
+            attachment,
+            detachment,
+            weight,
+            risk_weighted_amount,
+            capital,
+        }
+    }
+}
+
+/// The approach that gave a tranche its weight (document 01, "Which approach, then floor, then cap").
+#[derive(Debug, Clone, Copy, PartialEq, Eq, Hash)]
+pub enum Approach {
+    /// 0: the fallback of 1250%.
+    Fallback,
+    /// 1: SEC-ERBA, the rating table.
+    SecErba,
+    /// 2: SEC-SA, the formula.
+    SecSa,
+    /// A word that document 01 does not list. The library never gives one; one would mean that another archive was
+    /// linked in its place. The word is kept here, so that nothing false is said of it.
+    Unlisted(u64),
+}
+
+impl Approach {
+    /// The approach that a result word states.
+    const fn of(word: u64) -> Approach {
+        match word {
+            0 => Approach::Fallback,
+            1 => Approach::SecErba,
+            2 => Approach::SecSa,
+            other => Approach::Unlisted(other),
+        }
+    }
+}
+
+#[cfg(test)]
+mod tests {
+    use super::{Approach, Deal, Line};
+
+    /// The word of a line that document 01 does not list as an approach is kept.
+    #[test]
+    fn an_unlisted_approach_is_kept() {
+        assert_eq!(Line::of(&[3, 0, 0, 0, 0, 0]).approach, Approach::Unlisted(3));
+    }
+
+    /// The totals of lines of any amounts are exact.
+    #[test]
+    fn totals_are_wide_enough() {
+        let line = Line::of(&[0, 0, 0, 0, u64::MAX, u64::MAX - 1]);
+        let deal = Deal {
+            charge: 0,
+            lines: vec![line; 3],
+        };
+        assert_eq!(deal.total_risk_weighted_amount(), 3 * u128::from(u64::MAX));
+        assert_eq!(deal.total_capital(), 3 * u128::from(u64::MAX - 1));
+    }
+}

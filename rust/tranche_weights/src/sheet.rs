@@ -1,0 +1,195 @@
+//! The sheet of a deal and its builder (document 01, "The deal sheet").
+
+use std::marker::PhantomData;
+
+use crate::calls::weigh_sheet;
+use crate::{Deal, Refusal, Row, SheetError, Status, Tranche};
+
+/// The most rows that a pool has; the fewest is 1.
+pub const MOST_ROWS: usize = 1000;
+
+/// The most tranches that a deal has; the fewest is 1.
+pub const MOST_TRANCHES: usize = 32;
+
+/// What is said of the deal as a whole. The pool kind is always SA, the one kind that the calculator covers.
+#[derive(Debug, Clone, Copy, PartialEq, Eq, Hash)]
+pub struct Facts {
+    /// Due diligence is held. Without it every tranche gets the fallback of 1250%.
+    pub due_diligence_held: bool,
+    /// The pool's composition is known. Without it no tranche gets the senior cap.
+    pub pool_composition_known: bool,
+}
+
+/// Marks the builder of an ordinary deal, whose rows have a [`Status`].
+#[derive(Debug, Clone, Copy, PartialEq, Eq, Hash)]
+pub enum Ordinary {}
+
+/// Marks the builder of a re-securitisation, each of whose rows is a securitisation tranche.
+#[derive(Debug, Clone, Copy, PartialEq, Eq, Hash)]
+pub enum Resecuritisation {}
+
+/// The status word of every row in a re-securitisation: a securitisation tranche.
+const SECURITISATION_TRANCHE: u64 = 3;
+
+/// Builds the sheet of a deal: rows in any order, tranches from senior to junior.
+///
+/// A method that answers with an error leaves the builder as it was.
+#[derive(Debug, Clone, PartialEq, Eq)]
+pub struct SheetBuilder<Kind> {
+    /// Four rows of one word each.
+    facts: [[u64; 1]; 4],
+    rows: Vec<[u64; 4]>,
+    tranches: Vec<[u64; 7]>,
+    /// The class of the last tranche placed; 0 before the first.
+    class: u64,
+    kind: PhantomData<Kind>,
+}
+
+impl SheetBuilder<Ordinary> {
+    /// Starts an ordinary deal, without rows and tranches.
+    pub fn ordinary(facts: Facts) -> Self {
+        Self::start(false, facts)
+    }
+
+    /// Adds a row with its status; the error says that the pool is full.
+    pub fn row(&mut self, row: Row, status: Status) -> Result<&mut Self, SheetError> {
+        self.add_row(row, status as u64)
+    }
+}
+
+impl SheetBuilder<Resecuritisation> {
+    /// Starts a re-securitisation, without rows and tranches.
+    pub fn resecuritisation(facts: Facts) -> Self {
+        Self::start(true, facts)
+    }
+
+    /// Adds a row, a securitisation tranche; the error says that the pool is full.
+    pub fn row(&mut self, row: Row) -> Result<&mut Self, SheetError> {
+        self.add_row(row, SECURITISATION_TRANCHE)
+    }
+}
+
+impl<Kind> SheetBuilder<Kind> {
+    /// Starts a deal of either kind. The first fact is the pool kind: 0, SA.
+    fn start(resecuritisation: bool, facts: Facts) -> Self {
+        let flags = [
+            false,
+            resecuritisation,
+            facts.due_diligence_held,
+            facts.pool_composition_known,
+        ];
+        SheetBuilder {
+            facts: flags.map(|flag| [u64::from(flag)]),
+            rows: Vec::new(),
+            tranches: Vec::new(),
+            class: 0,
+            kind: PhantomData,
+        }
+    }
+
+    /// Adds a row with its status word, where the pool is not full.
+    fn add_row(&mut self, row: Row, status: u64) -> Result<&mut Self, SheetError> {
+        if self.rows.len() == MOST_ROWS {
+            return Err(SheetError::TooManyRows);
+        }
+        self.rows
+            .push([row.exposure.get(), row.nominal.get(), row.risk_weight.get(), status]);
+        Ok(self)
+    }
+
+    /// Places a tranche in the next class: class 1, the senior class, for the first tranche; for any other, the class
+    /// that ranks just below the tranche placed before it. The error says that the deal is full.
+    pub fn next_class(&mut self, tranche: Tranche) -> Result<&mut Self, SheetError> {
+        self.place(tranche, self.class + 1)
+    }
+
+    /// Places a tranche in the class of the tranche placed before it, with which it ranks pari passu. The error says
+    /// that there is no tranche before it, or that the deal is full.
+    pub fn same_class(&mut self, tranche: Tranche) -> Result<&mut Self, SheetError> {
+        if self.class == 0 {
+            return Err(SheetError::NoTrancheBefore);
+        }
+        self.place(tranche, self.class)
+    }
+
+    /// Places a tranche in a class, where the deal is not full.
+    fn place(&mut self, tranche: Tranche, class: u64) -> Result<&mut Self, SheetError> {
+        if self.tranches.len() == MOST_TRANCHES {
+            return Err(SheetError::TooManyTranches);
+        }
+        self.tranches.push(tranche.words(class));
+        self.class = class;
+        Ok(self)
+    }
+
+    /// Makes the sheet of all that was added; the error says that there is no row or no tranche.
+    pub fn build(&self) -> Result<Sheet, SheetError> {
+        if self.rows.is_empty() {
+            return Err(SheetError::NoRows);
+        }
+        if self.tranches.is_empty() {
+            return Err(SheetError::NoTranches);
+        }
+        Ok(Sheet {
+            words: [section(&self.facts), section(&self.rows), section(&self.tranches)].concat(),
+        })
+    }
+}
+
+/// A section of the sheet: the count of its rows, then their words.
+fn section<const WORDS: usize>(rows: &[[u64; WORDS]]) -> Vec<u64> {
+    let mut words = vec![rows.len() as u64];
+    words.extend(rows.as_flattened());
+    words
+}
+
+/// The sheet of a deal, as [`SheetBuilder`] makes it: every word is one that document 01 admits.
+#[derive(Debug, Clone, PartialEq, Eq, Hash)]
+pub struct Sheet {
+    words: Vec<u64>,
+}
+
+impl Sheet {
+    /// The sheet's words.
+    pub fn words(&self) -> &[u64] {
+        &self.words
+    }
+
+    /// The sheet as a file: its words, eight bytes each, lowest byte first.
+    pub fn to_file_bytes(&self) -> Vec<u8> {
+        self.words.iter().flat_map(|word| word.to_le_bytes()).collect()
+    }
+
+    /// Weighs the deal.
+    ///
+    /// The one refusal that such a sheet can get is 13, [`Reason::ThinTranche`](crate::Reason::ThinTranche): that one
+    /// depends on the whole deal, and no single word is at fault.
+    ///
+    /// ```
+    /// use tranche_weights::{
+    ///     Facts, Months, PoolAmount, Reason, RiskWeight, Row, SheetBuilder, SheetError, Status, Tranche,
+    ///     TrancheAmount,
+    /// };
+    ///
+    /// # fn main() -> Result<(), SheetError> {
+    /// let ten_billion = PoolAmount::new(10_000_000_000)?;
+    /// let loans = Row { exposure: ten_billion, nominal: ten_billion, risk_weight: RiskWeight::new(100)? };
+    /// let five_years = Months::new(60)?;
+    /// let senior = Tranche::new(TrancheAmount::new(4_999_995_000)?, five_years, 0)?;
+    /// // One unit of ten billion: both points round down to 500,000 millionths, above the pool charge of 80,000.
+    /// let thin = Tranche::new(TrancheAmount::new(1)?, five_years, 1)?;
+    ///
+    /// let mut deal = SheetBuilder::ordinary(Facts { due_diligence_held: true, pool_composition_known: true });
+    /// deal.row(loans, Status::Paying)?.next_class(senior)?.next_class(thin)?;
+    /// let refusal = deal.build()?.weigh().unwrap_err();
+    ///
+    /// assert_eq!(refusal.reason(), Reason::ThinTranche);
+    /// assert_eq!((refusal.number(), refusal.place()), (13, 18));
+    /// assert!(refusal.to_string().starts_with("refused 13 at 18: a tranche under the formula"));
+    /// # Ok(())
+    /// # }
+    /// ```
+    pub fn weigh(&self) -> Result<Deal, Refusal> {
+        weigh_sheet(&self.words)
+    }
+}

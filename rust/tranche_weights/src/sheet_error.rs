@@ -1,0 +1,79 @@
+//! What keeps a value, a tranche or a sheet from being made.
+
+use std::error::Error;
+use std::fmt;
+
+use crate::{Months, PoolAmount, RiskWeight, TrancheAmount, MOST_ROWS, MOST_TRANCHES};
+
+/// Why a value, a tranche or a sheet can't be made: document 01 ("The deal sheet") does not admit it.
+///
+/// Each case names the refusal that it forestalls.
+#[derive(Debug, Clone, Copy, PartialEq, Eq, Hash)]
+pub enum SheetError {
+    /// A pool amount outside 1 to 10^10: the amount given (refusal 5).
+    PoolAmount(u64),
+    /// A risk weight above 1250 percent: the weight given (refusal 6).
+    RiskWeight(u64),
+    /// A tranche amount outside 1 to 10^13: the amount given (refusal 8).
+    TrancheAmount(u64),
+    /// More is held than the tranche's amount (refusal 8).
+    HeldAboveAmount {
+        /// The amount held, as given.
+        held: u64,
+        /// The tranche's amount.
+        amount: TrancheAmount,
+    },
+    /// A maturity outside 1 to 1200 months: the months given (refusal 10).
+    Months(u64),
+    /// A first tranche placed in the same class as the one before it: there is none (refusal 9).
+    NoTrancheBefore,
+    /// A pool without rows (refusal 2).
+    NoRows,
+    /// One more row for a pool that has all of its 1,000 (refusal 2).
+    TooManyRows,
+    /// A deal without tranches (refusal 2).
+    NoTranches,
+    /// One more tranche for a deal that has all of its 32 (refusal 2).
+    TooManyTranches,
+}
+
+impl fmt::Display for SheetError {
+    /// Says in one line what was given and what is admitted.
+    fn fmt(&self, f: &mut fmt::Formatter<'_>) -> fmt::Result {
+        match *self {
+            SheetError::PoolAmount(given) => {
+                outside(f, "a pool amount", given, PoolAmount::LOWEST, PoolAmount::HIGHEST)
+            }
+            SheetError::RiskWeight(given) => outside(
+                f,
+                "a risk weight in percent",
+                given,
+                RiskWeight::LOWEST,
+                RiskWeight::HIGHEST,
+            ),
+            SheetError::TrancheAmount(given) => outside(
+                f,
+                "a tranche amount",
+                given,
+                TrancheAmount::LOWEST,
+                TrancheAmount::HIGHEST,
+            ),
+            SheetError::HeldAboveAmount { held, amount } => outside(f, "an amount held", held, 0, amount.get()),
+            SheetError::Months(given) => outside(f, "a maturity in months", given, Months::LOWEST, Months::HIGHEST),
+            SheetError::NoTrancheBefore => {
+                write!(f, "the first tranche has no tranche before it to share a class with")
+            }
+            SheetError::NoRows => write!(f, "a pool has at least 1 row"),
+            SheetError::TooManyRows => write!(f, "a pool has at most {} rows", MOST_ROWS),
+            SheetError::NoTranches => write!(f, "a deal has at least 1 tranche"),
+            SheetError::TooManyTranches => write!(f, "a deal has at most {} tranches", MOST_TRANCHES),
+        }
+    }
+}
+
+impl Error for SheetError {}
+
+/// Writes that a number is outside its limits.
+fn outside(f: &mut fmt::Formatter<'_>, what: &str, given: u64, lowest: u64, highest: u64) -> fmt::Result {
+    write!(f, "{what} is {lowest} to {highest}, not {given}")
+}

@@ -1,0 +1,70 @@
+//! The first of document 01's "Checked deals": its words, its text and its making by the builder.
+
+use tranche_weights::{
+    Facts, LongTerm, Months, Ordinary, PoolAmount, RiskWeight, Row, SheetBuilder, SheetError, Status, Tranche,
+    TrancheAmount,
+};
+
+/// The sheet, as document 01 prints it.
+pub const WORDS: [u64; 36] = [
+    4, 0, 0, 1, 1, 2, 950, 950, 100, 0, 50, 50, 100, 1, 3, 800, 1, 72, 800, 1, 0, 0, 150, 2, 72, 100, 9, 0, 0, 50, 3,
+    72, 50, 0, 0, 0,
+];
+
+/// The report on it, as document 01 prints it.
+pub const TEXT: &str = "\
+charge 101000 tranches 3
+1 1 200000 1000000 2000 160 13
+2 1 50000 200000 26350 264 22
+3 2 0 50000 125000 625 50
+total 1049 85
+";
+
+/// The result words of its three lines.
+pub const RESULTS: [u64; 18] = [
+    1, 200_000, 1_000_000, 2_000, 160, 13, 1, 50_000, 200_000, 26_350, 264, 22, 2, 0, 50_000, 125_000, 625, 50,
+];
+
+/// Words as a file: eight bytes each, lowest byte first.
+pub fn file_of(words: &[u64]) -> Vec<u8> {
+    words.iter().flat_map(|word| word.to_le_bytes()).collect()
+}
+
+/// A row of equal amounts at 100%.
+pub fn row(amount: u64) -> Result<Row, SheetError> {
+    let amount = PoolAmount::new(amount)?;
+    Ok(Row {
+        exposure: amount,
+        nominal: amount,
+        risk_weight: RiskWeight::new(100)?,
+    })
+}
+
+/// An unrated tranche of 72 months.
+pub fn tranche(amount: u64, held: u64) -> Result<Tranche, SheetError> {
+    Tranche::new(TrancheAmount::new(amount)?, Months::new(72)?, held)
+}
+
+/// The start of an ordinary deal with both facts affirmed.
+pub fn ordinary() -> SheetBuilder<Ordinary> {
+    SheetBuilder::ordinary(Facts {
+        due_diligence_held: true,
+        pool_composition_known: true,
+    })
+}
+
+/// The builder makes exactly the checked deal's words and file.
+#[test]
+fn the_builder_makes_the_checked_deal() -> Result<(), SheetError> {
+    let mut builder = ordinary();
+    builder
+        .row(row(950)?, Status::Paying)?
+        .row(row(50)?, Status::Delinquent)?
+        .next_class(tranche(800, 800)?.with_ratings([Some(LongTerm::Aaa.into()), None, None]))?
+        .next_class(tranche(150, 100)?.with_ratings([Some(LongTerm::Bbb.into()), None, None]))?
+        .next_class(tranche(50, 50)?)?;
+    let sheet = builder.build()?;
+    assert_eq!(sheet.words(), WORDS);
+    assert_eq!(sheet.to_file_bytes(), file_of(&WORDS));
+    Ok(())
+}

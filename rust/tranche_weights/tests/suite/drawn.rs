@@ -1,0 +1,222 @@
+//! Sheets drawn by a seeded generator: each is built, and the library refuses none of them but by 13.
+
+use crate::checked_deal::file_of;
+use crate::texts::text_of;
+use tranche_weights::{
+    report, weigh_file, Facts, LongTerm, Months, PoolAmount, Rating, Reason, RiskWeight, Row, Sheet, SheetBuilder,
+    SheetError, ShortTerm, Status, Tranche, TrancheAmount,
+};
+
+/// The long-term grades, by rating code from 1.
+const LONG_TERM: [LongTerm; 18] = [
+    LongTerm::Aaa,
+    LongTerm::AaPlus,
+    LongTerm::Aa,
+    LongTerm::AaMinus,
+    LongTerm::APlus,
+    LongTerm::A,
+    LongTerm::AMinus,
+    LongTerm::BbbPlus,
+    LongTerm::Bbb,
+    LongTerm::BbbMinus,
+    LongTerm::BbPlus,
+    LongTerm::Bb,
+    LongTerm::BbMinus,
+    LongTerm::BPlus,
+    LongTerm::B,
+    LongTerm::BMinus,
+    LongTerm::Ccc,
+    LongTerm::BelowCccMinus,
+];
+
+/// The short-term grades, by rating code from 21.
+const SHORT_TERM: [ShortTerm; 4] = [ShortTerm::First, ShortTerm::Second, ShortTerm::Third, ShortTerm::Other];
+
+/// The statuses of an ordinary pool, by status word.
+const STATUSES: [Status; 3] = [Status::Paying, Status::Delinquent, Status::NotKnown];
+
+/// An xorshift generator of 64 bits. The seed is not 0.
+struct Generator(u64);
+
+impl Generator {
+    /// The next number.
+    fn next(&mut self) -> u64 {
+        self.0 ^= self.0 << 13;
+        self.0 ^= self.0 >> 7;
+        self.0 ^= self.0 << 17;
+        self.0
+    }
+
+    /// A number from 0 up to and without the bound.
+    fn below(&mut self, bound: u64) -> u64 {
+        self.next() % bound
+    }
+
+    /// A number within limits: either limit one time in eight, else one of any length.
+    fn within(&mut self, lowest: u64, highest: u64) -> u64 {
+        match self.below(8) {
+            0 => lowest,
+            1 => highest,
+            _ => {
+                let bits = self.below(u64::from(highest.ilog2()) + 1);
+                (lowest + self.below(2 << bits)).min(highest)
+            }
+        }
+    }
+
+    /// The words of a sheet that document 01 admits, of an SA pool.
+    fn words(&mut self) -> Vec<u64> {
+        let resecuritisation = self.below(2);
+        let mut words = vec![4, 0, resecuritisation, u64::from(self.below(8) > 0), self.below(2)];
+        self.rows(resecuritisation == 1, &mut words);
+        self.tranches(&mut words);
+        words
+    }
+
+    /// Adds the pool's section. A third of the ordinary pools have paying rows alone, so that the charge is low; a
+    /// third have delinquent ones too; a third have all three statuses.
+    fn rows(&mut self, resecuritisation: bool, words: &mut Vec<u64>) {
+        let count = self.within(1, 1000);
+        let statuses = 1 + self.below(3);
+        words.push(count);
+        for _ in 0..count {
+            let status = if resecuritisation { 3 } else { self.below(statuses) };
+            words.extend([
+                self.within(1, PoolAmount::HIGHEST),
+                self.within(1, PoolAmount::HIGHEST),
+                self.within(0, 1250),
+                status,
+            ]);
+        }
+    }
+
+    /// Adds the tranches' section. Half of the deals have tranches of any size, half such that cut the pool up.
+    fn tranches(&mut self, words: &mut Vec<u64>) {
+        let nominal: u64 = words[6..].chunks(4).map(|row| row[1]).sum();
+        let count = self.within(1, 32);
+        let highest = if self.below(2) == 0 {
+            TrancheAmount::HIGHEST
+        } else {
+            (2 * nominal / count).max(1)
+        };
+        let mut class = 1;
+        words.push(count);
+        for _ in 0..count {
+            let amount = self.within(1, highest);
+            let held = self.below(amount + 1);
+            words.extend([
+                amount,
+                class,
+                self.within(1, 1200),
+                held,
+                self.rating(),
+                self.rating(),
+                self.rating(),
+            ]);
+            class += self.below(2);
+        }
+    }
+
+    /// A rating code: none two times in three, so that whole tranches are unrated.
+    fn rating(&mut self) -> u64 {
+        match self.below(66) {
+            long @ 0..=17 => long + 1,
+            short @ 18..=21 => short + 3,
+            _ => 0,
+        }
+    }
+}
+
+/// The rating that a code states.
+fn rating_of(code: u64) -> Option<Rating> {
+    match code {
+        0 => None,
+        1..=18 => Some(LONG_TERM[code as usize - 1].into()),
+        _ => Some(SHORT_TERM[code as usize - 21].into()),
+    }
+}
+
+/// The row that four words state, without its status.
+fn row_of(words: &[u64]) -> Result<Row, SheetError> {
+    let (exposure, nominal) = (PoolAmount::new(words[0])?, PoolAmount::new(words[1])?);
+    Ok(Row {
+        exposure,
+        nominal,
+        risk_weight: RiskWeight::new(words[2])?,
+    })
+}
+
+/// Builds the sheet that the words state, by the builder of its kind.
+fn built(words: &[u64]) -> Result<Sheet, SheetError> {
+    let facts = Facts {
+        due_diligence_held: words[3] == 1,
+        pool_composition_known: words[4] == 1,
+    };
+    let (rows, tranches) = words[6..].split_at(4 * words[5] as usize);
+    if words[2] == 1 {
+        let mut builder = SheetBuilder::resecuritisation(facts);
+        for row in rows.chunks(4) {
+            builder.row(row_of(row)?)?;
+        }
+        with_tranches(builder, &tranches[1..])
+    } else {
+        let mut builder = SheetBuilder::ordinary(facts);
+        for row in rows.chunks(4) {
+            builder.row(row_of(row)?, STATUSES[row[3] as usize])?;
+        }
+        with_tranches(builder, &tranches[1..])
+    }
+}
+
+/// Places the tranches that the words state and builds the sheet.
+fn with_tranches<Kind>(mut builder: SheetBuilder<Kind>, words: &[u64]) -> Result<Sheet, SheetError> {
+    let mut class = 0;
+    for row in words.chunks(7) {
+        let tranche = Tranche::new(TrancheAmount::new(row[0])?, Months::new(row[2])?, row[3])?;
+        let tranche = tranche.with_ratings([row[4], row[5], row[6]].map(rating_of));
+        if row[1] == class {
+            builder.same_class(tranche)?;
+        } else {
+            builder.next_class(tranche)?;
+        }
+        class = row[1];
+    }
+    builder.build()
+}
+
+/// Any admitted sheet can be built, to the word. It is weighed with a line per tranche or refused by 13 at the amount
+/// of a tranche. Its file gets the same answer, and its report states that answer.
+#[test]
+fn a_built_sheet_is_refused_by_13_alone() -> Result<(), SheetError> {
+    let mut generator = Generator(0x7261_6e63_6865_7301);
+    let (mut weighed, mut refused) = ([0; 2], [0; 2]);
+    for _ in 0..800 {
+        let words = generator.words();
+        let sheet = built(&words)?;
+        assert_eq!(sheet.words(), words);
+        let (kind, first) = (words[2] as usize, 6 + 4 * words[5] + 1);
+        let outcome = sheet.weigh();
+        match &outcome {
+            Ok(deal) => {
+                assert_eq!(deal.lines.len() as u64, words[first as usize - 1]);
+                weighed[kind] += 1;
+            }
+            Err(refusal) => {
+                assert_eq!(
+                    (refusal.reason(), refusal.number()),
+                    (Reason::ThinTranche, 13),
+                    "{words:?}"
+                );
+                assert_eq!((refusal.place() - first) % 7, 0, "{words:?}");
+                refused[kind] += 1;
+            }
+        }
+        assert_eq!(report(&file_of(&words)), text_of(&outcome), "{words:?}");
+        assert_eq!(weigh_file(&sheet.to_file_bytes()), outcome, "{words:?}");
+    }
+    assert!(
+        weighed.iter().chain(&refused).all(|count| *count >= 20),
+        "weighed {weighed:?}, refused {refused:?}"
+    );
+    Ok(())
+}

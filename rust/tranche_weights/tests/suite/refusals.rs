@@ -1,0 +1,121 @@
+//! Each refusal, with its number, place and reason (document 01, "Refusals, by who can cause them").
+
+use crate::checked_deal::{file_of, RESULTS, WORDS};
+use tranche_weights::{report, weigh_file, weigh_words, Reason, Refusal};
+
+/// The checked deal with one word replaced.
+fn with(place: usize, word: u64) -> Vec<u64> {
+    let mut words = WORDS.to_vec();
+    words[place] = word;
+    words
+}
+
+/// Words refused by the library, each with number, place and reason.
+fn refused_words() -> Vec<(Vec<u64>, u64, u64, Reason)> {
+    let longer = [&WORDS[..], &[0, 0]].concat();
+    let thin = [
+        4,
+        0,
+        0,
+        1,
+        1,
+        1,
+        10_000_000_000,
+        10_000_000_000,
+        100,
+        0,
+        2,
+        4_999_995_000,
+        1,
+        60,
+        0,
+        0,
+        0,
+        0,
+    ];
+    let thin = [&thin[..], &[1, 2, 60, 1, 0, 0, 0]].concat();
+    vec![
+        (vec![], 1, 0, Reason::MissingWord),
+        (WORDS[..35].to_vec(), 1, 35, Reason::MissingWord),
+        (with(0, 3), 2, 0, Reason::Count),
+        (with(5, 1001), 2, 5, Reason::Count),
+        (with(14, 33), 2, 14, Reason::Count),
+        (longer, 3, 36, Reason::WordsFollow),
+        (with(1, 3), 4, 1, Reason::Fact),
+        (with(4, 2), 4, 4, Reason::Fact),
+        (with(6, 0), 5, 6, Reason::PoolAmount),
+        (with(7, 10_000_000_001), 5, 7, Reason::PoolAmount),
+        (with(8, 1251), 6, 8, Reason::RiskWeight),
+        (with(9, 3), 7, 9, Reason::Status),
+        (with(2, 1), 7, 9, Reason::Status),
+        (with(15, 0), 8, 15, Reason::TrancheAmount),
+        (with(18, 801), 8, 18, Reason::TrancheAmount),
+        (with(16, 2), 9, 16, Reason::Class),
+        (with(30, 4), 9, 30, Reason::Class),
+        (with(17, 1201), 10, 17, Reason::Maturity),
+        (with(19, 19), 11, 19, Reason::Rating),
+        (with(1, 1), 12, 1, Reason::PoolKind),
+        (with(1, 2), 12, 1, Reason::PoolKind),
+        (thin, 13, 18, Reason::ThinTranche),
+    ]
+}
+
+/// Holds a refusal to number, place and reason, and its print to the report's.
+fn hold(refusal: Refusal, number: u64, place: u64, reason: Reason) {
+    assert_eq!(
+        (refusal.number(), refusal.place(), refusal.reason()),
+        (number, place, reason)
+    );
+    assert!(
+        refusal
+            .to_string()
+            .starts_with(&format!("refused {number} at {place}: ")),
+        "{refusal}"
+    );
+}
+
+/// Words are refused with number, place and reason, as words and as a file; the results are as they were.
+#[test]
+fn refused_words_leave_the_results() {
+    let before: Vec<u64> = (900..1100).collect();
+    for (words, number, place, reason) in refused_words() {
+        let mut results = before.clone();
+        hold(weigh_words(&words, &mut results).unwrap_err(), number, place, reason);
+        assert_eq!(results, before);
+        hold(weigh_file(&file_of(&words)).unwrap_err(), number, place, reason);
+        assert_eq!(report(&file_of(&words)), format!("refused {number} at {place}\n"));
+    }
+}
+
+/// Too little room for the lines is 14 at 0, and the results are as they were.
+#[test]
+fn too_little_room_leaves_the_results() {
+    for room in [0, 6, RESULTS.len() - 1] {
+        let before: Vec<u64> = (900..).take(room).collect();
+        let mut results = before.clone();
+        hold(weigh_words(&WORDS, &mut results).unwrap_err(), 14, 0, Reason::Room);
+        assert_eq!(results, before);
+    }
+}
+
+/// A file's length is a multiple of 8 and at most 33,848; any other is 15 at 0, before all that its words say.
+#[test]
+fn a_bad_length_of_a_file_comes_before_all() {
+    for length in [1, 7, 9, 33_847, 33_849, 33_856] {
+        hold(weigh_file(&vec![0; length]).unwrap_err(), 15, 0, Reason::FileLength);
+        assert_eq!(report(&vec![0; length]), "refused 15 at 0\n");
+    }
+    for length in [8, 33_848] {
+        hold(weigh_file(&vec![0; length]).unwrap_err(), 2, 0, Reason::Count);
+    }
+}
+
+/// A refusal prints what is wrong in the desk's words, and is an error that a caller can pass on.
+#[test]
+fn a_refusal_says_what_is_wrong() {
+    let refusal: Box<dyn std::error::Error> = weigh_file(&file_of(&with(6, 0))).unwrap_err().into();
+    assert_eq!(
+        refusal.to_string(),
+        "refused 5 at 6: an exposure or nominal amount is 0 or above 10^10"
+    );
+}
