@@ -1,13 +1,16 @@
 -- Totals over rows that count: none, one row more, and how the pool's sums are made of three of them. No axioms.
 use mathlib.Core.Bool.{Bool, true, false, not}
 use mathlib.Core.List.{List}
-use mathlib.Core.Path.{_≡_, refl}
+use mathlib.Core.Path.{_≡_, refl, ap}
 use Prim.Native.Nat.{ℕ, zero, suc, _+_, _-_, _≤_}
+use native.Mathlib.Nat.{add-zero}
 use native.Mathlib.Omega.{arith}
 use lib.Dec.{eqb}
+use borrow.Author.Tests.{eq-eqb, ne-eqb}
 use Rattle.judgement.specs.DealSheet.{exposure, nominal, status}
 use Rattle.deal.specs.Sum.{sum, whereCounted}
-use Rattle.deal.specs.PointsAndCharge.{known, delinquent, weightedExposure, withCounted, totalsTo, sumsTo}
+use Rattle.deal.specs.PointsAndCharge.{known, delinquent, weightedExposure, withRow, totalsTo, markedTo, sumsTo}
+use Rattle.deal.specs.declared.Marked.{Marked}
 use Rattle.deal.specs.declared.Sums.{Sums}
 use Rattle.deal.specs.declared.Totals.{Totals}
 use Rattle.deal.proofs.SumLaws.{sum-next}
@@ -16,10 +19,47 @@ pub totals-none : (s : List ℕ) (counts : ℕ → Bool) → record { exposure =
 unfolding sum
 totals-none s counts = refl
 
-pub totals-next :
-    (s : List ℕ) (counts : ℕ → Bool) (i : ℕ) →
-    withCounted (totalsTo s counts i) (counts i) (exposure s i) (nominal s i) (weightedExposure s i) ≡ totalsTo s counts (i + 1)
-totals-next s counts i = simp sum-next
+-- a row that counts is added, and one that does not leaves the totals
+pub totals-next : (s : List ℕ) (counts : ℕ → Bool) (i : ℕ) → counts i ≡ true → withRow s (totalsTo s counts i) i ≡ totalsTo s counts (i + 1)
+totals-next s counts i e = simp (sum-next, e)
+
+pub totals-left : (s : List ℕ) (counts : ℕ → Bool) (i : ℕ) → counts i ≡ false → totalsTo s counts i ≡ totalsTo s counts (i + 1)
+totals-left s counts i e = simp (sum-next, e, add-zero)
+
+-- ---- what is marked, by the row's status
+
+pub marked-none : (s : List ℕ) → record { unknown = record { exposure = 0; nominal = 0; weighted = 0 }; late = 0 } ≡ markedTo s 0
+unfolding sum
+marked-none s = refl
+
+module _ (s : List ℕ) (i : ℕ) where
+  abbrev unknowns : ℕ → Totals
+  unknowns = totalsTo s (λ k. eqb (status s k) 2)
+
+  abbrev lates : ℕ → Totals
+  lates = totalsTo s (λ k. delinquent s k)
+
+  late-left : (status s i ≡ 1 → ⊥) → lates i .nominal ≡ lates (i + 1) .nominal
+  late-left other = ap (λ (t : Totals). t .nominal) (totals-left s (λ k. delinquent s k) i (ne-eqb (status s i) 1 other))
+
+  unknown-left : (status s i ≡ 2 → ⊥) → unknowns i ≡ unknowns (i + 1)
+  unknown-left other = totals-left s (λ k. eqb (status s k) 2) i (ne-eqb (status s i) 2 other)
+
+  pub marked-unknown : status s i ≡ 2 → _≡_ {A = Marked} (record { unknown = withRow s (unknowns i) i; late = lates i .nominal }) (markedTo s (i + 1))
+  marked-unknown two =
+      let other : status s i ≡ 1 → ⊥ = (λ one. omega arith) in
+      rw (totals-next s (λ k. eqb (status s k) 2) i (eq-eqb (status s i) 2 two), late-left other)
+
+  pub marked-late : status s i ≡ 1 → _≡_ {A = Marked} (record { unknown = unknowns i; late = lates i .nominal + nominal s i }) (markedTo s (i + 1))
+  marked-late one =
+      let other : status s i ≡ 2 → ⊥ = (λ two. omega arith) in
+      let added = ap (λ (t : Totals). t .nominal) (totals-next s (λ k. delinquent s k) i (eq-eqb (status s i) 1 one)) in
+      rw (added, unknown-left other)
+
+  pub marked-other : (status s i ≡ 2 → ⊥) → (status s i ≡ 1 → ⊥) → markedTo s i ≡ markedTo s (i + 1)
+  marked-other unknown late = rw (unknown-left unknown, late-left late)
+
+-- ---- the pool's sums
 
 -- a row counts, or it does not
 one-of-two : (b : Bool) (x : ℕ) → x ≡ whereCounted b x + whereCounted (not b) x

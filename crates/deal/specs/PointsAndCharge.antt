@@ -8,6 +8,7 @@ use lib.Dec.{leb, ltb, eqb}
 use Rattle.numbers.specs.Rounding.{roundedUp}
 use Rattle.judgement.specs.DealSheet.{rows, exposure, nominal, riskWeight, status, trancheCount, amount, class}
 use Rattle.deal.specs.Sum.{sum, whereCounted}
+use Rattle.deal.specs.declared.Marked.{Marked}
 use Rattle.deal.specs.declared.Sums.{Sums}
 use Rattle.deal.specs.declared.Totals.{Totals}
 
@@ -24,20 +25,27 @@ delinquent s i = eqb (status s i) 1
 abbrev pub weightedExposure : List ℕ → ℕ → ℕ
 weightedExposure s i = exposure s i * riskWeight s i
 
--- totals with a row added where it counts
-abbrev pub withCounted : Totals → Bool → ℕ → ℕ → ℕ → Totals
-withCounted t counts e n w = record {
-  exposure = t .exposure + whereCounted counts e;
-  nominal = t .nominal + whereCounted counts n;
-  weighted = t .weighted + whereCounted counts w;
-}
-
 -- the totals of those of the first n rows that count
 abbrev pub totalsTo : List ℕ → (ℕ → Bool) → ℕ → Totals
 totalsTo s counts n = record {
   exposure = sum (λ i. whereCounted (counts i) (exposure s i)) n;
   nominal = sum (λ i. whereCounted (counts i) (nominal s i)) n;
   weighted = sum (λ i. whereCounted (counts i) (weightedExposure s i)) n;
+}
+
+-- totals with row i added
+abbrev pub withRow : List ℕ → Totals → ℕ → Totals
+withRow s t i = record {
+  exposure = t .exposure + exposure s i;
+  nominal = t .nominal + nominal s i;
+  weighted = t .weighted + weightedExposure s i;
+}
+
+-- what is marked of the first n rows: the totals of those of status 2, not known, and the nominal of the delinquent ones
+abbrev pub markedTo : List ℕ → ℕ → Marked
+markedTo s n = record {
+  unknown = totalsTo s (λ i. eqb (status s i) 2) n;
+  late = totalsTo s (λ i. delinquent s i) n .nominal;
 }
 
 -- the seven sums over the first n rows

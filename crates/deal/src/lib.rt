@@ -33,6 +33,12 @@ pub(crate) struct Totals {
     pub(crate) weighted: u64,
 }
 
+// What is marked of some rows: the totals of those of unknown status, and the nominal of the delinquent ones.
+pub(crate) struct Marked {
+    pub(crate) unknown: Totals,
+    pub(crate) late: u64,
+}
+
 // The pool's seven sums: over all rows, over the rows with known status, and the nominal of delinquent rows.
 pub(crate) struct Sums {
     pub(crate) all: Totals,

@@ -1,15 +1,15 @@
 // The pool: its sums, its charge, and what its deal's tranches share.
-ghost use mathlib.Core.Bool.{true, _||_};
+ghost use mathlib.Core.Bool.{true};
 ghost use mathlib.Core.Path.{_≡_};
-ghost use lib.Dec.{eqb};
-ghost use Prim.Native.Nat.{_<_};
-ghost use Rattle.judgement.specs.DealSheet.{rows, exposure, nominal, status, needed};
+ghost use Prim.Native.Nat.{_+_, _<_};
+ghost use Rattle.judgement.specs.DealSheet.{rows, needed};
 ghost use Rattle.deal.specs.SheetPlaces.{places};
-ghost use Rattle.deal.specs.PointsAndCharge.{weightedExposure, withCounted, totalsTo, poolSums, baseCharge, lateShare, knownCharge, mostlyKnown, poolCharge};
+ghost use Rattle.deal.specs.PointsAndCharge.{withRow, totalsTo, markedTo, poolSums, baseCharge, lateShare, knownCharge, mostlyKnown, poolCharge};
 ghost use Rattle.deal.specs.SumLimits.{TotalLimits, SumLimits};
 ghost use Rattle.deal.specs.Lines.{poolAverage, terms};
 ghost use Rattle.judgement.specs.Refusals.{judged};
 ghost use Rattle.judgement.specs.declared.Verdict.the-variants.{Sound};
+use crate::Marked;
 use crate::Places;
 use crate::Sums;
 use crate::Totals;
@@ -23,7 +23,7 @@ const MILLION: u64 = 1000000;
 // Totals with row i added.
 fn with_row(s: &[u64], p: Places, t: Totals, i: u64) -> Totals
     requires { ⌜ (judged (now s) (needed (now s)) ≡ Sound) × (p ≡ places (now s)) × (i < rows (now s)) × TotalLimits t i ⌝ }
-    ensures { λ r. ⌜ r ≡ withCounted t true (exposure (now (s .entry)) i) (nominal (now (s .entry)) i) (weightedExposure (now (s .entry)) i) ⌝ }
+    ensures { λ r. ⌜ r ≡ withRow (now (s .entry)) t i ⌝ }
 {
     let exposure = row_word(s, p, i, 0);
     let nominal = row_word(s, p, i, 1);
@@ -35,24 +35,10 @@ fn with_row(s: &[u64], p: Places, t: Totals, i: u64) -> Totals
     }
 }
 
-// Totals with row i added where it counts: where every row does, or where it has the wanted status.
-fn with_row_of(s: &[u64], p: Places, every: bool, wanted: u64, t: Totals, i: u64) -> Totals
-    requires { ⌜ (judged (now s) (needed (now s)) ≡ Sound) × (p ≡ places (now s)) × (i < rows (now s)) × TotalLimits t i ⌝ }
-    ensures { λ r. ⌜ r ≡ withCounted t (every || eqb (status (now (s .entry)) i) wanted) (exposure (now (s .entry)) i) (nominal (now (s .entry)) i) (weightedExposure (now (s .entry)) i) ⌝ }
-{
-    if every {
-        return with_row(s, p, t, i);
-    }
-    if row_word(s, p, i, 3) == wanted {
-        return with_row(s, p, t, i);
-    }
-    t
-}
-
-// The totals over every row, or over the rows of one status.
-fn totals_of(s: &[u64], p: Places, every: bool, wanted: u64) -> Totals
+// The totals over all rows.
+fn all_totals(s: &[u64], p: Places) -> Totals
     requires { ⌜ (judged (now s) (needed (now s)) ≡ Sound) × (p ≡ places (now s)) ⌝ }
-    ensures { λ r. ⌜ r ≡ totalsTo (now (s .entry)) (λ i. every || eqb (status (now (s .entry)) i) wanted) (rows (now (s .entry))) ⌝ }
+    ensures { λ r. ⌜ r ≡ totalsTo (now (s .entry)) (λ i. true) (rows (now (s .entry))) ⌝ }
 {
     let rows = p.rows;
     let mut t = Totals {
@@ -62,21 +48,65 @@ fn totals_of(s: &[u64], p: Places, every: bool, wanted: u64) -> Totals
     };
     let mut i = 0;
     while i < rows {
-        t = with_row_of(s, p, every, wanted, t, i);
+        t = with_row(s, p, t, i);
         i += 1;
     }
     t
 }
 
-// The pool's sums. Rows of status 2 are not known and rows of status 1 delinquent; both are few, so a pass of its own for each, which reads little of a row, is
-// quicker than one pass for all sums.
+// What is marked of the first i rows, with row i added: a row of status 2 is not known, one of status 1 is delinquent.
+fn with_marked(s: &[u64], p: Places, m: Marked, i: u64) -> Marked
+    requires { ⌜ (judged (now s) (needed (now s)) ≡ Sound) × (p ≡ places (now s)) × (i < rows (now s)) × (m ≡ markedTo (now s) i) ⌝ }
+    ensures { λ r. ⌜ r ≡ markedTo (now (s .entry)) (i + 1) ⌝ }
+{
+    let status = row_word(s, p, i, 3);
+    let unknown = m.unknown;
+    if status == 2 {
+        return Marked {
+            unknown: with_row(s, p, unknown, i),
+            late: m.late,
+        };
+    }
+    if status == 1 {
+        return Marked {
+            unknown,
+            late: m.late + row_word(s, p, i, 1),
+        };
+    }
+    m
+}
+
+// What is marked of all rows.
+fn all_marked(s: &[u64], p: Places) -> Marked
+    requires { ⌜ (judged (now s) (needed (now s)) ≡ Sound) × (p ≡ places (now s)) ⌝ }
+    ensures { λ r. ⌜ r ≡ markedTo (now (s .entry)) (rows (now (s .entry))) ⌝ }
+{
+    let rows = p.rows;
+    let mut m = Marked {
+        unknown: Totals {
+            exposure: 0,
+            nominal: 0,
+            weighted: 0,
+        },
+        late: 0,
+    };
+    let mut i = 0;
+    while i < rows {
+        m = with_marked(s, p, m, i);
+        i += 1;
+    }
+    m
+}
+
+// The pool's sums. Rows of unknown status and delinquent rows are few, so a pass of their own, which reads little of the other rows, is quicker than one pass
+// for all seven sums.
 pub(crate) fn pool_sums(s: &[u64], p: Places) -> Sums
     requires { ⌜ (judged (now s) (needed (now s)) ≡ Sound) × (p ≡ places (now s)) ⌝ }
     ensures { λ r. ⌜ r ≡ poolSums (now (s .entry)) ⌝ }
 {
-    let all = totals_of(s, p, true, 0);
-    let unknown = totals_of(s, p, false, 2);
-    let late = totals_of(s, p, false, 1);
+    let all = all_totals(s, p);
+    let marked = all_marked(s, p);
+    let unknown = marked.unknown;
     let known = Totals {
         exposure: all.exposure - unknown.exposure,
         nominal: all.nominal - unknown.nominal,
@@ -85,7 +115,7 @@ pub(crate) fn pool_sums(s: &[u64], p: Places) -> Sums
     Sums {
         all,
         known,
-        late: late.nominal,
+        late: marked.late,
     }
 }
 
