@@ -104,8 +104,8 @@ pub(crate) fn pool_sums(s: &[u64], p: Places) -> Sums
     requires { ⌜ (judged (now s) (needed (now s)) ≡ Sound) × (p ≡ places (now s)) ⌝ }
     ensures { λ r. ⌜ r ≡ poolSums (now (s .entry)) ⌝ }
 {
-    let all = all_totals(s, p);
     let marked = all_marked(s, p);
+    let all = all_totals(s, p);
     let unknown = marked.unknown;
     let known = Totals {
         exposure: all.exposure - unknown.exposure,

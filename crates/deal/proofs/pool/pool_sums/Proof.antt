@@ -19,21 +19,21 @@ all-marked-requires : tie.Need-all-marked-requires
 all-marked-requires c κs = search needs
 
 -- the totals of all rows and of those of unknown status
-module _ (c : tie.After-all-marked) where
+module _ (c : tie.After-all-totals) where
   abbrev s : List ℕ
   s = c .before .before .before .args .s .now
 
   abbrev all : Totals
-  all = c .before .all-totals .result
+  all = c .all-totals .result
 
   abbrev unknown : Totals
-  unknown = c .all-marked .result .unknown
+  unknown = c .before .all-marked .result .unknown
 
   unknown-is : unknown ≡ totalsTo s (λ i. eqb (status s i) 2) (rows s)
-  unknown-is = ap (λ (m : Marked). m .unknown) (c .all-marked .ensures)
+  unknown-is = ap (λ (m : Marked). m .unknown) (c .before .all-marked .ensures)
 
   among : (unknown .exposure ≤ all .exposure) × ((unknown .nominal ≤ all .nominal) × (unknown .weighted ≤ all .weighted))
-  among = unknown-among-all s (rows s) all unknown (c .before .all-totals .ensures) unknown-is
+  among = unknown-among-all s (rows s) all unknown (c .all-totals .ensures) unknown-is
 
 sub-t7 : tie.Need-sub-t7
 sub-t7 c = among (c .before .before .before) .0
@@ -48,8 +48,8 @@ returns : tie.Need-returns
 unfolding poolSums
 returns c =
     let made = c .before .before .before .before .before .before .before in
-    sums-made (s made) (rows (s made)) (all made) (unknown made) (made .before .all-totals .ensures) (unknown-is made) (made .all-marked .result .late)
-    (ap (λ (m : Marked). m .late) (made .all-marked .ensures))
+    sums-made (s made) (rows (s made)) (all made) (unknown made) (made .all-totals .ensures) (unknown-is made) (made .before .all-marked .result .late)
+    (ap (λ (m : Marked). m .late) (made .before .all-marked .ensures))
 
 pub pool-sums-spec : {M : Type 1} → statement M
-pool-sums-spec = tie.close (tie.spec all-totals-requires all-marked-requires sub-t7 sub-t8 sub-t9 returns)
+pool-sums-spec = tie.close (tie.spec all-marked-requires all-totals-requires sub-t7 sub-t8 sub-t9 returns)
