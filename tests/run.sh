@@ -1,8 +1,35 @@
 #!/bin/sh
-# All tests. First the programs are built and tried as a desk runs them; then everything is proved from nothing, every wrong program is tried, and every
-# program's output is compared with its stored text. The last line is `N passed, 0 failed`.
+# All tests. First the programs and the static library are proved and built, and tried as a desk and a bank's own system use them: from the shell, from C and from
+# Rust, there against an independent implementation. Then everything is proved from nothing, every wrong program is tried, and every program's output is
+# compared with its stored text. The time of each part is printed; the last line is `N passed, 0 failed`.
 set -eu
 cd "$(dirname "$0")/.."
-rt check tranche_report sheet_words
-sh tests/programs.sh
-exec rt ci
+held=$(mktemp -d)
+trap 'rm -rf "$held"' EXIT
+
+# One part, with its name and time: part NAME COMMAND..
+part() {
+    name=$1
+    shift
+    began=$(date +%s)
+    echo "== $name"
+    "$@"
+    echo "== $name: $(($(date +%s) - began)) s"
+}
+
+# The proofs. The gate's last line is held back, so that it comes after this part's time.
+proofs() {
+    { rt ci 2>&1 && echo 0 > "$held/status" || echo 1 > "$held/status"; } |
+        awk -v last="$held/last" 'NR > 1 { print line; fflush() } { line = $0 } END { print line > last }'
+}
+
+part "programs proved and built" rt check tranche_report sheet_words
+part "library proved and built" rt staticlib tranche_weights
+part "programs tried" sh tests/programs.sh
+part "C example" sh tests/c_example.sh
+part "Rust tests" cargo test --offline --release --quiet --manifest-path rust/Cargo.toml
+part "README examples" sh tests/readme_examples.sh
+part "differential run" cargo run --offline --release --quiet --manifest-path rust/Cargo.toml -p differential -- --sheets 1000000
+part "proofs from nothing and wrong programs" proofs
+cat "$held/last"
+exit "$(cat "$held/status")"
