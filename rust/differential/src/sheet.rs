@@ -74,6 +74,17 @@ pub struct Tranche {
     pub ratings: [u64; 3],
 }
 
+impl Tranche {
+    /// The least tranche: one unit in the senior class, unrated, none of it held.
+    pub const LEAST: Tranche = Tranche {
+        amount: 1,
+        class: 1,
+        months: 1,
+        held: 0,
+        ratings: [0; 3],
+    };
+}
+
 /// A deal from which a sheet is written.
 #[derive(Debug, Default)]
 pub struct Deal {
@@ -201,17 +212,10 @@ mod tests {
             risk_weight: 0,
             status: status::PAYING,
         };
-        let tranche = Tranche {
-            amount: 1,
-            class: 1,
-            months: 1,
-            held: 0,
-            ratings: [0; 3],
-        };
         let deal = Deal {
             facts: Facts::default(),
             rows: vec![row; ROWS as usize],
-            tranches: vec![tranche; TRANCHES as usize],
+            tranches: vec![Tranche::LEAST; TRANCHES as usize],
         };
         let mut words = Vec::new();
         deal.write(&mut words);

@@ -71,13 +71,6 @@ fn class_count(random: &mut Random) -> u64 {
 /// The pool charge of the deal's pool. The independent implementation gives it for a sheet with one tranche under the
 /// fallback.
 fn charge(deal: &Deal) -> u64 {
-    let tranche = Tranche {
-        amount: 1,
-        class: 1,
-        months: 1,
-        held: 0,
-        ratings: [0; 3],
-    };
     let facts = Facts {
         due_diligence: 0,
         ..deal.facts
@@ -86,7 +79,7 @@ fn charge(deal: &Deal) -> u64 {
     Deal {
         facts,
         rows: deal.rows.clone(),
-        tranches: vec![tranche],
+        tranches: vec![Tranche::LEAST],
     }
     .write(&mut words);
     let answer = independent::weigh(&words, LINE_WORDS as u64);

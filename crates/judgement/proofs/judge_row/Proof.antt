@@ -1,5 +1,5 @@
 -- `judge_row`: a row that is there whole and passes the one test is sound; any other is judged word by word. No axioms.
-use mathlib.Core.Path.{_≡_, _∙_, sym}
+use mathlib.Core.Path.{_∙_, sym}
 use native.Mathlib.Omega.{arith}
 use borrow.Author.Needs.{needs}
 use Rattle.judgement.proofs.SheetLimits.{row-at-most, resecuritisation-fact}

@@ -1,6 +1,6 @@
 -- `all_marked`: before row i what is marked is that of the first i rows. No axioms.
 use mathlib.Core.Path.{_≡_}
-use Prim.Native.Nat.{_+_, _-_, _≤_, _<_}
+use Prim.Native.Nat.{_-_, _≤_, _<_}
 use native.Mathlib.Omega.{arith}
 use Rattle.judgement.specs.DealSheet.{rows}
 use Rattle.judgement.proofs.SheetLimits.{rows-within, pool-counted}

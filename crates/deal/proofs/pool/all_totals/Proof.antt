@@ -1,6 +1,6 @@
 -- `all_totals`: before row i the totals are those over the first i rows. No axioms.
 use mathlib.Core.Path.{_≡_, refl, _∙_}
-use Prim.Native.Nat.{_+_, _-_, _≤_, _<_}
+use Prim.Native.Nat.{_-_, _≤_, _<_}
 use native.Mathlib.Omega.{arith}
 use mathlib.Core.Bool.{true}
 use Rattle.judgement.specs.DealSheet.{rows}

@@ -1,12 +1,11 @@
 -- `with_marked`: the row's status decides whether it is added to the rows of unknown status or to the delinquent ones. No axioms.
-use mathlib.Core.Path.{_≡_, _∙_, sym, ap}
+use mathlib.Core.Path.{_∙_, sym, ap}
 use native.Mathlib.Omega.{arith}
 use lib.Dec.{eqb}
 use borrow.Author.Needs.{needs}
 use Rattle.judgement.specs.DealSheet.{status}
 use Rattle.judgement.proofs.SheetLimits.{good-row, rows-within, pool-counted}
 use Rattle.deal.specs.PointsAndCharge.{delinquent}
-use Rattle.deal.specs.SumLimits.{TotalLimits}
 use Rattle.deal.specs.declared.Marked.{Marked}
 use Rattle.deal.proofs.PoolLaws.{total-limits}
 use Rattle.deal.proofs.TotalsLaws.{marked-unknown, marked-late, marked-other}

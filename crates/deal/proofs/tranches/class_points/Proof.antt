@@ -1,7 +1,7 @@
 -- `class_points`: after j turns the table and the running sum are those of the first j tranches; 32 amounts of 10^13 fit 64 bits. The measure is what is
 -- left of the tranches. No axioms.
 use mathlib.Core.Path.{_≡_}
-use Prim.Native.Nat.{_+_, _-_, _≤_, _<_}
+use Prim.Native.Nat.{_-_, _≤_, _<_}
 use native.Mathlib.Nat.{add-zero}
 use native.Mathlib.Omega.{arith}
 use Rattle.judgement.specs.DealSheet.{trancheCount, amount, class}

@@ -1,6 +1,6 @@
 -- `row_word`: the word is there, and its place is a low number. No axioms.
 use mathlib.Core.Path.{_≡_, ap}
-use Prim.Native.Nat.{ℕ, _+_, _*_, _≤_, _<_}
+use Prim.Native.Nat.{_+_, _*_, _≤_, _<_}
 use native.Mathlib.Omega.{arith}
 use lib.ListN.{length}
 use Rattle.judgement.specs.DealSheet.{word, rowAt}
