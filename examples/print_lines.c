@@ -10,6 +10,23 @@
 
 #include "tranche_weights.h"
 
+/* The longest file of a sheet, in bytes. */
+#define LONGEST (8 * TRANCHE_WEIGHTS_SHEET_WORDS)
+
+/* Reads a file's bytes, at most one more than the longest file has. Returns their number, or -1 where the file can't be read. */
+static long read_file(const char *name, unsigned char *bytes)
+{
+    FILE *file = fopen(name, "rb");
+    long size;
+    if (file == NULL)
+        return -1;
+    size = (long)fread(bytes, 1, LONGEST + 1, file);
+    if (ferror(file))
+        size = -1;
+    fclose(file);
+    return size;
+}
+
 /* The word that eight bytes hold, lowest byte first. */
 static uint64_t word_of(const unsigned char *bytes)
 {
@@ -19,24 +36,7 @@ static uint64_t word_of(const unsigned char *bytes)
     return word;
 }
 
-/* Reads a file's words, at most one more than a sheet can need. Returns their number, or -1 where the file can't be read or is cut within a word. */
-static long read_words(const char *name, uint64_t *sheet)
-{
-    unsigned char bytes[8];
-    long words = 0;
-    size_t got = 8;
-    FILE *file = fopen(name, "rb");
-    if (file == NULL)
-        return -1;
-    while (words <= TRANCHE_WEIGHTS_SHEET_WORDS && (got = fread(bytes, 1, 8, file)) == 8)
-        sheet[words++] = word_of(bytes);
-    if (ferror(file) || (got != 0 && got != 8))
-        words = -1;
-    fclose(file);
-    return words;
-}
-
-/* Prints the line of one tranche, the points in percent and the weight in percent. */
+/* Prints the line of one tranche, points and weight in percent. */
 static void print_line(uint64_t number, const uint64_t *line)
 {
     static const char *const approaches[] = {"fallback", "SEC-ERBA", "SEC-SA"};
@@ -44,27 +44,40 @@ static void print_line(uint64_t number, const uint64_t *line)
            approaches[line[0]], line[1] / 1e4, line[2] / 1e4, line[3] / 1e2, line[4], line[5]);
 }
 
-int main(int argc, char **argv)
+/* Weighs the sheet of a file's bytes and prints its lines, or the refusal. Returns the refusal's number, 0 where there is none. */
+static uint64_t print_deal(const unsigned char *bytes, long size)
 {
-    static uint64_t sheet[TRANCHE_WEIGHTS_SHEET_WORDS + 1];
-    uint64_t results[TRANCHE_WEIGHTS_RESULT_WORDS], place, count, charge, number;
-    long words;
-    if (argc != 2) {
-        fprintf(stderr, "usage: print_lines FILE\n");
-        return 2;
+    static uint64_t sheet[TRANCHE_WEIGHTS_SHEET_WORDS];
+    uint64_t results[TRANCHE_WEIGHTS_RESULT_WORDS], place = 0, count = 0, charge = 0, number = 15;
+    if (size <= LONGEST && size % 8 == 0) {
+        for (long i = 0; i < size / 8; i++)
+            sheet[i] = word_of(bytes + 8 * i);
+        number = tranche_weights_weigh(sheet, (size_t)(size / 8), results, TRANCHE_WEIGHTS_RESULT_WORDS, &place, &count, &charge);
     }
-    words = read_words(argv[1], sheet);
-    if (words < 0) {
-        fprintf(stderr, "print_lines: %s is no file of whole words that can be read\n", argv[1]);
-        return 2;
-    }
-    number = tranche_weights_weigh(sheet, (size_t)words, results, TRANCHE_WEIGHTS_RESULT_WORDS, &place, &count, &charge);
-    if (number != 0)
-        printf("refused %" PRIu64 " at %" PRIu64 "\n", number, place);
     for (uint64_t i = 0; i < count; i++)
         print_line(i + 1, results + TRANCHE_WEIGHTS_LINE_WORDS * i);
     if (number == 0)
         printf("pool charge %.4f%%\n", charge / 1e4);
+    else
+        printf("refused %" PRIu64 " at %" PRIu64 "\n", number, place);
+    return number;
+}
+
+int main(int argc, char **argv)
+{
+    static unsigned char bytes[LONGEST + 1];
+    uint64_t number;
+    long size;
+    if (argc != 2) {
+        fprintf(stderr, "usage: print_lines FILE\n");
+        return 2;
+    }
+    size = read_file(argv[1], bytes);
+    if (size < 0) {
+        fprintf(stderr, "print_lines: %s can't be read\n", argv[1]);
+        return 2;
+    }
+    number = print_deal(bytes, size);
     if (fflush(stdout) != 0) {
         fprintf(stderr, "print_lines: the output can't be written\n");
         return 2;

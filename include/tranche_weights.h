@@ -10,6 +10,7 @@
  * - Whatever the words or bytes are, the call ends and gives the answer described here; no input is undefined.
  * - What the caller owes: a pointer is not null and is aligned for its type (also where its length is 0), as many words or bytes as its length says stay
  *   readable (or writable, where the pointer is not const) until the call returns, and what the function writes overlaps nothing else that is passed.
+ * - It also owes the stack: 64 KB are enough for the report and 16 KB for weighing (tests/calls.c runs both on threads with no more).
  * - What is proved is the code that stands behind these names. That a caller keeps what it owes, no proof can see.
  */
 #ifndef TRANCHE_WEIGHTS_H

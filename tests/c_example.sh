@@ -1,13 +1,15 @@
 #!/bin/sh
-# Builds examples/print_lines.c, with every warning an error, and holds its output and status to what is due. The programs and the static library are built
-# first: rt check sheet_words tranche_report, rt staticlib tranche_weights.
+# Builds examples/print_lines.c and tests/calls.c, with every warning an error, and holds what they print to what is due. The programs and the static library are
+# built first: rt check sheet_words tranche_report, rt staticlib tranche_weights.
 set -eu
 cd "$(dirname "$0")/.."
 room=$(mktemp -d)
 trap 'rm -rf "$room"' EXIT
-cc -std=c99 -O2 -Wall -Wextra -Wpedantic -Werror -Iinclude examples/print_lines.c target/staticlib/libtranche_weights.a -o "$room/print_lines"
+build="cc -O2 -Wall -Wextra -Wpedantic -Werror -Iinclude"
+$build -std=c99 examples/print_lines.c target/staticlib/libtranche_weights.a -o "$room/print_lines"
+$build -std=c11 -pthread tests/calls.c target/staticlib/libtranche_weights.a -o "$room/calls"
 
-# One case: held NAME FILE STATUS STANDARD-OUTPUT STANDARD-ERROR, the last two in printf's escapes
+# One case of the example: held NAME FILE STATUS STANDARD-OUTPUT STANDARD-ERROR, the last two in printf's escapes
 held() {
     status=0
     "$room/print_lines" "$2" > "$room/out" 2> "$room/err" || status=$?
@@ -21,22 +23,29 @@ held() {
     echo "$1: ok"
 }
 
-for name in ordinary refused; do
+for name in ordinary resecuritisation refused; do
     target/bin/sheet_words "examples/$name.txt" > "$room/$name"
 done
+cp crates/tranche_report/data/deal "$room/checked"
 printf 'half' > "$room/half"
+dd if=/dev/zero of="$room/longest" bs=33848 count=1 2> "$room/dd.log"
+dd if=/dev/zero of="$room/longer" bs=33849 count=1 2>> "$room/dd.log"
 
-# The words of the C lines are those of the report, so they are compared with it too.
-"$room/print_lines" "$room/ordinary" | sed -n 's/.*risk-weighted amount \([0-9]*\), capital \([0-9]*\)$/\1 \2/p' > "$room/amounts"
-target/bin/tranche_report "$room/ordinary" | sed -n '/^[0-9]/s/.* \([0-9]* [0-9]*\)$/\1/p' > "$room/due.amounts"
-cmp "$room/amounts" "$room/due.amounts"
-[ -s "$room/amounts" ]
-echo "amounts as in the report: ok"
-
-held "01's checked deal" crates/tranche_report/data/deal 0 "tranche 1: SEC-ERBA from 20.0000%% to 100.0000%%, weight 20.00%%, risk-weighted amount 160, capital 13
+held "01's checked deal" "$room/checked" 0 "tranche 1: SEC-ERBA from 20.0000%% to 100.0000%%, weight 20.00%%, risk-weighted amount 160, capital 13
 tranche 2: SEC-ERBA from 5.0000%% to 20.0000%%, weight 263.50%%, risk-weighted amount 264, capital 22
 tranche 3: SEC-SA from 0.0000%% to 5.0000%%, weight 1250.00%%, risk-weighted amount 625, capital 50
 pool charge 10.1000%%\n" ""
 held "refused sheet" "$room/refused" 1 "$(target/bin/tranche_report "$room/refused")\n" ""
-held "no such file" "$room/none" 2 "" "print_lines: $room/none is no file of whole words that can be read\n"
-held "cut within a word" "$room/half" 2 "" "print_lines: $room/half is no file of whole words that can be read\n"
+held "cut within a word" "$room/half" 1 "refused 15 at 0\n" ""
+held "longest file" "$room/longest" 1 "refused 2 at 0\n" ""
+held "file too long" "$room/longer" 1 "refused 15 at 0\n" ""
+held "no such file" "$room/none" 2 "" "print_lines: $room/none can't be read\n"
+
+# The report by way of C is that of the program.
+for name in ordinary resecuritisation refused checked half longest longer; do
+    "$room/calls" "$room/$name" > "$room/out"
+    target/bin/tranche_report "$room/$name" > "$room/due.out"
+    cmp "$room/due.out" "$room/out"
+    [ -s "$room/out" ]
+    echo "calls from C, $name: ok"
+done

@@ -1,31 +1,42 @@
 #!/bin/sh
-# The README's complete examples: the C program is taken out of it, built and run, the Rust program is the file that it names, and what both print stands in it.
-# The static library is built first: rt staticlib tranche_weights.
+# The README's examples: the C program is taken out of it, built and run, the Rust program is the file that it names, and what they, the report program and the C
+# example print stands in it, line for line. The programs and the static library are built first: rt check sheet_words tranche_report, rt staticlib tranche_weights.
 set -eu
 cd "$(dirname "$0")/.."
 room=$(mktemp -d)
 trap 'rm -rf "$room"' EXIT
+build="cc -std=c99 -Wall -Wextra -Wpedantic -Werror -Iinclude"
+archive=target/staticlib/libtranche_weights.a
 
 # The README's block of a language: block LANGUAGE
 block() {
     sed -n "/^\`\`\`$1\$/,/^\`\`\`\$/p" README.md | sed '1d;$d'
 }
 
-# Every line of a file stands in the README, indented: stands FILE
+# A file's lines are a block of the README, indented, with nothing before or after them: stands NAME FILE
 stands() {
-    [ -s "$1" ]
-    while IFS= read -r line; do
-        grep -qxF "    $line" README.md || { echo "not in the README: $line"; exit 1; }
-    done < "$1"
+    awk -v name="$1" '
+        NR == FNR { due[++lines] = "    " $0; next }
+        { indented = substr($0, 1, 4) == "    " }
+        indented && !inside { inside = 1; at = 0; same = 1 }
+        indented { at++; if ($0 != due[at]) same = 0 }
+        !indented && inside { inside = 0; if (same && at == lines) found = 1 }
+        END { if (!found || lines == 0) { print name ": not what stands in the README"; exit 1 } print name ": ok" }' "$2" README.md
 }
 
+target/bin/sheet_words examples/ordinary.txt > "$room/deal"
+target/bin/tranche_report "$room/deal" > "$room/out"
+stands "report on examples/ordinary.txt" "$room/out"
+
+$build examples/print_lines.c "$archive" -o "$room/print_lines"
+"$room/print_lines" "$room/deal" > "$room/out"
+stands "lines of examples/ordinary.txt by C" "$room/out"
+
 block c > "$room/small.c"
-cc -std=c99 -Wall -Wextra -Wpedantic -Werror -Iinclude "$room/small.c" target/staticlib/libtranche_weights.a -o "$room/small"
-"$room/small" > "$room/c.out"
-stands "$room/c.out"
-echo "C example of the README: ok"
+$build "$room/small.c" "$archive" -o "$room/small"
+"$room/small" > "$room/out"
+stands "C program of the README" "$room/out"
 
 block rust | cmp - rust/tranche_weights/examples/deal.rs
-cargo run --offline --release --quiet --manifest-path rust/Cargo.toml -p tranche_weights --example deal > "$room/rust.out"
-stands "$room/rust.out"
-echo "Rust example of the README: ok"
+cargo run --offline --release --quiet --manifest-path rust/Cargo.toml -p tranche_weights --example deal > "$room/out"
+stands "Rust program of the README" "$room/out"

@@ -9,7 +9,8 @@ use lib.Dec.{eqb}
 use borrow.Author.Tests.{eq-eqb, ne-eqb}
 use Rattle.judgement.specs.DealSheet.{exposure, nominal, status}
 use Rattle.deal.specs.Sum.{sum, whereCounted}
-use Rattle.deal.specs.PointsAndCharge.{known, delinquent, weightedExposure, withRow, totalsTo, markedTo, sumsTo}
+use Rattle.deal.specs.PointsAndCharge.{known, delinquent, weightedExposure, totalsTo, sumsTo}
+use Rattle.deal.specs.RowTotals.{withRow, markedTo}
 use Rattle.deal.specs.declared.Marked.{Marked}
 use Rattle.deal.specs.declared.Sums.{Sums}
 use Rattle.deal.specs.declared.Totals.{Totals}

@@ -3,6 +3,7 @@ pub mod Refusals
 pub mod Judged
 pub mod Sum
 pub mod PointsAndCharge
+pub mod RowTotals
 pub mod SumLimits
 pub mod ClassPoints
 pub mod Lines

@@ -11,7 +11,8 @@ use lib.ListN.{length}
 use borrow.Author.Tests.{lt-ltb, le-leb, lt-leb, ne-eqb}
 use Rattle.numbers.proofs.Tests.{both-true}
 use Rattle.judgement.specs.DealSheet.{word, resecuritisation, rows, rowAt}
-use Rattle.judgement.specs.Refusals.{within, statusAllowed, rowFault, rowIsGood, fault, judged}
+use Rattle.judgement.specs.Refusals.{within, statusAllowed, rowFault, fault, judged}
+use Rattle.judgement.specs.RowTest.{rowIsGood}
 use Rattle.judgement.specs.declared.Verdict.the-variants.{Sound}
 use Rattle.judgement.proofs.Judgement.{judged-next, fault-of-row}
 

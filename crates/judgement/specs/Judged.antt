@@ -1,5 +1,5 @@
--- 01, "Refusals, by who can cause them", in plain relations: what each refusal of a sheet means, and what acceptance means. That these and the
--- definition by steps (Refusals.antt) say the same is proved in proofs/JudgedLaws.antt.
+-- 01, "Refusals, by who can cause them", in plain relations: what each refusal by the words means, and what it means that they are good. That these and the
+-- definition by steps (Refusals.antt) say the same is proved in proofs/JudgedLaws.antt. The other refusals are in Judged.antt of `deal`.
 use mathlib.Core.List.{List}
 use mathlib.Core.Path.{_≡_}
 use Prim.Native.Nat.{ℕ, _<_}
@@ -34,7 +34,7 @@ pub record FirstBad (s : List ℕ) (r : Refusal) : Type 0 where
   pub needed-word : r .place < needed s
   pub here : BadHere s r
 
--- ---- "Then 3, then 14, then 13 by tranche in order."
+-- ---- "Then 3"
 
 -- every word that the sheet needs is good, and none follows
 pub record WordsGood (s : List ℕ) : Type 0 where

@@ -1,4 +1,5 @@
 pub mod DealSheet
 pub mod Refusals
+pub mod RowTest
 pub mod Judged
 pub mod GoodSheet

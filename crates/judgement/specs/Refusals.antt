@@ -38,11 +38,6 @@ rowFault resecuritised column w =
     (cond (eqb column 2) (unless 6 (leb w 1250))
     (unless 7 (statusAllowed resecuritised w)))
 
--- a row none of whose four words has such a fault
-abbrev pub rowIsGood : Bool → ℕ → ℕ → ℕ → ℕ → Bool
-rowIsGood resecuritised exposure nominal weight status =
-    within 1 10000000000 exposure && (within 1 10000000000 nominal && (leb weight 1250 && statusAllowed resecuritised status))
-
 -- "The first row has class 1; each next row has the class before it or one more."
 abbrev pub classInOrder : ℕ → ℕ → ℕ → Bool
 classInOrder i before w = cond (eqb i 0) (eqb w 1) (eqb w before || eqb w (before + 1))

@@ -4,7 +4,8 @@ ghost use Prim.Native.Nat.{_+_, _-_, _≤_, _<_};
 ghost use lib.Dec.{eqb};
 ghost use lib.ListN.{length};
 ghost use Rattle.judgement.specs.DealSheet.{poolAt, rows, rowAt, tranchesAt, trancheCount, trancheAt, class, needed};
-ghost use Rattle.judgement.specs.Refusals.{unless, within, countFault, factFault, statusAllowed, rowFault, rowIsGood, classInOrder, trancheFault, judgeWith, judged, wordsVerdict};
+ghost use Rattle.judgement.specs.Refusals.{unless, within, countFault, factFault, statusAllowed, rowFault, classInOrder, trancheFault, judgeWith, judged, wordsVerdict};
+ghost use Rattle.judgement.specs.RowTest.{rowIsGood};
 ghost use Rattle.judgement.specs.declared.Verdict.the-variants.{Sound};
 
 mod sheet;

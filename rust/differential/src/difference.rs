@@ -9,11 +9,11 @@ pub enum Part {
     Outcome,
     /// The refusal's number.
     Number,
-    /// The refusal's place.
+    /// The refusal's place, or a place above 0 of an accepted sheet.
     Place,
-    /// The tranche count.
+    /// The tranche count, or a count above 0 on a refusal.
     Count,
-    /// The pool charge.
+    /// The pool charge, or a charge above 0 on a refusal.
     Charge,
     /// A line's approach.
     Approach,
@@ -42,11 +42,12 @@ pub enum Part {
 }
 
 impl fmt::Display for Part {
+    /// Prints the part's name.
     fn fmt(&self, to: &mut fmt::Formatter<'_>) -> fmt::Result {
         to.write_str(match self {
             Part::Outcome => "weighed or refused",
             Part::Number => "refusal number",
-            Part::Place => "refusal place",
+            Part::Place => "place",
             Part::Count => "tranche count",
             Part::Charge => "pool charge",
             Part::Approach => "approach",
@@ -88,6 +89,7 @@ impl Difference {
 }
 
 impl fmt::Display for Difference {
+    /// Prints the part, what is due and what was said, on one line.
     fn fmt(&self, to: &mut fmt::Formatter<'_>) -> fmt::Result {
         write!(to, "{}: expected {}, said {}", self.part, self.expected, self.said)
     }

@@ -1,7 +1,7 @@
 //! The words lent for results. They are filled with a pattern before the call, so that afterwards every written word
 //! can be told from an untouched one.
 
-use crate::library::Answer;
+use crate::library::{Reply, Weigh};
 use crate::sheet::LINE_WORDS;
 
 /// Words after the lent ones that are looked at too: nothing may be written past the room.
@@ -24,8 +24,8 @@ pub struct Lent {
 }
 
 impl Lent {
-    /// Fills the words with the pattern, lends so many of them to a weighing and gives its answer.
-    pub fn lend(&mut self, weigh: fn(&[u64], &mut [u64]) -> Answer, sheet: &[u64], room: usize) -> Answer {
+    /// Fills the words with the pattern, lends so many of them to a weighing and gives its reply.
+    pub fn lend(&mut self, weigh: Weigh, sheet: &[u64], room: usize) -> Reply {
         self.words.clear();
         self.words.extend((0..room + GUARD).map(pattern));
         self.room = room;
@@ -36,6 +36,14 @@ impl Lent {
     pub fn lines(&self, count: u64) -> &[[u64; LINE_WORDS]] {
         let (lines, _) = self.words[..self.room].as_chunks::<LINE_WORDS>();
         &lines[..lines.len().min(count as usize)]
+    }
+
+    /// The lines that a reply says were written: none on a refusal.
+    pub fn lines_of(&self, reply: &Reply) -> &[[u64; LINE_WORDS]] {
+        match reply.number {
+            0 => self.lines(reply.count),
+            _ => &[],
+        }
     }
 
     /// The first place at or after `start` whose word is no longer that of the pattern, with that word.
@@ -49,19 +57,39 @@ impl Lent {
 mod tests {
     use super::*;
 
+    /// A reply with two lines.
+    const REPLY: Reply = Reply {
+        number: 0,
+        place: 0,
+        count: 2,
+        charge: 5,
+    };
+
     /// A word written inside the room or just after it is found at its place; one before the start is not looked at.
     #[test]
     fn written_words_are_found() {
         let mut lent = Lent::default();
         let weigh = |_: &[u64], results: &mut [u64]| {
             results[3] = 7;
-            Ok((0, 0))
+            REPLY
         };
-        assert_eq!(lent.lend(weigh, &[], 10), Ok((0, 0)));
+        assert_eq!(lent.lend(weigh, &[], 10), REPLY);
         assert_eq!(lent.touched(0), Some((3, 7)));
         assert_eq!(lent.touched(4), None);
         lent.words[10] = 8;
         assert_eq!(lent.touched(4), Some((10, 8)));
+    }
+
+    /// A reply's lines are as many as its count says and the room holds; a refusal has none, whatever its count says.
+    #[test]
+    fn lines_follow_the_reply() {
+        let mut lent = Lent::default();
+        let lengths = [11, 12, 20].map(|room| {
+            let reply = lent.lend(|_, _| REPLY, &[], room);
+            lent.lines_of(&reply).len()
+        });
+        assert_eq!(lengths, [1, 2, 2]);
+        assert!(lent.lines_of(&Reply { number: 14, ..REPLY }).is_empty());
     }
 
     /// The pattern differs in every place that is ever lent.

@@ -3,17 +3,16 @@
 use crate::case::Case;
 use crate::difference::{Difference, Part};
 use crate::lent::Lent;
-use crate::library::{Answer, Library};
+use crate::library::{Library, Reply};
 use crate::sheet::LINE_WORDS;
 
-/// An answer with the lines that were written.
-type Weighed = (Answer, Vec<[u64; LINE_WORDS]>);
+/// A reply with the lines that were written.
+type Weighed = (Reply, Vec<[u64; LINE_WORDS]>);
 
 /// Weighs a sheet with room for its lines.
 fn weigh(library: &Library, sheet: &[u64], room: usize, lent: &mut Lent) -> Weighed {
-    let answer = lent.lend(library.weigh, sheet, room);
-    let count = answer.map_or(0, |weighed| weighed.0);
-    (answer, lent.lines(count).to_vec())
+    let reply = lent.lend(library.weigh, sheet, room);
+    (reply, lent.lines_of(&reply).to_vec())
 }
 
 /// The order of the pool's rows does not matter: sums alone enter charge and points. The second sheet has the same
@@ -32,9 +31,9 @@ pub fn compare_row_order(library: &Library, case: &Case, lent: &mut Lent) -> Res
 pub fn compare_other_ratings(library: &Library, case: &Case, lent: &mut Lent) -> Result<bool, Difference> {
     let (first, mut first_lines) = weigh(library, &case.sheet, case.room, lent);
     let (second, mut second_lines) = weigh(library, &case.second, case.room, lent);
-    let (Ok(first), Ok(second)) = (first, second) else {
+    if (first.number, second.number) != (0, 0) {
         return Ok(false);
-    };
+    }
     if case.rerated < first_lines.len().min(second_lines.len()) {
         first_lines.remove(case.rerated);
         second_lines.remove(case.rerated);
@@ -68,21 +67,26 @@ mod tests {
 
     /// The proved library, with the pool's first exposure added to the charge: right sums, but the order of rows
     /// matters.
-    fn order_matters(sheet: &[u64], results: &mut [u64]) -> Answer {
-        let (count, charge) = (Library::PROVED.weigh)(sheet, results)?;
-        Ok((count, charge + sheet[Layout::POOL_COUNT + 1]))
+    fn order_matters(sheet: &[u64], results: &mut [u64]) -> Reply {
+        let mut reply = (Library::PROVED.weigh)(sheet, results);
+        if reply.number == 0 {
+            reply.charge += sheet[Layout::POOL_COUNT + 1];
+        }
+        reply
     }
 
     /// The proved library, with all tranches' ratings added to each attachment point.
-    fn ratings_matter(sheet: &[u64], results: &mut [u64]) -> Answer {
-        let weighed = (Library::PROVED.weigh)(sheet, results)?;
+    fn ratings_matter(sheet: &[u64], results: &mut [u64]) -> Reply {
+        let reply = (Library::PROVED.weigh)(sheet, results);
         let layout = Layout::of_sheet(sheet);
         let ratings = |tranche| layout.tranche(tranche) + Layout::RATINGS..layout.tranche(tranche + 1);
         let sum: u64 = (0..layout.tranches)
             .map(|tranche| sheet[ratings(tranche)].iter().sum::<u64>())
             .sum();
-        (0..layout.tranches).for_each(|line| results[LINE_WORDS * line + 1] += sum);
-        Ok(weighed)
+        let (lines, _) = results.as_chunks_mut::<LINE_WORDS>();
+        let written = lines.iter_mut().take(reply.count as usize);
+        written.for_each(|line| line[1] += sum);
+        reply
     }
 
     /// How many of the first sheets with this relation a comparison finds different.

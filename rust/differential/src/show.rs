@@ -4,9 +4,11 @@ use crate::case::Case;
 use crate::difference::Part;
 use crate::kind::{File, Relation};
 use crate::lent::Lent;
-use crate::library::Library;
+use crate::library::{Library, Reply};
 use crate::run::Found;
 use crate::sheet::MOST_RESULTS;
+use crate::words::due;
+use independent::{Deal, Refusal};
 
 /// Words as decimal numbers with a space between, as document 01 writes a sheet.
 fn words(list: &[u64]) -> String {
@@ -32,36 +34,46 @@ pub fn case(case: &Case) -> String {
     text
 }
 
-/// What the independent implementation answers: the refusal, or the charge and the lines with their admitted amounts.
-fn independent_answer(answer: &Result<independent::Deal, independent::Refusal>) -> String {
-    match answer {
-        Err(refusal) => format!("refused {} at {}\n", refusal.number, refusal.place),
-        Ok(deal) => {
-            let mut text = format!("charge {} tranches {}\n", deal.charge, deal.lines.len());
-            for line in &deal.lines {
-                text += &format!("  {} {} {}", line.approach, line.attachment, line.detachment);
-                let amounts = line
-                    .amounts
-                    .iter()
-                    .map(|a| format!("{} {} {}", a.weight, a.risk_weighted, a.capital));
-                text += &format!(" {}\n", amounts.collect::<Vec<_>>().join(" or "));
-            }
-            text
-        }
+/// The four numbers of a reply, as a line.
+fn numbers(reply: &Reply) -> String {
+    let Reply {
+        number,
+        place,
+        count,
+        charge,
+    } = reply;
+    format!("number {number} place {place} count {count} charge {charge}\n")
+}
+
+/// What the independent implementation answers: the four numbers, and the lines with their admitted amounts.
+fn independent_answer(answer: &Result<Deal, Refusal>) -> String {
+    let mut text = numbers(&due(answer));
+    for line in answer.iter().flat_map(|deal| &deal.lines) {
+        let amounts = line
+            .amounts
+            .iter()
+            .map(|a| format!("{} {} {}", a.weight, a.risk_weighted, a.capital));
+        let amounts = amounts.collect::<Vec<_>>().join(" or ");
+        text += &format!(
+            "  {} {} {} {amounts}\n",
+            line.approach, line.attachment, line.detachment
+        );
     }
+    text
+}
+
+/// What the proved library answers to the sheet: the four numbers, and the lines that it wrote.
+fn proved_answer(library: &Library, case: &Case) -> String {
+    let mut lent = Lent::default();
+    let reply = lent.lend(library.weigh, &case.sheet, case.room);
+    let lines = lent.lines_of(&reply).iter().map(|line| format!("  {}\n", words(line)));
+    numbers(&reply) + &lines.collect::<String>()
 }
 
 /// What both sides answer to the sheet, and to its file where there is one.
 pub fn answers(library: &Library, case: &Case) -> String {
     let independent = independent_answer(&independent::weigh(&case.sheet, case.room as u64));
-    let mut lent = Lent::default();
-    let proved = match lent.lend(library.weigh, &case.sheet, case.room) {
-        Err((number, place)) => format!("refused {number} at {place}\n"),
-        Ok((count, charge)) => {
-            let lines = lent.lines(count).iter().map(|line| format!("  {}\n", words(line)));
-            format!("charge {charge} tranches {count}\n{}", lines.collect::<String>())
-        }
-    };
+    let proved = proved_answer(library, case);
     let mut text = format!("independent: {independent}proved: {proved}");
     if case.file_kind != File::Unused {
         let file = independent_answer(&independent::weigh_file(&case.file, MOST_RESULTS as u64));

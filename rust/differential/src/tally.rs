@@ -3,11 +3,11 @@
 use crate::case::Case;
 use crate::kind::{File, Kind, Relation, Room};
 use crate::lent::Lent;
-use crate::sheet::Layout;
+use crate::sheet::{status, Layout};
 use independent::{Deal, Line, Refusal};
 use std::fmt;
 
-/// What must be met on some accepted line.
+/// What must be met on some accepted line, or on some accepted sheet.
 #[derive(Debug, Clone, Copy, PartialEq, Eq)]
 pub enum Feature {
     /// The floor of an ordinary securitisation decided a SEC-SA weight.
@@ -28,13 +28,17 @@ pub enum Feature {
     AcrossCharge,
     /// SEC-SA with A equal to K.
     FromCharge,
+    /// SEC-SA with K at least 1, D above K and a thickness D − A of one millionth, the least that is accepted there.
+    ThinAboveCharge,
     /// Two raw weights pass and give two weights.
     TwoWeights,
+    /// The unknown exposure is exactly 5% of all exposure.
+    UnknownAtLimit,
 }
 
 impl Feature {
     /// All features with their names, in the order of the enum.
-    const TABLE: [(Feature, &'static str); 10] = [
+    const TABLE: [(Feature, &'static str); 12] = [
         (Feature::OrdinaryFloor, "lines: floor 1,500 decided"),
         (Feature::ResecuritisationFloor, "lines: floor 10,000 decided"),
         (Feature::CapDecided, "sheets: cap decided"),
@@ -44,7 +48,9 @@ impl Feature {
         (Feature::ZeroChargeAndPoint, "lines: K = 0 and D = 0"),
         (Feature::AcrossCharge, "lines: A below K and D above K"),
         (Feature::FromCharge, "lines: A = K and D above K"),
+        (Feature::ThinAboveCharge, "lines: one millionth thick above K"),
         (Feature::TwoWeights, "lines: two weights admitted"),
+        (Feature::UnknownAtLimit, "sheets: unknown exposure exactly 5%"),
     ];
 }
 
@@ -78,7 +84,8 @@ impl Terms {
     }
 }
 
-/// Whether a line of an accepted deal shows a feature. Whether the cap decided is not told from the line alone.
+/// Whether a line of an accepted deal shows a feature. Whether the cap decided and how much is unknown are not told
+/// from the line alone.
 fn shows(feature: Feature, charge: u64, line: &Line, terms: &Terms) -> bool {
     let weight = line.amounts[0].weight;
     let standardised = line.approach == SEC_SA;
@@ -88,15 +95,37 @@ fn shows(feature: Feature, charge: u64, line: &Line, terms: &Terms) -> bool {
     match feature {
         Feature::OrdinaryFloor => floored && terms.ordinary && weight == ORDINARY_FLOOR,
         Feature::ResecuritisationFloor => floored && !terms.ordinary && weight == RESECURITISATION_FLOOR,
-        Feature::CapDecided => false,
+        Feature::CapDecided | Feature::UnknownAtLimit => false,
         Feature::CapBelowFloor => terms.capped && line.approach != 0 && weight < ORDINARY_FLOOR,
         Feature::BelowCharge => standardised && line.detachment <= charge && weight == HIGHEST_WEIGHT,
         Feature::ZeroCharge => formula && charge == 0,
         Feature::ZeroChargeAndPoint => standardised && charge == 0 && line.detachment == 0,
         Feature::AcrossCharge => formula && line.attachment < charge,
         Feature::FromCharge => formula && charge > 0 && line.attachment == charge,
+        Feature::ThinAboveCharge => formula && charge > 0 && line.detachment - line.attachment == 1,
         Feature::TwoWeights => line.amounts.len() == 2,
     }
+}
+
+/// Adds counts to others, place by place.
+fn add(counts: &mut [u64], others: &[u64]) {
+    counts.iter_mut().zip(others).for_each(|(one, two)| *one += two);
+}
+
+/// The names of the counts that must occur, in the order of [`Tally::counts`].
+fn names() -> Vec<String> {
+    let mut names = Vec::new();
+    names.extend(Kind::TABLE.map(|(_, name, _)| format!("kind: {name}")));
+    names.extend(Room::TABLE.map(|(_, name, _)| format!("room: {name}")));
+    names.extend(File::TABLE.map(|(_, name, _)| format!("file: {name}")));
+    names.extend(Relation::TABLE.map(|(_, name, _)| format!("second sheet: {name}")));
+    names.push("accepted".to_string());
+    names.extend((1..16).map(|number| format!("refusal {number}")));
+    names.extend(["fallback", "SEC-ERBA", "SEC-SA"].map(|name| format!("lines: {name}")));
+    let statuses = ["0, paying", "1, delinquent", "2, not known", "3, a tranche"];
+    names.extend(statuses.map(|name| format!("accepted with status {name}")));
+    names.extend(Feature::TABLE.map(|(_, name)| name.to_string()));
+    names
 }
 
 /// The counts of a run.
@@ -114,7 +143,9 @@ pub struct Tally {
     pub refusals: [u64; 16],
     /// Lines by approach.
     pub approaches: [u64; 3],
-    /// Lines that show each feature; sheets, for the cap that decided.
+    /// Accepted sheets with a row of each status.
+    pub statuses: [u64; 4],
+    /// Lines that show each feature; sheets, for the cap that decided and for the unknown exposure.
     pub features: [u64; Feature::TABLE.len()],
     /// Lines with two admitted weights where the higher one is taken.
     pub higher_taken: u64,
@@ -129,10 +160,26 @@ impl Tally {
         match answer {
             Ok(deal) => {
                 self.refusals[0] += 1;
+                self.note_pool(&case.sheet);
                 self.note_lines(&case.sheet, deal, lent);
             }
             Err(refusal) => self.refusals[refusal.number as usize] += 1,
         }
+    }
+
+    /// Notes the pool of an accepted sheet: which statuses it has, and whether the unknown exposure is 5% of all
+    /// ("Points and pool charge").
+    fn note_pool(&mut self, sheet: &[u64]) {
+        let layout = Layout::of_sheet(sheet);
+        let (rows, _) = sheet[layout.row(0)..layout.tranche_count()].as_chunks::<{ Layout::ROW_WORDS }>();
+        let (mut exposures, mut present) = ([0; 4], [0; 4]);
+        for &[exposure, _, _, code] in rows {
+            exposures[code as usize] += exposure;
+            present[code as usize] = 1;
+        }
+        add(&mut self.statuses, &present);
+        let at_limit = 20 * exposures[status::NOT_KNOWN as usize] == exposures.iter().sum::<u64>();
+        self.features[Feature::UnknownAtLimit as usize] += u64::from(at_limit);
     }
 
     /// Notes the lines of an accepted sheet, with the weights that were written.
@@ -168,43 +215,36 @@ impl Tally {
 
     /// Adds another tally's counts.
     pub fn add(&mut self, other: &Tally) {
-        let add = |counts: &mut [u64], others: &[u64]| counts.iter_mut().zip(others).for_each(|(one, two)| *one += two);
         add(&mut self.kinds, &other.kinds);
         add(&mut self.rooms, &other.rooms);
         add(&mut self.files, &other.files);
         add(&mut self.relations, &other.relations);
         add(&mut self.refusals, &other.refusals);
         add(&mut self.approaches, &other.approaches);
+        add(&mut self.statuses, &other.statuses);
         add(&mut self.features, &other.features);
         self.higher_taken += other.higher_taken;
     }
 
+    /// The counts of what must occur, in the order of their names.
+    fn counts(&self) -> Vec<u64> {
+        let groups: [&[u64]; 8] = [
+            &self.kinds,
+            &self.rooms,
+            &self.files,
+            &self.relations,
+            &self.refusals,
+            &self.approaches,
+            &self.statuses,
+            &self.features,
+        ];
+        groups.concat()
+    }
+
     /// All counts with their names, each with whether it must occur.
     fn named(&self) -> Vec<(String, u64, bool)> {
-        let kinds = Kind::TABLE.map(|(_, name, _)| format!("kind: {name}"));
-        let rooms = Room::TABLE.map(|(_, name, _)| format!("room: {name}"));
-        let files = File::TABLE.map(|(_, name, _)| format!("file: {name}"));
-        let seconds = Relation::TABLE.map(|(_, name, _)| format!("second sheet: {name}"));
-        let refusals = (1..16).map(|number| format!("refusal {number}"));
-        let approaches = ["fallback", "SEC-ERBA", "SEC-SA"].map(|name| format!("lines: {name}"));
-        let features = Feature::TABLE.map(|(_, name)| name.to_string());
-        let names = kinds.into_iter().chain(rooms).chain(files).chain(seconds);
-        let names = names
-            .chain(["accepted".to_string()])
-            .chain(refusals)
-            .chain(approaches)
-            .chain(features);
-        let counts = self
-            .kinds
-            .iter()
-            .chain(&self.rooms)
-            .chain(&self.files)
-            .chain(&self.relations);
-        let counts = counts
-            .chain(&self.refusals)
-            .chain(&self.approaches)
-            .chain(&self.features);
-        let mut named: Vec<_> = names.zip(counts).map(|(name, &count)| (name, count, true)).collect();
+        let must = names().into_iter().zip(self.counts());
+        let mut named: Vec<_> = must.map(|(name, count)| (name, count, true)).collect();
         named.push((
             "lines: the higher of two weights taken".to_string(),
             self.higher_taken,
@@ -221,6 +261,7 @@ impl Tally {
 }
 
 impl fmt::Display for Tally {
+    /// Prints each count with its name, a line each.
     fn fmt(&self, to: &mut fmt::Formatter<'_>) -> fmt::Result {
         for (name, count, _) in self.named() {
             writeln!(to, "{name:<45} {count:>12}")?;
@@ -232,6 +273,7 @@ impl fmt::Display for Tally {
 #[cfg(test)]
 mod tests {
     use super::*;
+    use crate::sheet::Row;
 
     /// Features are counted by the enum's order, so the table must follow it.
     #[test]
@@ -239,6 +281,65 @@ mod tests {
         assert!((0..)
             .zip(Feature::TABLE)
             .all(|(place, entry)| entry.0 as usize == place));
+    }
+
+    /// Each count that must occur has a name.
+    #[test]
+    fn counts_follow_their_names() {
+        assert_eq!(names().len(), Tally::default().counts().len());
+    }
+
+    /// The counts of statuses and of an unknown exposure of 5% after one sheet, whose rows have these exposures and
+    /// statuses.
+    fn pool_counts(rows: &[(u64, u64)]) -> ([u64; 4], u64) {
+        let mut deal = crate::sheet::Deal::default();
+        deal.rows.extend(rows.iter().map(|&(exposure, status)| Row {
+            exposure,
+            nominal: 1,
+            risk_weight: 100,
+            status,
+        }));
+        let mut sheet = Vec::new();
+        deal.write(&mut sheet);
+        let mut tally = Tally::default();
+        tally.note_pool(&sheet);
+        (tally.statuses, tally.features[Feature::UnknownAtLimit as usize])
+    }
+
+    /// A status counts once for a sheet; the unknown exposure counts at 5% and neither above nor below it.
+    #[test]
+    fn pools_are_counted() {
+        assert_eq!(pool_counts(&[(90, 0), (3, 2), (5, 1), (2, 2)]), ([1, 1, 1, 0], 1));
+        assert_eq!(pool_counts(&[(95, 0), (6, 2)]), ([1, 0, 1, 0], 0));
+        assert_eq!(pool_counts(&[(96, 1), (5, 2)]), ([0, 1, 1, 0], 0));
+        assert_eq!(pool_counts(&[(100, 3), (1, 3)]), ([0, 0, 0, 1], 0));
+    }
+
+    /// A SEC-SA line of one millionth counts from the charge on; one further down, a thicker one, one over a charge of
+    /// 0 and a rated one do not.
+    #[test]
+    fn thin_lines_above_the_charge_are_counted() {
+        let thin = |approach, charge, attachment, detachment| {
+            let amounts = vec![independent::Amounts {
+                weight: 1_500,
+                risk_weighted: 0,
+                capital: 0,
+            }];
+            let line = Line {
+                approach,
+                attachment,
+                detachment,
+                amounts,
+            };
+            let terms = Terms {
+                ordinary: true,
+                capped: false,
+            };
+            shows(Feature::ThinAboveCharge, charge, &line, &terms)
+        };
+        assert!(thin(SEC_SA, 50, 50, 51) && thin(SEC_SA, 50, 60, 61));
+        assert!(!thin(SEC_SA, 50, 49, 50) && !thin(SEC_SA, 50, 60, 62));
+        assert!(!thin(SEC_SA, 0, 60, 61) && !thin(1, 50, 60, 61));
     }
 
     /// An empty run misses every count but the one that is only printed, and each count that occurs is no longer

@@ -2,34 +2,56 @@
 
 use crate::difference::{same, Difference, Part};
 use crate::lent::Lent;
-use crate::library::Answer;
+use crate::library::Reply;
 use crate::sheet::LINE_WORDS;
-use independent::{Amounts, Line, Refusal};
+use independent::{Amounts, Deal, Line, Refusal};
 
-/// Compares an answer and the lent results with what the independent implementation gives.
-pub fn compare(expected: &Result<independent::Deal, Refusal>, said: &Answer, lent: &Lent) -> Result<(), Difference> {
-    match (expected, said) {
-        (Ok(deal), Ok(said)) => compare_deal(deal, *said, lent),
-        (Err(refusal), Err(said)) => compare_refusal(refusal, *said, lent),
-        (Ok(deal), Err(_)) => Err(Difference::new(Part::Outcome, (deal.lines.len(), deal.charge), said)),
-        (Err(refusal), Ok(_)) => Err(Difference::new(Part::Outcome, refusal, said)),
+/// The four numbers that are due: an accepted sheet's number and place are 0; a refused one's count and charge are 0
+/// ("Refusals").
+pub fn due(answer: &Result<Deal, Refusal>) -> Reply {
+    match answer {
+        Ok(deal) => Reply {
+            number: 0,
+            place: 0,
+            count: deal.lines.len() as u64,
+            charge: deal.charge,
+        },
+        Err(refusal) => Reply {
+            number: refusal.number,
+            place: refusal.place,
+            count: 0,
+            charge: 0,
+        },
     }
 }
 
-/// Both refuse: number and place are the same, and no result word was written ("Refusals": results untouched).
-fn compare_refusal(expected: &Refusal, said: (u64, u64), lent: &Lent) -> Result<(), Difference> {
-    same(Part::Number, expected.number, said.0)?;
-    same(Part::Place, expected.place, said.1)?;
-    untouched(Part::ResultsOnRefusal, lent, 0)
+/// Compares a reply and the lent results with what the independent implementation answers. On a refusal no result word
+/// was written ("Refusals": results untouched).
+pub fn compare(expected: &Result<Deal, Refusal>, said: &Reply, lent: &Lent) -> Result<(), Difference> {
+    compare_numbers(&due(expected), said)?;
+    match expected {
+        Ok(deal) => compare_lines(deal, lent),
+        Err(_) => untouched(Part::ResultsOnRefusal, lent, 0),
+    }
 }
 
-/// Both weigh: count, charge and every line are the same, the room holds that many lines, and no later word was written
-/// ("The deal sheet": later words are untouched).
-fn compare_deal(deal: &independent::Deal, said: (u64, u64), lent: &Lent) -> Result<(), Difference> {
+/// The four numbers are the same. Where one side weighs and the other refuses, that is the difference.
+fn compare_numbers(due: &Reply, said: &Reply) -> Result<(), Difference> {
+    if (due.number == 0) != (said.number == 0) {
+        return Err(Difference::new(Part::Outcome, due, said));
+    }
+    same(Part::Number, due.number, said.number)?;
+    same(Part::Place, due.place, said.place)?;
+    same(Part::Count, due.count, said.count)?;
+    same(Part::Charge, due.charge, said.charge)
+}
+
+/// Both weigh: the room holds all lines, every line is the same, and no later word was written ("The deal sheet": later
+/// words are untouched).
+fn compare_lines(deal: &Deal, lent: &Lent) -> Result<(), Difference> {
     let count = deal.lines.len();
-    let lines = lent.lines(said.0);
-    same(Part::Count, (count as u64, count), (said.0, lines.len()))?;
-    same(Part::Charge, deal.charge, said.1)?;
+    let lines = lent.lines(count as u64);
+    same(Part::Count, count, lines.len())?;
     for (number, (line, words)) in (1..).zip(deal.lines.iter().zip(lines)) {
         compare_line(number, line, words)?;
     }

@@ -1,7 +1,7 @@
 //! The comparison finds a wrong answer in each part that it compares: each test puts a function with one fault in place
 //! of the proved one.
 
-use differential::{show, Answer, Case, Feature, Found, Library, Part, Run, Tally};
+use differential::{show, Case, Feature, Found, Library, Part, Reply, Run, Tally, Weigh};
 
 /// The seed of the runs.
 const SEED: u64 = 3;
@@ -25,7 +25,7 @@ fn first_part(library: Library) -> Option<Part> {
 }
 
 /// The part in which a run first finds this weighing different.
-fn weighed(weigh: fn(&[u64], &mut [u64]) -> Answer) -> Option<Part> {
+fn weighed(weigh: Weigh) -> Option<Part> {
     first_part(Library {
         weigh,
         ..Library::PROVED
@@ -41,13 +41,52 @@ fn reported(report: fn(&[u8]) -> String) -> Option<Part> {
 }
 
 /// The proved weighing, the start of each wrong one.
-fn proved(sheet: &[u64], results: &mut [u64]) -> Answer {
+fn proved(sheet: &[u64], results: &mut [u64]) -> Reply {
     (Library::PROVED.weigh)(sheet, results)
+}
+
+/// The proved weighing with a fault in the reply to each refused sheet, or else to each accepted one.
+fn faulty(sheet: &[u64], results: &mut [u64], on_refusal: bool, fault: fn(&mut Reply)) -> Reply {
+    let mut reply = proved(sheet, results);
+    if (reply.number != 0) == on_refusal {
+        fault(&mut reply);
+    }
+    reply
+}
+
+/// The proved weighing with a fault in the reply to each accepted sheet.
+fn accepted(sheet: &[u64], results: &mut [u64], fault: fn(&mut Reply)) -> Reply {
+    faulty(sheet, results, false, fault)
+}
+
+/// The proved weighing with a fault in the reply to each refused sheet.
+fn refused(sheet: &[u64], results: &mut [u64], fault: fn(&mut Reply)) -> Reply {
+    faulty(sheet, results, true, fault)
 }
 
 /// The proved report, the start of each wrong one.
 fn text(file: &[u8]) -> String {
     (Library::PROVED.report)(file)
+}
+
+/// The reply that accepts a sheet.
+fn accepting(count: u64, charge: u64) -> Reply {
+    Reply {
+        number: 0,
+        place: 0,
+        count,
+        charge,
+    }
+}
+
+/// The reply that refuses a sheet.
+fn refusing(number: u64, place: u64) -> Reply {
+    Reply {
+        number,
+        place,
+        count: 0,
+        charge: 0,
+    }
 }
 
 /// The proved functions themselves pass, so that each fault below is found for its own sake.
@@ -60,25 +99,52 @@ fn nothing_wrong_is_passed() {
 /// A refusal with its number one too high.
 #[test]
 fn wrong_refusal_number() {
-    let wrong =
-        |sheet: &[u64], results: &mut [u64]| proved(sheet, results).map_err(|(number, place)| (number + 1, place));
+    let wrong: Weigh = |sheet, results| refused(sheet, results, |reply| reply.number += 1);
     assert_eq!(weighed(wrong), Some(Part::Number));
 }
 
-/// A refusal with its place one too high.
+/// A refusal with its place one too high, or not written.
 #[test]
 fn wrong_refusal_place() {
-    let wrong =
-        |sheet: &[u64], results: &mut [u64]| proved(sheet, results).map_err(|(number, place)| (number, place + 1));
+    let wrong: Weigh = |sheet, results| refused(sheet, results, |reply| reply.place += 1);
+    let unwritten: Weigh = |sheet, results| refused(sheet, results, |reply| reply.place = u64::MAX);
     assert_eq!(weighed(wrong), Some(Part::Place));
+    assert_eq!(weighed(unwritten), Some(Part::Place));
+}
+
+/// A count left on a refusal, where 0 is due, or not written.
+#[test]
+fn count_left_on_a_refusal() {
+    let left: Weigh = |sheet, results| refused(sheet, results, |reply| reply.count = 1);
+    let unwritten: Weigh = |sheet, results| refused(sheet, results, |reply| reply.count = u64::MAX);
+    assert_eq!(weighed(left), Some(Part::Count));
+    assert_eq!(weighed(unwritten), Some(Part::Count));
+}
+
+/// A charge left on a refusal, where 0 is due, or not written.
+#[test]
+fn charge_left_on_a_refusal() {
+    let left: Weigh = |sheet, results| refused(sheet, results, |reply| reply.charge = 1);
+    let unwritten: Weigh = |sheet, results| refused(sheet, results, |reply| reply.charge = u64::MAX);
+    assert_eq!(weighed(left), Some(Part::Charge));
+    assert_eq!(weighed(unwritten), Some(Part::Charge));
+}
+
+/// A place above 0 of an accepted sheet, or not written.
+#[test]
+fn place_of_an_accepted_sheet() {
+    let wrong: Weigh = |sheet, results| accepted(sheet, results, |reply| reply.place = 1);
+    let unwritten: Weigh = |sheet, results| accepted(sheet, results, |reply| reply.place = u64::MAX);
+    assert_eq!(weighed(wrong), Some(Part::Place));
+    assert_eq!(weighed(unwritten), Some(Part::Place));
 }
 
 /// A tranche count unlike the sheet's.
 #[test]
 fn wrong_count() {
-    let more = |sheet: &[u64], results: &mut [u64]| proved(sheet, results).map(|(count, charge)| (count + 1, charge));
-    let fewer = |sheet: &[u64], results: &mut [u64]| proved(sheet, results).map(|(count, charge)| (count - 1, charge));
-    let huge = |sheet: &[u64], results: &mut [u64]| proved(sheet, results).map(|(_, charge)| (u64::MAX, charge));
+    let more: Weigh = |sheet, results| accepted(sheet, results, |reply| reply.count += 1);
+    let fewer: Weigh = |sheet, results| accepted(sheet, results, |reply| reply.count -= 1);
+    let huge: Weigh = |sheet, results| accepted(sheet, results, |reply| reply.count = u64::MAX);
     assert_eq!(weighed(more), Some(Part::Count));
     assert_eq!(weighed(fewer), Some(Part::Count));
     assert_eq!(weighed(huge), Some(Part::Count));
@@ -87,30 +153,32 @@ fn wrong_count() {
 /// A pool charge one too high.
 #[test]
 fn wrong_charge() {
-    let wrong = |sheet: &[u64], results: &mut [u64]| proved(sheet, results).map(|(count, charge)| (count, charge + 1));
+    let wrong: Weigh = |sheet, results| accepted(sheet, results, |reply| reply.charge += 1);
     assert_eq!(weighed(wrong), Some(Part::Charge));
 }
 
 /// Constant refusal.
 #[test]
 fn refused_in_place_of_weighed() {
-    let wrong = |sheet: &[u64], results: &mut [u64]| proved(sheet, results).and(Err((14, 0)));
+    let wrong: Weigh = |sheet, results| accepted(sheet, results, |reply| *reply = refusing(14, 0));
     assert_eq!(weighed(wrong), Some(Part::Outcome));
 }
 
 /// A refused sheet reported as weighed.
 #[test]
 fn weighed_in_place_of_refused() {
-    let wrong = |sheet: &[u64], results: &mut [u64]| proved(sheet, results).or(Ok((0, 0)));
+    let wrong: Weigh = |sheet, results| refused(sheet, results, |reply| *reply = accepting(0, 0));
     assert_eq!(weighed(wrong), Some(Part::Outcome));
 }
 
 /// Adds 3 to one of the six words of the last line. Admitted weights are neighbours, so a weight with 3 added is never
 /// admitted.
-fn wrong_word<const WORD: usize>(sheet: &[u64], results: &mut [u64]) -> Answer {
-    let (count, charge) = proved(sheet, results)?;
-    results[6 * (count as usize - 1) + WORD] += 3;
-    Ok((count, charge))
+fn wrong_word<const WORD: usize>(sheet: &[u64], results: &mut [u64]) -> Reply {
+    let reply = proved(sheet, results);
+    if reply.number == 0 {
+        results[6 * (reply.count as usize - 1) + WORD] += 3;
+    }
+    reply
 }
 
 /// Each of a line's six words.
@@ -125,12 +193,14 @@ fn wrong_word_of_a_line() {
 }
 
 /// Leaves the last line as it was lent, though it reports it done.
-fn last_line_unwritten(sheet: &[u64], results: &mut [u64]) -> Answer {
+fn last_line_unwritten(sheet: &[u64], results: &mut [u64]) -> Reply {
     let before = results.to_vec();
-    let (count, charge) = proved(sheet, results)?;
-    let last = 6 * (count as usize - 1);
-    results[last..].copy_from_slice(&before[last..]);
-    Ok((count, charge))
+    let reply = proved(sheet, results);
+    if reply.number == 0 {
+        let last = 6 * (reply.count as usize - 1);
+        results[last..].copy_from_slice(&before[last..]);
+    }
+    reply
 }
 
 /// A line left unwritten but reported done.
@@ -139,27 +209,30 @@ fn line_not_written() {
     assert_eq!(weighed(last_line_unwritten), Some(Part::Approach));
 }
 
+/// The words after the lines of an accepted sheet; none where it is refused.
+fn later<'a>(reply: &Reply, results: &'a mut [u64]) -> &'a mut [u64] {
+    match reply.number {
+        0 => &mut results[6 * reply.count as usize..],
+        _ => &mut [],
+    }
+}
+
 /// Writes 0 to the word after the lines, where there is one.
-fn word_after_lines(sheet: &[u64], results: &mut [u64]) -> Answer {
-    let (count, charge) = proved(sheet, results)?;
-    results
-        .iter_mut()
-        .skip(6 * count as usize)
-        .take(1)
-        .for_each(|word| *word = 0);
-    Ok((count, charge))
+fn word_after_lines(sheet: &[u64], results: &mut [u64]) -> Reply {
+    let reply = proved(sheet, results);
+    later(&reply, results).iter_mut().take(1).for_each(|word| *word = 0);
+    reply
 }
 
 /// Writes 0 to the last lent word, where it is after the lines.
-fn last_word(sheet: &[u64], results: &mut [u64]) -> Answer {
-    let (count, charge) = proved(sheet, results)?;
-    results
+fn last_word(sheet: &[u64], results: &mut [u64]) -> Reply {
+    let reply = proved(sheet, results);
+    later(&reply, results)
         .iter_mut()
-        .skip(6 * count as usize)
-        .last()
-        .into_iter()
+        .rev()
+        .take(1)
         .for_each(|word| *word = 0);
-    Ok((count, charge))
+    reply
 }
 
 /// Later words are untouched: the first of them and the last.
@@ -170,25 +243,25 @@ fn words_after_the_lines_written() {
 }
 
 /// Writes 0 to the first lent word on a refusal.
-fn first_word_on_refusal(sheet: &[u64], results: &mut [u64]) -> Answer {
-    let answer = proved(sheet, results);
+fn first_word_on_refusal(sheet: &[u64], results: &mut [u64]) -> Reply {
+    let reply = proved(sheet, results);
     results
         .iter_mut()
         .take(1)
-        .filter(|_| answer.is_err())
+        .filter(|_| reply.number != 0)
         .for_each(|word| *word = 0);
-    answer
+    reply
 }
 
 /// Writes 0 to the last lent word on a refusal.
-fn last_word_on_refusal(sheet: &[u64], results: &mut [u64]) -> Answer {
-    let answer = proved(sheet, results);
+fn last_word_on_refusal(sheet: &[u64], results: &mut [u64]) -> Reply {
+    let reply = proved(sheet, results);
     results
         .last_mut()
         .into_iter()
-        .filter(|_| answer.is_err())
+        .filter(|_| reply.number != 0)
         .for_each(|word| *word = 0);
-    answer
+    reply
 }
 
 /// Results are untouched on a refusal: the first word and the last.
@@ -205,9 +278,11 @@ fn panic_is_a_difference() {
 }
 
 /// The independent answer, with the triple that `choose` takes from each line's admitted ones.
-fn chosen(sheet: &[u64], results: &mut [u64], choose: fn(&[independent::Amounts]) -> [u64; 3]) -> Answer {
-    let answer = independent::weigh(sheet, results.len() as u64);
-    let deal = answer.map_err(|refusal| (refusal.number, refusal.place))?;
+fn chosen(sheet: &[u64], results: &mut [u64], choose: fn(&[independent::Amounts]) -> [u64; 3]) -> Reply {
+    let deal = match independent::weigh(sheet, results.len() as u64) {
+        Ok(deal) => deal,
+        Err(refusal) => return refusing(refusal.number, refusal.place),
+    };
     let (lines, _) = results.as_chunks_mut::<6>();
     for (line, words) in deal.lines.iter().zip(lines) {
         let [weight, risk_weighted, capital] = choose(&line.amounts);
@@ -220,7 +295,7 @@ fn chosen(sheet: &[u64], results: &mut [u64], choose: fn(&[independent::Amounts]
             capital,
         ];
     }
-    Ok((deal.lines.len() as u64, deal.charge))
+    accepting(deal.lines.len() as u64, deal.charge)
 }
 
 /// A triple as the last three words of a line.
@@ -231,9 +306,8 @@ fn words(amounts: &independent::Amounts) -> [u64; 3] {
 /// Where two weights are admitted, both the lower and the higher pass, and it is counted which one was taken.
 #[test]
 fn either_admitted_weight_passes() {
-    let lower = |sheet: &[u64], results: &mut [u64]| chosen(sheet, results, |admitted| words(&admitted[0]));
-    let higher =
-        |sheet: &[u64], results: &mut [u64]| chosen(sheet, results, |admitted| words(&admitted[admitted.len() - 1]));
+    let lower: Weigh = |sheet, results| chosen(sheet, results, |admitted| words(&admitted[0]));
+    let higher: Weigh = |sheet, results| chosen(sheet, results, |admitted| words(&admitted[admitted.len() - 1]));
     let tally = |weigh| {
         let library = Library {
             weigh,
@@ -250,7 +324,7 @@ fn either_admitted_weight_passes() {
 /// The higher weight with the lower one's risk-weighted amount and capital is no admitted triple.
 #[test]
 fn mixed_triple_is_found() {
-    let mixed = |sheet: &[u64], results: &mut [u64]| {
+    let mixed: Weigh = |sheet, results| {
         chosen(sheet, results, |admitted| {
             [
                 admitted[admitted.len() - 1].weight,
@@ -285,9 +359,8 @@ fn wrong_report_text() {
 /// A difference is shown with the sheet's words, what each side said, and seed, index and part as the last line.
 #[test]
 fn difference_is_shown_in_full() {
-    let weigh = |sheet: &[u64], results: &mut [u64]| proved(sheet, results).map(|_| (1, 7_000_000));
     let library = Library {
-        weigh,
+        weigh: |sheet, results| accepted(sheet, results, |reply| *reply = accepting(1, 7_000_000)),
         ..Library::PROVED
     };
     let found = run(library, 2).expect_err("no pool has this charge");
@@ -295,8 +368,11 @@ fn difference_is_shown_in_full() {
     let text = show::difference(&library, SEED, &case, &found);
     let words: Vec<String> = case.sheet.iter().map(u64::to_string).collect();
     assert!(text.contains(&format!("\nsheet {}\n", words.join(" "))), "{text}");
-    assert!(text.contains("\nindependent: charge "), "{text}");
-    assert!(text.contains("\nproved: charge 7000000 tranches 1\n"), "{text}");
+    assert!(text.contains("\nindependent: number 0 place 0 count "), "{text}");
+    assert!(
+        text.contains("\nproved: number 0 place 0 count 1 charge 7000000\n"),
+        "{text}"
+    );
     let last = format!(
         "differential: seed {SEED}, index {}: difference in {}",
         found.index, found.difference

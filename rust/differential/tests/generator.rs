@@ -113,9 +113,14 @@ fn overshooting_tranches_have_points_zero() {
 /// Charges of 0, of a few millionths and of one million occur where their kinds say so.
 #[test]
 fn charges_follow_the_kinds() {
-    assert!(deals(Kind::ZeroCharge, 5_000).all(|deal| deal.charge == 0));
-    assert!(deals(Kind::AllUnknown, 5_000).all(|deal| deal.charge == 1_000_000));
-    assert!(deals(Kind::AllDelinquent, 5_000).all(|deal| deal.charge == 500_000));
+    let charges = |kind| {
+        let charges: Vec<u64> = deals(kind, 5_000).map(|deal| deal.charge).collect();
+        assert!(charges.len() > 10, "{kind:?}: {} deals", charges.len());
+        BTreeSet::from_iter(charges)
+    };
+    assert_eq!(charges(Kind::ZeroCharge), BTreeSet::from([0]));
+    assert_eq!(charges(Kind::AllUnknown), BTreeSet::from([1_000_000]));
+    assert_eq!(charges(Kind::AllDelinquent), BTreeSet::from([500_000]));
     assert!(
         deals(Kind::SmallCharge, 5_000)
             .filter(|deal| (1..=3).contains(&deal.charge))

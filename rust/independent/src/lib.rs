@@ -1,4 +1,5 @@
-//! Exact tranche weights, written from document 01 (the scope paper) alone.
+//! Exact tranche weights: the crate follows document 01 (the scope paper) alone and shares nothing with the proved
+//! code.
 //!
 //! Nothing is rounded but where document 01 names a rounding. Sums and products are whole numbers of 128 bits, where
 //! every intermediate result fits (the largest is about 10^19). The exponentials of the formula are held between two

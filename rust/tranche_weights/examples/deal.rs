@@ -5,6 +5,7 @@ use tranche_weights::{
     Facts, LongTerm, Months, PoolAmount, RiskWeight, Row, SheetBuilder, Status, Tranche, TrancheAmount,
 };
 
+/// Ends with an error where document 01 does not admit a value, or where the sheet is refused.
 fn main() -> Result<(), Box<dyn Error>> {
     let loan = |amount, percent| -> Result<Row, Box<dyn Error>> {
         let amount = PoolAmount::new(amount)?;

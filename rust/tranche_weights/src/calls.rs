@@ -9,6 +9,37 @@ pub const TEXT_ROOM: usize = 4810;
 /// The longest file that holds a sheet, in bytes: 1,000 rows and 32 tranches.
 const LONGEST_FILE: usize = 33_848;
 
+/// The four numbers that the library answers to a sheet, as its C function gives them.
+#[derive(Debug, Clone, Copy, PartialEq, Eq, Hash)]
+pub struct Reply {
+    /// The refusal's number; 0 where the sheet is accepted.
+    pub number: u64,
+    /// The refusal's place; 0 where the sheet is accepted.
+    pub place: u64,
+    /// The number of tranches; 0 on a refusal.
+    pub count: u64,
+    /// The pool charge, in millionths; 0 on a refusal.
+    pub charge: u64,
+}
+
+/// Weighs as [`weigh_words`] does, and gives the four numbers as the C function gives them; number 0 where the sheet is
+/// accepted.
+///
+/// ```
+/// use tranche_weights::{reply_to_words, Reply};
+///
+/// // One loan of 100 at 100%, one tranche of 80 that is held in full, five years, AAA.
+/// let sheet = [4, 0, 0, 1, 1, 1, 100, 100, 100, 0, 1, 80, 1, 60, 80, 1, 0, 0];
+/// let weighed = reply_to_words(&sheet, &mut [0; 6]);
+/// assert_eq!(weighed, Reply { number: 0, place: 0, count: 1, charge: 80_000 });
+///
+/// let refused = reply_to_words(&sheet[..7], &mut [0; 6]);
+/// assert_eq!(refused, Reply { number: 1, place: 7, count: 0, charge: 0 });
+/// ```
+pub fn reply_to_words(sheet: &[u64], results: &mut [u64]) -> Reply {
+    library::weigh(sheet, results)
+}
+
 /// What the library answers to a sheet that it weighed.
 #[derive(Debug, Clone, Copy, PartialEq, Eq, Hash)]
 pub struct Weighed {
@@ -38,13 +69,15 @@ pub struct Weighed {
 /// assert_eq!(results, [7; 5]);
 /// ```
 pub fn weigh_words(sheet: &[u64], results: &mut [u64]) -> Result<Weighed, Refusal> {
-    let answer = library::weigh(sheet, results);
-    match answer.number {
-        0 => Ok(Weighed {
-            count: answer.count,
-            charge: answer.charge,
-        }),
-        number => Err(Refusal::new(number, answer.place)),
+    let Reply {
+        number,
+        place,
+        count,
+        charge,
+    } = reply_to_words(sheet, results);
+    match number {
+        0 => Ok(Weighed { count, charge }),
+        _ => Err(Refusal::new(number, place)),
     }
 }
 

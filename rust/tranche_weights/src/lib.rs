@@ -6,7 +6,8 @@
 //!
 //! - [`SheetBuilder`] takes values that document 01 admits, and no others; the [`Sheet`] that it builds is weighed to a
 //!   [`Deal`]. Every sheet of an SA pool whose words document 01 admits can be built.
-//! - [`weigh_words`], [`weigh_file`], [`report`] and [`report_into`] take any words or any bytes.
+//! - [`weigh_words`], [`weigh_file`], [`report`] and [`report_into`] take any words or any bytes; [`reply_to_words`]
+//!   gives the four numbers of the C function.
 //!
 //! # A deal from end to end
 //!
@@ -75,7 +76,7 @@ mod sheet;
 mod sheet_error;
 mod tranche;
 
-pub use calls::{report, report_into, weigh_file, weigh_words, Weighed, TEXT_ROOM};
+pub use calls::{reply_to_words, report, report_into, weigh_file, weigh_words, Reply, Weighed, TEXT_ROOM};
 pub use deal::{Approach, Deal, Line};
 pub use limits::{Months, PoolAmount, RiskWeight, TrancheAmount};
 pub use pool::{Row, Status};

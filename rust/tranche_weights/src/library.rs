@@ -2,6 +2,8 @@
 
 #![allow(unsafe_code)]
 
+use crate::Reply;
+
 extern "C" {
     /// Weighs the sheet; returns the refusal's number, 0 where weighed.
     fn tranche_weights_weigh(
@@ -18,17 +20,13 @@ extern "C" {
     fn tranche_weights_report(file: *const u8, size: usize, text: *mut u8, room: usize) -> u64;
 }
 
-/// What the library answers to a sheet: a refusal's number and place, or the number 0 with count and charge.
-pub(crate) struct Answer {
-    pub(crate) number: u64,
-    pub(crate) place: u64,
-    pub(crate) count: u64,
-    pub(crate) charge: u64,
-}
+/// What the three lent words hold before the call. No place, count or charge is as high, so a word that the library
+/// leaves unwritten shows.
+const UNWRITTEN: u64 = u64::MAX;
 
 /// Lends the library a sheet and room for the results, and hands back its answer as it is.
-pub(crate) fn weigh(sheet: &[u64], results: &mut [u64]) -> Answer {
-    let (mut place, mut count, mut charge) = (0, 0, 0);
+pub(crate) fn weigh(sheet: &[u64], results: &mut [u64]) -> Reply {
+    let [mut place, mut count, mut charge] = [UNWRITTEN; 3];
     // SAFETY: the declaration is the library's own, and `size_t` is `usize` on x86-64 Linux, the only target that
     // build.rs lets through. The pointers of both slices are aligned and valid for the lengths given with them, the
     // sheet's for reading, the results' for reading and writing (of an empty slice no word is touched). A shared and
@@ -46,7 +44,7 @@ pub(crate) fn weigh(sheet: &[u64], results: &mut [u64]) -> Answer {
             &mut charge,
         )
     };
-    Answer {
+    Reply {
         number,
         place,
         count,

@@ -150,6 +150,28 @@ impl Error for Refusal {}
 mod tests {
     use super::{Reason, Refusal, LISTED};
 
+    /// The repository's README.
+    const README: &str = include_str!(concat!(env!("CARGO_MANIFEST_DIR"), "/../../README.md"));
+
+    /// The README's table of refusals: of each line that begins with a number, that number and the second column.
+    fn readme_table() -> Vec<(u64, &'static str)> {
+        let (_, after) = README
+            .split_once("\n## Refusals\n")
+            .expect("the README has a section on refusals");
+        let section = after.split_once("\n## ").map_or(after, |(section, _)| section);
+        let entry = |line: &'static str| {
+            let mut columns = line.strip_prefix("| ")?.split(" | ");
+            Some((columns.next()?.parse().ok()?, columns.next()?))
+        };
+        section.lines().filter_map(entry).collect()
+    }
+
+    /// The README's table has just these numbers, each with just this text.
+    #[test]
+    fn the_readme_says_the_same() {
+        assert_eq!(readme_table(), LISTED.map(|(number, _, wrong)| (number, wrong)));
+    }
+
     /// The list has the numbers 1 to 15 in order, and each gives its own reason.
     #[test]
     fn the_list_has_each_number_once() {

@@ -1,7 +1,7 @@
 //! Each refusal, with its number, place and reason (document 01, "Refusals, by who can cause them").
 
 use crate::checked_deal::{file_of, RESULTS, WORDS};
-use tranche_weights::{report, weigh_file, weigh_words, Reason, Refusal};
+use tranche_weights::{reply_to_words, report, weigh_file, weigh_words, Reason, Refusal, Reply};
 
 /// The checked deal with one word replaced.
 fn with(place: usize, word: u64) -> Vec<u64> {
@@ -10,30 +10,18 @@ fn with(place: usize, word: u64) -> Vec<u64> {
     words
 }
 
+/// A sheet with a second tranche of one unit in 10^10: its points are equal, above the pool charge.
+fn thin() -> Vec<u64> {
+    let facts = [4, 0, 0, 1, 1];
+    let pool = [1, 10_000_000_000, 10_000_000_000, 100, 0];
+    let senior = [4_999_995_000, 1, 60, 0, 0, 0, 0];
+    let junior = [1, 2, 60, 1, 0, 0, 0];
+    [&facts[..], &pool, &[2], &senior, &junior].concat()
+}
+
 /// Words refused by the library, each with number, place and reason.
 fn refused_words() -> Vec<(Vec<u64>, u64, u64, Reason)> {
     let longer = [&WORDS[..], &[0, 0]].concat();
-    let thin = [
-        4,
-        0,
-        0,
-        1,
-        1,
-        1,
-        10_000_000_000,
-        10_000_000_000,
-        100,
-        0,
-        2,
-        4_999_995_000,
-        1,
-        60,
-        0,
-        0,
-        0,
-        0,
-    ];
-    let thin = [&thin[..], &[1, 2, 60, 1, 0, 0, 0]].concat();
     vec![
         (vec![], 1, 0, Reason::MissingWord),
         (WORDS[..35].to_vec(), 1, 35, Reason::MissingWord),
@@ -56,7 +44,7 @@ fn refused_words() -> Vec<(Vec<u64>, u64, u64, Reason)> {
         (with(19, 19), 11, 19, Reason::Rating),
         (with(1, 1), 12, 1, Reason::PoolKind),
         (with(1, 2), 12, 1, Reason::PoolKind),
-        (thin, 13, 18, Reason::ThinTranche),
+        (thin(), 13, 18, Reason::ThinTranche),
     ]
 }
 
@@ -74,6 +62,16 @@ fn hold(refusal: Refusal, number: u64, place: u64, reason: Reason) {
     );
 }
 
+/// The four numbers of a refusal: count and charge are 0.
+fn refusing(number: u64, place: u64) -> Reply {
+    Reply {
+        number,
+        place,
+        count: 0,
+        charge: 0,
+    }
+}
+
 /// Words are refused with number, place and reason, as words and as a file; the results are as they were.
 #[test]
 fn refused_words_leave_the_results() {
@@ -81,6 +79,7 @@ fn refused_words_leave_the_results() {
     for (words, number, place, reason) in refused_words() {
         let mut results = before.clone();
         hold(weigh_words(&words, &mut results).unwrap_err(), number, place, reason);
+        assert_eq!(reply_to_words(&words, &mut results), refusing(number, place));
         assert_eq!(results, before);
         hold(weigh_file(&file_of(&words)).unwrap_err(), number, place, reason);
         assert_eq!(report(&file_of(&words)), format!("refused {number} at {place}\n"));
@@ -94,6 +93,7 @@ fn too_little_room_leaves_the_results() {
         let before: Vec<u64> = (900..).take(room).collect();
         let mut results = before.clone();
         hold(weigh_words(&WORDS, &mut results).unwrap_err(), 14, 0, Reason::Room);
+        assert_eq!(reply_to_words(&WORDS, &mut results), refusing(14, 0));
         assert_eq!(results, before);
     }
 }

@@ -1,7 +1,7 @@
 //! The lent results (document 01, "The deal sheet").
 
 use crate::checked_deal::{file_of, RESULTS, WORDS};
-use tranche_weights::{weigh_file, weigh_words, Approach, Weighed};
+use tranche_weights::{reply_to_words, weigh_file, weigh_words, Approach, Reply, Weighed};
 
 /// The lines' words are written where they just fit, and words after them are as they were.
 #[test]
@@ -19,6 +19,20 @@ fn lines_leave_later_words() {
         assert_eq!(results[..RESULTS.len()], RESULTS);
         assert_eq!(results[RESULTS.len()..], before[RESULTS.len()..]);
     }
+}
+
+/// An accepted sheet's number and place are 0, beside its count and charge.
+#[test]
+fn an_accepted_sheet_has_number_and_place_0() {
+    assert_eq!(
+        reply_to_words(&WORDS, &mut [0; RESULTS.len()]),
+        Reply {
+            number: 0,
+            place: 0,
+            count: 3,
+            charge: 101_000
+        }
+    );
 }
 
 /// A deal's lines hold the six result words, each in its field.

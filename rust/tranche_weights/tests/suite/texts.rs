@@ -1,7 +1,7 @@
 //! The report's text and the lent room for it (document 01, "Checked deals").
 
 use crate::checked_deal::{file_of, TEXT, WORDS};
-use tranche_weights::{report, report_into, Approach, Deal, Refusal, TEXT_ROOM};
+use tranche_weights::{report, report_into, weigh_file, Approach, Deal, Refusal, MOST_ROWS, MOST_TRANCHES, TEXT_ROOM};
 
 /// The word that states an approach.
 fn approach_word(approach: Approach) -> u64 {
@@ -42,24 +42,37 @@ fn the_report_on_a_refused_file_names_number_and_place() {
     assert_eq!(report(&file_of(&WORDS)[..287]), "refused 15 at 0\n");
 }
 
-/// The text is written where it just fits, and bytes after it are as they were.
-#[test]
-fn a_text_that_fits_leaves_later_bytes() {
-    for room in [TEXT.len(), TEXT.len() + 3, TEXT_ROOM] {
-        let mut text = vec![b'#'; room];
-        assert_eq!(report_into(&file_of(&WORDS), &mut text), Ok(TEXT.len()));
-        let (written, later) = text.split_at(TEXT.len());
-        assert_eq!(written, TEXT.as_bytes());
-        assert!(later.iter().all(|byte| *byte == b'#'));
-    }
+/// The file of a deal with the most rows and tranches, every amount at its limit and all of it held.
+fn largest_file() -> Vec<u8> {
+    let rows = [[10_000_000_000, 10_000_000_000, 1250, 0]; MOST_ROWS];
+    let tranches = [[10_000_000_000_000, 1, 1200, 10_000_000_000_000, 0, 0, 0]; MOST_TRANCHES];
+    let counts = [rows.len() as u64, tranches.len() as u64];
+    let pool = [&[4, 0, 0, 1, 1, counts[0]], rows.as_flattened()].concat();
+    file_of(&[&pool, &counts[1..], tranches.as_flattened()].concat())
 }
 
-/// Where the text does not fit, its length is answered and nothing is written.
+/// Lends a room of a longer list and holds all of the list: the text stands at its start where it fits the room, and
+/// every other byte, in the room and after it, is as it was. The bytes before differ from all that a text can hold.
+fn hold_room(file: &[u8], text: &str, room: usize) {
+    let before: Vec<u8> = (0..=127).cycle().map(|byte| 128 + byte).take(room + 8).collect();
+    let mut bytes = before.clone();
+    let (answer, written) = if text.len() <= room {
+        (Ok(text.len()), text.as_bytes())
+    } else {
+        (Err(text.len()), &[][..])
+    };
+    assert_eq!(report_into(file, &mut bytes[..room]), answer, "room {room}");
+    assert_eq!(bytes, [written, &before[written.len()..]].concat(), "room {room}");
+}
+
+/// The text is written whole where it fits, and else not begun: a refusal, a small deal's lines, the largest deal's.
 #[test]
-fn a_text_that_does_not_fit_is_not_begun() {
-    for room in [0, 1, TEXT.len() - 1] {
-        let mut text = vec![b'#'; room];
-        assert_eq!(report_into(&file_of(&WORDS), &mut text), Err(TEXT.len()));
-        assert_eq!(text, vec![b'#'; room]);
+fn a_text_is_written_whole_or_not_begun() {
+    let files = [(vec![], 1), (file_of(&WORDS), 5), (largest_file(), MOST_TRANCHES + 2)];
+    for (file, lines) in files {
+        let text = text_of(&weigh_file(&file));
+        assert_eq!(text.lines().count(), lines);
+        let rooms = [0, 1, text.len() - 1, text.len(), text.len() + 3, TEXT_ROOM];
+        rooms.iter().for_each(|room| hold_room(&file, &text, *room));
     }
 }

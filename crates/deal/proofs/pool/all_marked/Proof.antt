@@ -4,7 +4,7 @@ use Prim.Native.Nat.{_-_, _≤_, _<_}
 use native.Mathlib.Omega.{arith}
 use Rattle.judgement.specs.DealSheet.{rows}
 use Rattle.judgement.proofs.SheetLimits.{rows-within, pool-counted}
-use Rattle.deal.specs.PointsAndCharge.{markedTo}
+use Rattle.deal.specs.RowTotals.{markedTo}
 use Rattle.deal.proofs.PlacesLaws.{rows-is}
 use Rattle.deal.proofs.TotalsLaws.{marked-none}
 use Rattle.deal.proofs.pool.all_marked.Statement.{statement}
