@@ -17,10 +17,19 @@ part() {
     echo "== $name: $(($(date +%s) - began)) s"
 }
 
+# Prints what comes in, line by line, but the last line, which goes to a file: all_but_last FILE
+all_but_last() {
+    IFS= read -r last
+    while IFS= read -r line; do
+        printf '%s\n' "$last"
+        last=$line
+    done
+    printf '%s\n' "$last" > "$1"
+}
+
 # The proofs. The gate's last line is held back, so that it comes after this part's time.
 proofs() {
-    { rt ci 2>&1 && echo 0 > "$held/status" || echo 1 > "$held/status"; } |
-        awk -v last="$held/last" 'NR > 1 { print line; fflush() } { line = $0 } END { print line > last }'
+    { rt ci 2>&1 && echo 0 > "$held/status" || echo 1 > "$held/status"; } | all_but_last "$held/last"
 }
 
 part "programs proved and built" rt check tranche_report sheet_words
