@@ -58,12 +58,7 @@ mod tests {
     use super::*;
 
     /// A reply with two lines.
-    const REPLY: Reply = Reply {
-        number: 0,
-        place: 0,
-        count: 2,
-        charge: 5,
-    };
+    const REPLY: Reply = Reply::accepting(2, 5);
 
     /// A word written inside the room or just after it is found at its place; one before the start is not looked at.
     #[test]

@@ -10,18 +10,8 @@ use independent::{Amounts, Deal, Line, Refusal};
 /// ("Refusals").
 pub fn due(answer: &Result<Deal, Refusal>) -> Reply {
     match answer {
-        Ok(deal) => Reply {
-            number: 0,
-            place: 0,
-            count: deal.lines.len() as u64,
-            charge: deal.charge,
-        },
-        Err(refusal) => Reply {
-            number: refusal.number,
-            place: refusal.place,
-            count: 0,
-            charge: 0,
-        },
+        Ok(deal) => Reply::accepting(deal.lines.len() as u64, deal.charge),
+        Err(refusal) => Reply::refusing(refusal.number, refusal.place),
     }
 }
 

@@ -69,26 +69,6 @@ fn text(file: &[u8]) -> String {
     (Library::PROVED.report)(file)
 }
 
-/// The reply that accepts a sheet.
-fn accepting(count: u64, charge: u64) -> Reply {
-    Reply {
-        number: 0,
-        place: 0,
-        count,
-        charge,
-    }
-}
-
-/// The reply that refuses a sheet.
-fn refusing(number: u64, place: u64) -> Reply {
-    Reply {
-        number,
-        place,
-        count: 0,
-        charge: 0,
-    }
-}
-
 /// The proved functions themselves pass, so that each fault below is found for its own sake.
 #[test]
 fn nothing_wrong_is_passed() {
@@ -160,14 +140,14 @@ fn wrong_charge() {
 /// Constant refusal.
 #[test]
 fn refused_in_place_of_weighed() {
-    let wrong: Weigh = |sheet, results| accepted(sheet, results, |reply| *reply = refusing(14, 0));
+    let wrong: Weigh = |sheet, results| accepted(sheet, results, |reply| *reply = Reply::refusing(14, 0));
     assert_eq!(weighed(wrong), Some(Part::Outcome));
 }
 
 /// A refused sheet reported as weighed.
 #[test]
 fn weighed_in_place_of_refused() {
-    let wrong: Weigh = |sheet, results| refused(sheet, results, |reply| *reply = accepting(0, 0));
+    let wrong: Weigh = |sheet, results| refused(sheet, results, |reply| *reply = Reply::accepting(0, 0));
     assert_eq!(weighed(wrong), Some(Part::Outcome));
 }
 
@@ -281,7 +261,7 @@ fn panic_is_a_difference() {
 fn chosen(sheet: &[u64], results: &mut [u64], choose: fn(&[independent::Amounts]) -> [u64; 3]) -> Reply {
     let deal = match independent::weigh(sheet, results.len() as u64) {
         Ok(deal) => deal,
-        Err(refusal) => return refusing(refusal.number, refusal.place),
+        Err(refusal) => return Reply::refusing(refusal.number, refusal.place),
     };
     let (lines, _) = results.as_chunks_mut::<6>();
     for (line, words) in deal.lines.iter().zip(lines) {
@@ -295,7 +275,7 @@ fn chosen(sheet: &[u64], results: &mut [u64], choose: fn(&[independent::Amounts]
             capital,
         ];
     }
-    accepting(deal.lines.len() as u64, deal.charge)
+    Reply::accepting(deal.lines.len() as u64, deal.charge)
 }
 
 /// A triple as the last three words of a line.
@@ -360,7 +340,7 @@ fn wrong_report_text() {
 #[test]
 fn difference_is_shown_in_full() {
     let library = Library {
-        weigh: |sheet, results| accepted(sheet, results, |reply| *reply = accepting(1, 7_000_000)),
+        weigh: |sheet, results| accepted(sheet, results, |reply| *reply = Reply::accepting(1, 7_000_000)),
         ..Library::PROVED
     };
     let found = run(library, 2).expect_err("no pool has this charge");

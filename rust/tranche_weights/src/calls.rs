@@ -22,6 +22,28 @@ pub struct Reply {
     pub charge: u64,
 }
 
+impl Reply {
+    /// The reply that accepts a sheet: number and place are 0.
+    pub const fn accepting(count: u64, charge: u64) -> Reply {
+        Reply {
+            number: 0,
+            place: 0,
+            count,
+            charge,
+        }
+    }
+
+    /// The reply that refuses a sheet: count and charge are 0.
+    pub const fn refusing(number: u64, place: u64) -> Reply {
+        Reply {
+            number,
+            place,
+            count: 0,
+            charge: 0,
+        }
+    }
+}
+
 /// Weighs as [`weigh_words`] does, and gives the four numbers as the C function gives them; number 0 where the sheet is
 /// accepted.
 ///
@@ -31,10 +53,10 @@ pub struct Reply {
 /// // One loan of 100 at 100%, one tranche of 80 that is held in full, five years, AAA.
 /// let sheet = [4, 0, 0, 1, 1, 1, 100, 100, 100, 0, 1, 80, 1, 60, 80, 1, 0, 0];
 /// let weighed = reply_to_words(&sheet, &mut [0; 6]);
-/// assert_eq!(weighed, Reply { number: 0, place: 0, count: 1, charge: 80_000 });
+/// assert_eq!(weighed, Reply::accepting(1, 80_000));
 ///
 /// let refused = reply_to_words(&sheet[..7], &mut [0; 6]);
-/// assert_eq!(refused, Reply { number: 1, place: 7, count: 0, charge: 0 });
+/// assert_eq!(refused, Reply::refusing(1, 7));
 /// ```
 pub fn reply_to_words(sheet: &[u64], results: &mut [u64]) -> Reply {
     library::weigh(sheet, results)

@@ -62,16 +62,6 @@ fn hold(refusal: Refusal, number: u64, place: u64, reason: Reason) {
     );
 }
 
-/// The four numbers of a refusal: count and charge are 0.
-fn refusing(number: u64, place: u64) -> Reply {
-    Reply {
-        number,
-        place,
-        count: 0,
-        charge: 0,
-    }
-}
-
 /// Words are refused with number, place and reason, as words and as a file; the results are as they were.
 #[test]
 fn refused_words_leave_the_results() {
@@ -79,7 +69,7 @@ fn refused_words_leave_the_results() {
     for (words, number, place, reason) in refused_words() {
         let mut results = before.clone();
         hold(weigh_words(&words, &mut results).unwrap_err(), number, place, reason);
-        assert_eq!(reply_to_words(&words, &mut results), refusing(number, place));
+        assert_eq!(reply_to_words(&words, &mut results), Reply::refusing(number, place));
         assert_eq!(results, before);
         hold(weigh_file(&file_of(&words)).unwrap_err(), number, place, reason);
         assert_eq!(report(&file_of(&words)), format!("refused {number} at {place}\n"));
@@ -93,7 +83,7 @@ fn too_little_room_leaves_the_results() {
         let before: Vec<u64> = (900..).take(room).collect();
         let mut results = before.clone();
         hold(weigh_words(&WORDS, &mut results).unwrap_err(), 14, 0, Reason::Room);
-        assert_eq!(reply_to_words(&WORDS, &mut results), refusing(14, 0));
+        assert_eq!(reply_to_words(&WORDS, &mut results), Reply::refusing(14, 0));
         assert_eq!(results, before);
     }
 }
