@@ -32,7 +32,8 @@ proofs() {
     { rt ci 2>&1 && echo 0 > "$held/status" || echo 1 > "$held/status"; } | all_but_last "$held/last"
 }
 
-part "programs and library proved and built" sh tests/build.sh
+part "programs proved and built" rt check tranche_report sheet_words
+part "library proved and built" rt staticlib tranche_weights
 part "programs tried" sh tests/programs.sh
 part "C example" sh tests/c_example.sh
 part "Rust tests" cargo test --offline --release --quiet --manifest-path rust/Cargo.toml
