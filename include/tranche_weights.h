@@ -1,17 +1,26 @@
 /*
- * Risk weights of securitisation tranches: the proved calculator for programs in C (x86-64 Linux).
+ * Risk weights of securitisation tranches: the proved calculator for programs in C99 or later and C++ (x86-64 Linux).
  *
  * The archive is made from the repository's root by `rt staticlib tranche_weights`, which proves it first and writes
  * target/staticlib/libtranche_weights.a. Link it as it is; it needs nothing but memcpy and memset of the C library.
  *
- * What holds of both functions
+ * What holds of all three functions
  * - The caller owns all memory. Nothing is allocated, kept or freed, and no pointer outlives the call.
  * - There is no state: calls on different memory may run at the same time on different threads.
  * - Whatever the words or bytes are, the call ends and gives the answer described here; no input is undefined.
- * - What the caller owes: a pointer is not null and is aligned for its type (also where its length is 0), as many words or bytes as its length says stay
- *   readable (or writable, where the pointer is not const) until the call returns, and what the function writes overlaps nothing else that is passed.
- * - It also owes the stack: 64 KB are enough for the report and 16 KB for weighing (tests/calls.c runs both on threads with no more).
+ * - A list of length 0 is nothing: its pointer is not looked at and may be null.
+ * - What the caller owes: any other pointer is not null and is aligned for its type, as many words or bytes as its length says stay readable (or writable, where the
+ *   pointer is not const) until the call returns, and what the function writes overlaps nothing else that is passed. place, count and charge are never null.
+ * - It also owes the stack: 16 KB are enough for tranche_weights_weigh and 64 KB for the two that take a file (tests/calls.c runs them on threads with no more).
  * - What is proved is the code that stands behind these names. That a caller keeps what it owes, no proof can see.
+ *
+ * Versions
+ * - Within a version of the interface nothing below changes but comments.
+ * - A later version may add facts, sections, refusals and approaches, and words at the end of a line, and so change the limits and lengths below; it may no longer
+ *   give a refusal that is listed here. A refusal's number, an approach's word and the place of a word in the line keep their meaning in all versions, and a number
+ *   that is no longer given is not used again. So a program that goes by the names below, and takes a refusal or an approach that it does not know for what it is,
+ *   need only be compiled anew.
+ * - Each function's name in the archive ends in the version. A header and an archive of two versions do not link: the linker names the function that is missing.
  */
 #ifndef TRANCHE_WEIGHTS_H
 #define TRANCHE_WEIGHTS_H
@@ -23,18 +32,63 @@
 extern "C" {
 #endif
 
-/* The most words that a sheet can need: 1,000 pool rows and 32 tranches. */
-#define TRANCHE_WEIGHTS_SHEET_WORDS 4231
+/* The version of the interface. */
+#define TRANCHE_WEIGHTS_INTERFACE 1
 
-/* The words of one line: approach (0 fallback, 1 SEC-ERBA, 2 SEC-SA), attachment point, detachment point (both in millionths of the pool), weight (in hundredths of
- * a percent), risk-weighted amount, capital (both in whole currency units). */
-#define TRANCHE_WEIGHTS_LINE_WORDS 6
+/* The most words that a sheet can need, with 1,000 pool rows and 32 tranches, and the most bytes of its file. */
+#define TRANCHE_WEIGHTS_SHEET_WORDS 4231
+#define TRANCHE_WEIGHTS_FILE_BYTES (8 * TRANCHE_WEIGHTS_SHEET_WORDS)
+
+/* The places of the words of a line, and how many there are. */
+enum {
+    TRANCHE_WEIGHTS_APPROACH = 0,             /* an approach, as listed below */
+    TRANCHE_WEIGHTS_ATTACHMENT = 1,           /* the attachment point, in millionths of the pool */
+    TRANCHE_WEIGHTS_DETACHMENT = 2,           /* the detachment point, in millionths of the pool */
+    TRANCHE_WEIGHTS_WEIGHT = 3,               /* the risk weight, in hundredths of a percent */
+    TRANCHE_WEIGHTS_RISK_WEIGHTED_AMOUNT = 4, /* in whole currency units */
+    TRANCHE_WEIGHTS_CAPITAL = 5,              /* in whole currency units */
+    TRANCHE_WEIGHTS_LINE_WORDS = 6
+};
 
 /* Result words that are enough for every sheet. */
 #define TRANCHE_WEIGHTS_RESULT_WORDS (32 * TRANCHE_WEIGHTS_LINE_WORDS)
 
 /* Bytes that hold every report. */
 #define TRANCHE_WEIGHTS_TEXT_BYTES 4810
+
+/* The approaches. */
+enum {
+    TRANCHE_WEIGHTS_FALLBACK = 0, /* the fallback of 1250% */
+    TRANCHE_WEIGHTS_SEC_ERBA = 1, /* the rating table */
+    TRANCHE_WEIGHTS_SEC_SA = 2    /* the formula */
+};
+
+/* The numbers that a call returns. The README says of each refusal what to do. */
+enum {
+    TRANCHE_WEIGHTS_ACCEPTED = 0,
+    TRANCHE_WEIGHTS_MISSING_WORD = 1,   /* the sheet ends too early; the place is its length */
+    TRANCHE_WEIGHTS_COUNT = 2,          /* a count is outside its limits */
+    TRANCHE_WEIGHTS_WORDS_FOLLOW = 3,   /* words follow the last section */
+    TRANCHE_WEIGHTS_FACT = 4,           /* a fact is none of its codes */
+    TRANCHE_WEIGHTS_POOL_AMOUNT = 5,    /* an exposure or nominal amount is 0 or above 10^10 */
+    TRANCHE_WEIGHTS_RISK_WEIGHT = 6,    /* a risk weight is above 1250 */
+    TRANCHE_WEIGHTS_STATUS = 7,         /* a status that the deal can't have */
+    TRANCHE_WEIGHTS_TRANCHE_AMOUNT = 8, /* a tranche amount is 0 or above 10^13, or more is held than there is */
+    TRANCHE_WEIGHTS_CLASS = 9,          /* a class out of order */
+    TRANCHE_WEIGHTS_MATURITY = 10,      /* a maturity outside 1 to 1200 months */
+    TRANCHE_WEIGHTS_RATING = 11,        /* a rating that is not listed */
+    TRANCHE_WEIGHTS_POOL_KIND = 12,     /* an IRB or mixed pool */
+    TRANCHE_WEIGHTS_THIN_TRANCHE = 13,  /* a tranche too thin for the formula; the place of its amount */
+    TRANCHE_WEIGHTS_ROOM = 14,          /* too few result words; place 0 */
+    TRANCHE_WEIGHTS_FILE_LENGTH = 15    /* a file's length is no multiple of 8 or above TRANCHE_WEIGHTS_FILE_BYTES; place 0 */
+};
+
+/* The functions as the archive names them. They take what the functions below take, and no null pointer. */
+uint64_t tranche_weights_weigh_v1(const uint64_t *sheet, size_t words, uint64_t *results, size_t room, uint64_t *place, uint64_t *count,
+                                  uint64_t *charge);
+uint64_t tranche_weights_weigh_file_v1(const uint8_t *file, size_t size, uint64_t *results, size_t room, uint64_t *place, uint64_t *count,
+                                       uint64_t *charge);
+uint64_t tranche_weights_report_v1(const uint8_t *file, size_t size, uint8_t *text, size_t room);
 
 /*
  * Weighs every tranche of a deal sheet.
@@ -43,24 +97,48 @@ extern "C" {
  * results, room    where the lines go, and how many words may be written there
  * place, count, charge   one word each, written in every case
  *
- * Returns 0 where the sheet is accepted: *count tranches, their lines at the start of results in the sheet's order, six words each, later words as they were;
- * *charge is the pool charge in millionths, *place is 0.
- * Returns 1 to 14 where it is refused: the refusal's number, as the README lists them; *place is the place of the faulty word, counted from 0 (0 for 14), *count and
- * *charge are 0, and every word of results is as it was.
+ * Returns 0 where the sheet is accepted: *count tranches, their lines at the start of results in the sheet's order, TRANCHE_WEIGHTS_LINE_WORDS words each, later words
+ * as they were; *charge is the pool charge in millionths, *place is 0.
+ * Returns 1 to 14 where it is refused: the refusal's number; *place is the place of the faulty word, counted from 0 (0 for 14), *count and *charge are 0, and every word
+ * of results is as it was.
  */
-uint64_t tranche_weights_weigh(const uint64_t *sheet, size_t words, uint64_t *results, size_t room, uint64_t *place, uint64_t *count,
-                               uint64_t *charge);
+static inline uint64_t tranche_weights_weigh(const uint64_t *sheet, size_t words, uint64_t *results, size_t room, uint64_t *place,
+                                             uint64_t *count, uint64_t *charge)
+{
+    uint64_t nothing = 0;
+    return tranche_weights_weigh_v1(words ? sheet : &nothing, words, room ? results : &nothing, room, place, count, charge);
+}
+
+/*
+ * Weighs every tranche of the deal sheet that a file holds: the sheet's words, eight bytes each, lowest byte first.
+ *
+ * file, size       the bytes of the file; any bytes are allowed
+ *
+ * Returns 15, with *place 0, where the length of the file is no multiple of 8 or above TRANCHE_WEIGHTS_FILE_BYTES, whatever else may be wrong; else what
+ * tranche_weights_weigh returns for its words. The other parameters are as there.
+ */
+static inline uint64_t tranche_weights_weigh_file(const uint8_t *file, size_t size, uint64_t *results, size_t room, uint64_t *place,
+                                                  uint64_t *count, uint64_t *charge)
+{
+    uint8_t no_byte = 0;
+    uint64_t nothing = 0;
+    return tranche_weights_weigh_file_v1(size ? file : &no_byte, size, room ? results : &nothing, room, place, count, charge);
+}
 
 /*
  * Writes the report on a sheet's file: the text that the program tranche_report prints.
  *
- * file, size       the bytes of the file: the sheet's words, eight bytes each, lowest byte first; any bytes are allowed
+ * file, size       the bytes of the file; any bytes are allowed
  * text, room       where the text goes, and how many bytes may be written there
  *
  * Returns the length of the text in bytes. Where that is at most room, the text stands at the start of text and later bytes are as they were; where it is more,
- * nothing was written. There is no byte 0 at the text's end. A refusal is a text too: "refused NUMBER at PLACE" and a newline, with 15 for a bad length of the file.
+ * nothing was written. There is no byte 0 at the text's end. A refusal is a text too: "refused NUMBER at PLACE" and a newline.
  */
-uint64_t tranche_weights_report(const uint8_t *file, size_t size, uint8_t *text, size_t room);
+static inline uint64_t tranche_weights_report(const uint8_t *file, size_t size, uint8_t *text, size_t room)
+{
+    uint8_t nothing = 0;
+    return tranche_weights_report_v1(size ? file : &nothing, size, room ? text : &nothing, room);
+}
 
 #ifdef __cplusplus
 }

@@ -1,7 +1,7 @@
 /*
- * Calls both functions of the header as a program in C does, on threads with small stacks, and prints the report on a file's bytes. Held here: lent memory that must
- * be as it was, the answer where the room is one byte short and where it is just enough, and the four numbers of an accepted and of a refused sheet. Stops with
- * status 1 and one line where something is not what is due. tests/c_example.sh runs it.
+ * Calls the functions of the header as a program in C does, on threads with small stacks, and prints the report on a file's bytes. Held here: lent memory that must
+ * be as it was, the answer where the room is one byte short and where it is just enough, the four numbers of an accepted and of a refused sheet and file, and a null
+ * pointer for every list of length 0. Stops with status 1 and one line where something is not what is due. tests/c_example.sh runs it.
  */
 #include <pthread.h>
 #include <stdio.h>
@@ -11,10 +11,15 @@
 #include "tranche_weights.h"
 
 /* The stacks, in bytes, that the header says are enough for a call. */
-#define REPORT_STACK 65536
+#define FILE_STACK 65536
 #define WEIGH_STACK 16384
 
-static unsigned char file[8 * TRANCHE_WEIGHTS_SHEET_WORDS + 1];
+/* A sheet that is accepted, its line, and the word after it as it was. */
+static const uint64_t sheet[] = {4, 0, 0, 1, 1, 1, 100, 100, 100, 0, 1, 80, 1, 60, 80, 1, 0, 0};
+static const uint64_t lines[] = {TRANCHE_WEIGHTS_SEC_ERBA, 200000, 1000000, 1900, 16, 2, 7};
+#define WORDS (sizeof sheet / sizeof *sheet)
+
+static unsigned char file[TRANCHE_WEIGHTS_FILE_BYTES + 1];
 static size_t size;
 static unsigned char text[TRANCHE_WEIGHTS_TEXT_BYTES + 1];
 
@@ -55,23 +60,74 @@ static void *try_report(void *unused)
     return unused;
 }
 
-/* An accepted sheet with just enough room, and the same sheet with a word too little. */
+/* What a call gave, with results that held 7 in every word. */
+struct given {
+    uint64_t results[TRANCHE_WEIGHTS_LINE_WORDS + 1], number, place, count, charge;
+};
+
+static const struct given before = {{7, 7, 7, 7, 7, 7, 7}, 9, 9, 9, 9};
+
+/* One call on so many words of the sheet, with so much room. */
+static struct given weigh(size_t words, size_t room)
+{
+    struct given g = before;
+    g.number = tranche_weights_weigh(sheet, words, g.results, room, &g.place, &g.count, &g.charge);
+    return g;
+}
+
+/* One call on so many bytes of the sheet's file, with so much room. x86-64 keeps the lowest byte first, as the file does. */
+static struct given weigh_file(size_t bytes, size_t room)
+{
+    struct given g = before;
+    g.number = tranche_weights_weigh_file((const uint8_t *)sheet, bytes, g.results, room, &g.place, &g.count, &g.charge);
+    return g;
+}
+
+/* Holds a refusal: its number and place, no count and charge, and results as they were. */
+static void refused(struct given g, uint64_t number, uint64_t place, const char *what)
+{
+    due(g.number == number && g.place == place && g.count == 0 && g.charge == 0, what);
+    due(memcmp(g.results, before.results, sizeof g.results) == 0, "results of a refused sheet");
+}
+
+/* Holds the answer to the accepted sheet. */
+static void accepted(struct given g, const char *what)
+{
+    due(g.number == TRANCHE_WEIGHTS_ACCEPTED && g.place == 0 && g.count == 1 && g.charge == 80000, what);
+    due(memcmp(g.results, lines, sizeof lines) == 0, "the line and the word after it");
+}
+
+/* The sheet with just enough room, with a word too little, and with a word missing. */
 static void *try_weigh(void *unused)
 {
-    static const uint64_t sheet[] = {4, 0, 0, 1, 1, 1, 100, 100, 100, 0, 1, 80, 1, 60, 80, 1, 0, 0};
-    static const uint64_t lines[] = {1, 200000, 1000000, 1900, 16, 2, 7};
-    size_t words = sizeof sheet / sizeof *sheet;
-    uint64_t results[] = {7, 7, 7, 7, 7, 7, 7}, place = 9, count = 9, charge = 9;
-    due(tranche_weights_weigh(sheet, words, results, 5, &place, &count, &charge) == 14, "the number where there is no room");
-    due(place == 0 && count == 0 && charge == 0, "place, count and charge where there is no room");
-    for (int i = 0; i < 7; i++)
-        due(results[i] == 7, "results of a refused sheet");
-    due(tranche_weights_weigh(sheet, words - 1, results, 6, &place, &count, &charge) == 1, "the number where a word is missing");
-    due(place == words - 1 && count == 0 && charge == 0, "place, count and charge where a word is missing");
-    place = count = charge = 9;
-    due(tranche_weights_weigh(sheet, words, results, 6, &place, &count, &charge) == 0, "the number of an accepted sheet");
-    due(place == 0 && count == 1 && charge == 80000, "place, count and charge of an accepted sheet");
-    due(memcmp(results, lines, sizeof lines) == 0, "the line and the word after it");
+    accepted(weigh(WORDS, TRANCHE_WEIGHTS_LINE_WORDS), "an accepted sheet");
+    refused(weigh(WORDS, TRANCHE_WEIGHTS_LINE_WORDS - 1), TRANCHE_WEIGHTS_ROOM, 0, "a sheet with too little room");
+    refused(weigh(WORDS - 1, TRANCHE_WEIGHTS_LINE_WORDS), TRANCHE_WEIGHTS_MISSING_WORD, WORDS - 1, "a sheet with a word missing");
+    return unused;
+}
+
+/* The same of its file; and a bad length, which comes before too little room. */
+static void *try_weigh_file(void *unused)
+{
+    accepted(weigh_file(8 * WORDS, TRANCHE_WEIGHTS_LINE_WORDS), "an accepted file");
+    refused(weigh_file(8 * WORDS, TRANCHE_WEIGHTS_LINE_WORDS - 1), TRANCHE_WEIGHTS_ROOM, 0, "a file with too little room");
+    refused(weigh_file(8 * WORDS - 8, TRANCHE_WEIGHTS_LINE_WORDS), TRANCHE_WEIGHTS_MISSING_WORD, WORDS - 1, "a file with a word missing");
+    refused(weigh_file(8 * WORDS - 1, 0), TRANCHE_WEIGHTS_FILE_LENGTH, 0, "a file of a bad length");
+    return unused;
+}
+
+/* A null pointer for each list, where its length is 0. */
+static void *try_null(void *unused)
+{
+    struct given g = before;
+    g.number = tranche_weights_weigh(NULL, 0, g.results, TRANCHE_WEIGHTS_LINE_WORDS, &g.place, &g.count, &g.charge);
+    refused(g, TRANCHE_WEIGHTS_MISSING_WORD, 0, "no sheet");
+    g.number = tranche_weights_weigh(sheet, WORDS, NULL, 0, &g.place, &g.count, &g.charge);
+    refused(g, TRANCHE_WEIGHTS_ROOM, 0, "no results");
+    g.number = tranche_weights_weigh_file(NULL, 0, NULL, 0, &g.place, &g.count, &g.charge);
+    refused(g, TRANCHE_WEIGHTS_MISSING_WORD, 0, "no file and no results");
+    due(tranche_weights_report(NULL, 0, text, sizeof text) == 15 && memcmp(text, "refused 1 at 0\n", 15) == 0, "the report on no file");
+    due(tranche_weights_report(NULL, 0, NULL, 0) == 15, "no room for the report on no file");
     return unused;
 }
 
@@ -91,6 +147,8 @@ int main(int argc, char **argv)
     size = fread(file, 1, sizeof file, from);
     fclose(from);
     on_stack(WEIGH_STACK, try_weigh);
-    on_stack(REPORT_STACK, try_report);
+    on_stack(FILE_STACK, try_weigh_file);
+    on_stack(FILE_STACK, try_null);
+    on_stack(FILE_STACK, try_report);
     return 0;
 }

@@ -1,6 +1,7 @@
 #!/bin/sh
 # Runs tranche_report and sheet_words as a desk does, and holds standard output, standard error and the exit status of each run to what is due.
-# Prints a line for each case, and stops with 1 at the first difference. The programs are built first: rt check tranche_report sheet_words.
+# Prints a line for each case, and stops with 1 at the first difference. The programs are built first: rt check tranche_report sheet_words. An input that
+# fails midway is made by tests/failing_input.c, which is built here, with every warning an error.
 set -u
 
 root=$(cd "$(dirname "$0")/.." && pwd) || exit 1
@@ -14,6 +15,12 @@ run() {
     program=$1
     shift
     "$bin/$program" "$@" > out 2> err
+    echo "$?" > status
+}
+
+# One run with a standard input that brings a file's bytes and then fails: run_failing PROGRAM FILE
+run_failing() {
+    ./failing_input "$2" "$bin/$1" - > out 2> err
     echo "$?" > status
 }
 
@@ -59,6 +66,7 @@ words() {
 cp "$root/crates/tranche_report/data/deal" deal
 cp "$root/crates/sheet_words/data/deal" deal.txt
 mkdir folder
+cc -O2 -std=c11 -Wall -Wextra -Wpedantic -Werror "$root/tests/failing_input.c" -o failing_input || exit 1
 
 # ---- what both programs say of their arguments and of a file that can't be read
 
@@ -91,6 +99,12 @@ for name in tranche_report sheet_words; do
     run "$name" - <&-
     held "$name: no standard input"
 done
+
+due '' 'standard input: Input/output error\n'
+run_failing tranche_report deal
+held 'tranche_report: a standard input that fails after the checked deal'
+run_failing sheet_words deal.txt
+held 'sheet_words: a standard input that fails after the checked deal'
 
 # ---- the report
 

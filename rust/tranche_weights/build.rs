@@ -1,4 +1,5 @@
-//! Links the static library `libtranche_weights.a`, or stops with one line that says how to make it.
+//! Links the static library `libtranche_weights.a`. Another target is an error. Where the archive is not there, one
+//! line says how to make it: a check or the documentation needs no archive, and a build stops when it links.
 
 use std::env;
 use std::path::{Path, PathBuf};
@@ -16,13 +17,16 @@ fn main() {
     println!("cargo::rerun-if-changed=build.rs");
     println!("cargo::rerun-if-env-changed={FOLDER_VARIABLE}");
     println!("cargo::rerun-if-changed={}", archive.display());
-    match obstacle(&archive) {
-        Some(line) => println!("cargo::error={line}"),
-        None => {
-            println!("cargo::rustc-link-search=native={}", folder.display());
-            println!("cargo::rustc-link-lib=static=tranche_weights");
-        }
+    let [architecture, system, width] = ["ARCH", "OS", "POINTER_WIDTH"].map(of_target);
+    if let Some(line) = wrong_target(&architecture, &system, &width) {
+        println!("cargo::error={line}");
+        return;
     }
+    if let Some(line) = missing_archive(&archive) {
+        println!("cargo::warning={line}");
+    }
+    println!("cargo::rustc-link-search=native={}", folder.display());
+    println!("cargo::rustc-link-lib=static=tranche_weights");
 }
 
 /// The folder to link from, as a path that does not depend on where the linker runs.
@@ -32,21 +36,30 @@ fn archive_folder() -> PathBuf {
     own.join(named)
 }
 
-/// What stands in the way of linking, in one line; nothing where target and archive are right.
-fn obstacle(archive: &Path) -> Option<String> {
-    let architecture = env::var("CARGO_CFG_TARGET_ARCH").unwrap_or_default();
-    let system = env::var("CARGO_CFG_TARGET_OS").unwrap_or_default();
-    if (architecture.as_str(), system.as_str()) != ("x86_64", "linux") {
-        return Some(format!(
-            "the library is for x86-64 Linux only, not for {architecture} {system}"
-        ));
-    }
-    if !archive.is_file() {
-        let place = archive.display();
-        return Some(format!(
-            "{place} is not there: run `rt staticlib tranche_weights` from the repository's root, \
-             or name the archive's folder in {FOLDER_VARIABLE}"
-        ));
-    }
-    None
+/// What Cargo says of the target under this name.
+fn of_target(name: &str) -> String {
+    env::var(format!("CARGO_CFG_TARGET_{name}")).unwrap_or_default()
+}
+
+/// That the library is for another target, in one line; nothing where the target is right. Pointers of 32 bits on
+/// x86-64 Linux are the target x32.
+pub fn wrong_target(architecture: &str, system: &str, width: &str) -> Option<String> {
+    let right = (architecture, system, width) == ("x86_64", "linux", "64");
+    (!right).then(|| {
+        format!(
+            "the library is for x86-64 Linux with pointers of 64 bits only, not for {architecture} {system} with \
+             pointers of {width} bits"
+        )
+    })
+}
+
+/// How to make the archive, in one line; nothing where it is there.
+pub fn missing_archive(archive: &Path) -> Option<String> {
+    let place = archive.display();
+    (!archive.is_file()).then(|| {
+        format!(
+            "{place} is not there, and nothing can be linked without it: run `rt staticlib tranche_weights` from the \
+             repository's root, or name the archive's folder in {FOLDER_VARIABLE}"
+        )
+    })
 }

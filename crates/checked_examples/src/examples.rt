@@ -1,6 +1,6 @@
 // The examples that are written as sheets: each argument names one.
+use crate::reading;
 use files::BYTE_LIMIT;
-use input::Input;
 use libc::STDOUT_FILENO;
 use report::TEXT_ROOM;
 use report::Written;
@@ -11,7 +11,7 @@ pub(crate) fn print_report(file: &[u8]) {
     let mut text = [0u8; TEXT_ROOM];
     let written = report::report(file, &mut text);
     if let Written::Whole(n) = written {
-        let length = input::within(n, &text);
+        let length = buffers::within(n, &text);
         io::write_all(STDOUT_FILENO, &text[..length]);
     }
 }
@@ -21,7 +21,7 @@ fn print_sheet(text: &[u8]) {
     let mut file = [0u8; BYTE_LIMIT];
     let made = sheet_text::sheet_bytes(text, &mut file);
     if let Made::Bytes(n) = made {
-        let length = input::within(n, &file);
+        let length = buffers::within(n, &file);
         print_report(&file[..length]);
     } else {
         io::write_all(STDOUT_FILENO, b"no sheet\n");
@@ -35,9 +35,9 @@ fn print_example(i: usize) {
     io::write_all(STDOUT_FILENO, &name[..length]);
     io::write_all(STDOUT_FILENO, b"\n");
     let mut text = io::large_buffer();
-    let read = input::read_file(&name[..length], &mut text);
-    if let Input::Bytes(n) = read {
-        let size = input::within(n as u64, &text);
+    let read = reading::read_argument(i, b"usage: checked_examples FILE...\n", &mut text);
+    let size = read.size;
+    if read.ok {
         print_sheet(&text[..size]);
     }
 }

@@ -79,7 +79,7 @@ pub(crate) fn print_short_results() {
 // Writes the report on a file of that many bytes, all of them 0.
 fn print_length(n: u64) {
     let file = [0u8; 33856];
-    let length = input::within(n, &file);
+    let length = buffers::within(n, &file);
     io::write_all(STDOUT_FILENO, b"file of zeros, bytes ");
     io::print_decimal(STDOUT_FILENO, n);
     io::write_all(STDOUT_FILENO, b": ");

@@ -3,6 +3,7 @@
 mod examples;
 mod figures;
 mod limits;
+mod reading;
 
 // Prints everything in a fixed order.
 fn main() {

@@ -1,6 +1,6 @@
 -- The four numbers of a reply settle the answer: no two answers that `weigh` may give have the same numbers. No axioms.
 use mathlib.Core.List.{List}
-use mathlib.Core.Path.{_≡_, _∙_, sym, ap}
+use mathlib.Core.Path.{_≡_, refl, _∙_, sym, ap}
 use Prim.Native.Nat.{ℕ}
 use native.Mathlib.Omega.{arith}
 use Rattle.judgement.specs.DealSheet.{trancheCount}
@@ -10,6 +10,7 @@ use Rattle.deal.specs.Results.{Reply, replyOf, replyTo}
 use Rattle.deal.specs.declared.Answer.{Answer}
 use Rattle.deal.specs.declared.Answer.the-variants.{Weighed, Refused}
 use Rattle.judgement.specs.declared.Refusal.{Refusal}
+use Rattle.judgement.specs.declared.Verdict.{Verdict}
 use Rattle.judgement.specs.declared.Verdict.the-variants.{Sound, Faulty}
 use Rattle.deal.proofs.JudgedLaws.{accepted-judged, refusal-numbers}
 use Rattle.judgement.proofs.SheetLimits.{tranches-counted, tranches-within}
@@ -48,3 +49,10 @@ refused-answer-is s room r (Refused q) e same =
     let number = ap (λ (x : Reply). x .number) is in
     let place = ap (λ (x : Reply). x .place) is in
     ap Refused (rw (number, place))
+
+pub answer-settled : (s : List ℕ) (room : ℕ) (a b : Answer) → replyOf a ≡ replyTo s room → replyOf b ≡ replyTo s room → a ≡ b
+answer-settled s room a b same same′ = by-verdict (verdict s room) refl
+  where
+    by-verdict : (v : Verdict) → verdict s room ≡ v → a ≡ b
+    by-verdict Sound e = accepted-answer s room a e same ∙ sym (accepted-answer s room b e same′)
+    by-verdict (Faulty r) e = refused-answer-is s room r a e same ∙ sym (refused-answer-is s room r b e same′)

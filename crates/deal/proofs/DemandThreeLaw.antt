@@ -8,14 +8,12 @@ use Prim.Native.Nat.{ℕ, _-_, _≤_, _<_}
 use native.Mathlib.Nat.{eq-zero-or-pos}
 use native.Mathlib.Omega.{arith}
 use lib.ListN.{length}
-use Rattle.formula.specs.Formula.{Passes, WithinLimits, PassingWeight, IsRawWeight}
+use Rattle.formula.specs.Formula.{Passes, WithinLimits, RawWeightNumbers, weighing, PassingWeight, IsRawWeight}
 use Rattle.formula.specs.FixedPoint.{rawWeight}
-use Rattle.formula.specs.declared.RawWeight.{RawWeight}
-use Rattle.formula.specs.declared.RawWeight.the-variants.{Weight}
 use Rattle.formula.proofs.RawWeightLaw.{raw-weight-is}
 use Rattle.judgement.specs.DealSheet.{resecuritisation, trancheCount, needed}
 use Rattle.deal.specs.PointsAndCharge.{attachmentPoint, detachmentPoint}
-use Rattle.weights.specs.ApproachFloorCap.{approach, parameter, afterFloorAndCap, numberOf, formulaRawWeight, weight}
+use Rattle.weights.specs.ApproachFloorCap.{approach, parameter, afterFloorAndCap, weightOrHighest, formulaRawWeight, weight}
 use Rattle.deal.specs.Lines.{terms, tranche, line, lineWords}
 use Rattle.deal.specs.DemandThree.{AboveCharge, rawWeightOf, DemandThree, KeepsDemandThree}
 use Rattle.judgement.specs.Refusals.{judged}
@@ -62,16 +60,16 @@ within-limits s i e = record {
 }
 
 -- the formula's answer for a tranche of the sheet
-abbrev pub formulaAnswer : List ℕ → ℕ → RawWeight
+abbrev pub formulaAnswer : List ℕ → ℕ → RawWeightNumbers
 formulaAnswer s i = rawWeight (attachmentPoint s i) (detachmentPoint s i) (terms s .charge) (parameter (resecuritisation s))
 
-raw-weight-number : (s : List ℕ) (i w : ℕ) → formulaAnswer s i ≡ Weight w → rawWeightOf s i ≡ w
+raw-weight-number : (s : List ℕ) (i w : ℕ) → formulaAnswer s i ≡ weighing w → rawWeightOf s i ≡ w
 unfolding formulaRawWeight tranche terms
-raw-weight-number s i w e = ap numberOf e
+raw-weight-number s i w e = ap weightOrHighest e
 
 -- where SEC-SA applies and the raw weight is a number, the weight is that number after floor and cap
 weighs-raw :
-    (s : List ℕ) (i w : ℕ) → approach (tranche s i) (terms s) ≡ 2 → formulaAnswer s i ≡ Weight w →
+    (s : List ℕ) (i w : ℕ) → approach (tranche s i) (terms s) ≡ 2 → formulaAnswer s i ≡ weighing w →
     weight (tranche s i) (terms s) ≡ afterFloorAndCap (tranche s i) (terms s) w
 weighs-raw s i w by e =
     formula-weight (tranche s i) (terms s) by ∙
@@ -107,7 +105,7 @@ module _ (s : List ℕ) (room i : ℕ) (accepted : verdict s room ≡ Sound) (ro
       (attachment-below-detachment s room i accepted row by above)
 
   -- The raw weight is a number: an accepted tranche meets none of the cases that have none.
-  pub formula-weighs : (w : ℕ) × (formulaAnswer s i ≡ Weight w)
+  pub formula-weighs : (w : ℕ) × (formulaAnswer s i ≡ weighing w)
   formula-weighs =
       ⊎-elim
       (λ e. (125000, is-raw-weight s room i accepted .within-charge (limits s room i accepted) (omega arith)))

@@ -38,6 +38,13 @@ module _ (A D K p : ℕ) (K-pos : 0 < K) (p-pos : 0 < p) (thick : A < D) where
   exponent-bottom-pos : 0 < 1 * (p * K)
   exponent-bottom-pos = mul-pos (zero-lt-suc 0) (mul-pos p-pos K-pos)
 
+  -- No lower end of any counted k passes an upper end of any counted k′: 1 / Up(k) ≤ 1 / Low(k′) at l/s, and 1 / Up(k′) ≤ 1 / Low(k) at u/s.
+  pub lower-at-most-upper : (k k′ : ℕ) → Counts A D K p k → Counts A D K p k′ → DifferenceAtMost (lowerEnd A D K p k) (upperEnd A D K p k′)
+  lower-at-most-upper k k′ h h′ =
+      weight-grows A D K p _ _ _ _
+      (inverse-at-most-inverse _ _ (low-at-most-up (lowerExponent A K p) exponent-bottom-pos k′ k (h .at-l)))
+      (inverse-at-most-inverse _ _ (low-at-most-up (upperExponent D K p) exponent-bottom-pos k k′ (h′ .at-u)))
+
   weight-bottoms : (e f : Fraction) → 0 < e .bottom → 0 < f .bottom → BottomsAboveZero (weightWith A D K p e f)
   weight-bottoms e f e-pos f-pos =
       let thickness : 0 < D - A = omega arith in
@@ -55,13 +62,6 @@ module _ (A D K p : ℕ) (K-pos : 0 < K) (p-pos : 0 < p) (thick : A < D) where
       weight-bottoms (inverse (up (lowerExponent A K p) k)) (inverse (low (upperExponent D K p) k))
       (omega (arith, up-top-pos (lowerExponent A K p) exponent-bottom-pos k))
       (omega (arith, low-top-pos (upperExponent D K p) exponent-bottom-pos k))
-
-  -- No lower end of any counted k passes an upper end of any counted k′: 1 / Up(k) ≤ 1 / Low(k′) at l/s, and 1 / Up(k′) ≤ 1 / Low(k) at u/s.
-  pub lower-at-most-upper : (k k′ : ℕ) → Counts A D K p k → Counts A D K p k′ → DifferenceAtMost (lowerEnd A D K p k) (upperEnd A D K p k′)
-  lower-at-most-upper k k′ h h′ =
-      weight-grows A D K p _ _ _ _
-      (inverse-at-most-inverse _ _ (low-at-most-up (lowerExponent A K p) exponent-bottom-pos k′ k (h .at-l)))
-      (inverse-at-most-inverse _ _ (low-at-most-up (upperExponent D K p) exponent-bottom-pos k k′ (h′ .at-u)))
 
   -- Two numbers that pass differ by at most 1.
   pub passing-close : (w w′ : ℕ) → Passes A D K p w → Passes A D K p w′ → w′ ≤ suc w

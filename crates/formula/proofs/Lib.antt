@@ -16,3 +16,4 @@ pub mod Gap
 pub mod GapToEnds
 pub mod Limits
 pub mod RawWeightLaw
+pub mod AnswerLaw

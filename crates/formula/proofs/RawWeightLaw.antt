@@ -6,11 +6,10 @@ use Prim.Native.Nat.{ℕ, suc, _+_, _*_, _-_, _^_, max, _≤_, _<_}
 use native.Mathlib.Nat.{mul-pos, mul-le-mul-left, div-mul-le-self, lt-div-mul-add, lt-of-mul-lt-mul-right, le-of-suc-le-suc, ne-of-gt}
 use native.Mathlib.Omega.{arith}
 use borrow.Author.Tests.{le-leb, lt-leb, eq-eqb, ne-eqb}
-use Rattle.numbers.proofs.RoundingLaws.{rounded-up-at-least, rounded-up-below}
+use Rattle.numbers.proofs.RoundingLaws.{rounded-up-between}
 use Rattle.formula.specs.Fraction.{Fraction, over}
-use Rattle.formula.specs.Formula.{low, up, Passes, WithinLimits, IsRawWeight}
+use Rattle.formula.specs.Formula.{low, up, Passes, WithinLimits, weighing, refusing, unnumbered, IsRawWeight}
 use Rattle.formula.specs.FixedPoint.{productDistance, productAbove, units, formulaWeight, withinLimits, rawWeight}
-use Rattle.formula.specs.declared.RawWeight.the-variants.{Weight, NoThickness, OutsideLimits}
 use Rattle.formula.proofs.Limits.{limits-of-test, test-of-limits}
 use Rattle.formula.proofs.SeriesLaws.{low-top-pos, up-top-pos}
 use Rattle.formula.proofs.DecayBounds.{not-above-smaller, not-below-larger}
@@ -82,17 +81,15 @@ module _ (A D K p : ℕ) (K-pos : 0 < K) (p-pos : 0 < p) (above : K < D) (thick 
       (product-low (units lower b) (units width b))
 
   -- the numerator of the weight, rounded up over the thickness
-  rounded-up : 125000 * ((K - A) * 2 ^ 27 + v * product) ≤ w * ((D - A) * 2 ^ 27)
+  rounded-up :
+      (125000 * ((K - A) * 2 ^ 27 + v * product) ≤ w * ((D - A) * 2 ^ 27)) ×
+      (w * ((D - A) * 2 ^ 27) < 125000 * ((K - A) * 2 ^ 27 + v * product) + (D - A) * 2 ^ 27)
   unfolding formulaWeight
-  rounded-up = omega (arith, rounded-up-at-least (125000 * ((K - A) * 2 ^ 27 + v * product)) ((D - A) * 2 ^ 27) (omega arith))
-
-  rounded-close : w * ((D - A) * 2 ^ 27) < 125000 * ((K - A) * 2 ^ 27 + v * product) + (D - A) * 2 ^ 27
-  unfolding formulaWeight
-  rounded-close = omega (arith, rounded-up-below (125000 * ((K - A) * 2 ^ 27 + v * product)) ((D - A) * 2 ^ 27) (omega arith))
+  rounded-up = rounded-up-between (125000 * ((K - A) * 2 ^ 27 + v * product)) ((D - A) * 2 ^ 27) (omega arith)
 
   -- productDistance × 125,000 is below 2^27
   near : w * ((D - A) * 2 ^ 27) < 125000 * ((K - A) * 2 ^ 27 + v * (product - productDistance)) + 2 * ((D - A) * 2 ^ 27)
-  near = core product (product - productDistance) (D - A) (K - A) v (omega arith) (omega arith) rounded-close
+  near = core product (product - productDistance) (D - A) (K - A) v (omega arith) (omega arith) (rounded-up .1)
     where
       core : (P Q m t v : ℕ) → P ≤ Q + productDistance → t + v ≡ m → w * (m * 2 ^ 27) < 125000 * (t * 2 ^ 27 + v * P) + m * 2 ^ 27 →
           w * (m * 2 ^ 27) < 125000 * (t * 2 ^ 27 + v * Q) + 2 * (m * 2 ^ 27)
@@ -108,14 +105,14 @@ module _ (A D K p : ℕ) (K-pos : 0 < K) (p-pos : 0 < p) (above : K < D) (thick 
       record {
         k = k;
         counts = record { at-l = upper-gap .admitted-l; at-u = upper-gap .admitted-u };
-        upper = end-at-most (K - A) (D - A) b v w product (low lowerFraction k) (up upperFraction k) (upper-gap .high) rounded-up;
+        upper = end-at-most (K - A) (D - A) b v w product (low lowerFraction k) (up upperFraction k) (upper-gap .high) (rounded-up .0);
         lower = end-above (K - A) (D - A) b v w (product - productDistance) (up lowerFraction k) (low upperFraction k) (omega arith)
             (up-top-pos lowerFraction bottom-pos k) (low-top-pos upperFraction bottom-pos k) (upper-gap .least) near;
       }
 
   -- It is at most 125,000, since the product is at most 2^27.
   pub formula-at-most : w ≤ 125000
-  formula-at-most = core (K - A) v (D - A) product thickness (omega arith) (product-above-at-most (units lower b) (units width b)) rounded-close
+  formula-at-most = core (K - A) v (D - A) product thickness (omega arith) (product-above-at-most (units lower b) (units width b)) (rounded-up .1)
     where
       core : (t v m P : ℕ) → t + v ≡ m → 0 < m → P ≤ 2 ^ 27 → w * (m * 2 ^ 27) < 125000 * (t * 2 ^ 27 + v * P) + m * 2 ^ 27 → w ≤ 125000
       core t v m P e m-pos P-most g =
@@ -124,24 +121,24 @@ module _ (A D K p : ℕ) (K-pos : 0 < K) (p-pos : 0 < p) (above : K < D) (thick 
 -- ---- the raw weight on all inputs
 
 module _ (A D K p : ℕ) where
-  outside-limits : (t : Bool) → withinLimits A D K p ≡ t → (WithinLimits A D K p → ⊥) → rawWeight A D K p ≡ OutsideLimits
+  outside-limits : (t : Bool) → withinLimits A D K p ≡ t → (WithinLimits A D K p → ⊥) → rawWeight A D K p ≡ unnumbered
   unfolding rawWeight
   outside-limits true e h = absurd (h (limits-of-test A D K p e))
   outside-limits false e h = simp e
 
-  within-charge : WithinLimits A D K p → D ≤ K → rawWeight A D K p ≡ Weight 125000
+  within-charge : WithinLimits A D K p → D ≤ K → rawWeight A D K p ≡ weighing 125000
   unfolding rawWeight
   within-charge l h = simp (test-of-limits A D K p l, le-leb D K h)
 
-  charge-zero : WithinLimits A D K p → K < D → K ≡ 0 → rawWeight A D K p ≡ Weight 0
+  charge-zero : WithinLimits A D K p → K < D → K ≡ 0 → rawWeight A D K p ≡ weighing 0
   unfolding rawWeight
   charge-zero l h z = simp (test-of-limits A D K p l, lt-leb D K h, eq-eqb K 0 z)
 
-  no-thickness : WithinLimits A D K p → K < D → 1 ≤ K → D ≤ A → rawWeight A D K p ≡ NoThickness
+  no-thickness : WithinLimits A D K p → K < D → 1 ≤ K → D ≤ A → rawWeight A D K p ≡ refusing 13
   unfolding rawWeight
   no-thickness l h one t = simp (test-of-limits A D K p l, lt-leb D K h, ne-eqb K 0 (ne-of-gt one), le-leb D A t)
 
-  by-formula : WithinLimits A D K p → K < D → 1 ≤ K → A < D → rawWeight A D K p ≡ Weight (formulaWeight A D K p)
+  by-formula : WithinLimits A D K p → K < D → 1 ≤ K → A < D → rawWeight A D K p ≡ weighing (formulaWeight A D K p)
   unfolding rawWeight
   by-formula l h one t = simp (test-of-limits A D K p l, lt-leb D K h, ne-eqb K 0 (ne-of-gt one), lt-leb D A t)
 

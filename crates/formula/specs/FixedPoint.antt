@@ -6,9 +6,7 @@ use Prim.Native.Nat.{ℕ, _+_, _*_, _-_, _/_, _%_, _^_, min, max}
 use lib.Dec.{leb, ltb, eqb}
 use Rattle.numbers.specs.Rounding.{roundedUp}
 use Rattle.formula.specs.Fraction.{over}
-use Rattle.formula.specs.Formula.{low}
-use Rattle.formula.specs.declared.RawWeight.{RawWeight}
-use Rattle.formula.specs.declared.RawWeight.the-variants.{Weight, NoThickness, OutsideLimits}
+use Rattle.formula.specs.Formula.{low, RawWeightNumbers, weighing, refusing, unnumbered}
 
 -- How far each number may lie from the exact one: a decay in units of 2^−32, a mean decay and the product in units of 2^−27. By the last the
 -- weight before rounding up is at most 125,000 × 243 / 2^27, about 0.23, above the exact one.
@@ -73,12 +71,12 @@ formulaWeight A D K p =
 abbrev pub withinLimits : ℕ → ℕ → ℕ → ℕ → Bool
 withinLimits A D K p = leb A 1000000 && leb D 1000000 && leb K 1000000 && leb 300000 p && ltb p 5000000
 
--- the raw weight, as one function of its four inputs
-unfoldable pub rawWeight : ℕ → ℕ → ℕ → ℕ → RawWeight
+-- the raw weight in 01's numbers, as one function of its four inputs
+unfoldable pub rawWeight : ℕ → ℕ → ℕ → ℕ → RawWeightNumbers
 rawWeight A D K p =
     cond (withinLimits A D K p)
-    (cond (leb D K) (Weight 125000)
-    (cond (eqb K 0) (Weight 0)
-    (cond (leb D A) NoThickness
-    (Weight (formulaWeight A D K p)))))
-    OutsideLimits
+    (cond (leb D K) (weighing 125000)
+    (cond (eqb K 0) (weighing 0)
+    (cond (leb D A) (refusing 13)
+    (weighing (formulaWeight A D K p)))))
+    unnumbered

@@ -1,6 +1,7 @@
 -- 01, "The formula and its series" (d374 paragraphs 84 and 86, CRE41): what a reader must believe of the raw weight and of the decay table.
 -- A is the attachment point, D the detachment point and K the pool charge, in millionths; p is the supervisory parameter, in millionths too.
 -- A weight is counted in hundredths of a percent, so 1250% is 125,000.
+use mathlib.Core.Option.{Option, none, some}
 use mathlib.Core.Path.{_≡_}
 use Prim.Native.Nat.{ℕ, zero, suc, _+_, _*_, _-_, _^_, _≤_, _<_}
 use Rattle.formula.specs.Fraction.{Fraction, over, plus, times, dividedBy, inverse, whole, AtMost, Below}
@@ -103,21 +104,42 @@ pub record WithinLimits (A D K p : ℕ) : Type 0 where
   pub parameter-least : 300000 ≤ p
   pub parameter-most : p < 5000000
 
--- r is a whole number that passes (demand 3), "and never above 125,000"
-pub record PassingWeight (A D K p : ℕ) (r : RawWeight) : Type 0 where
+-- An answer in 01's numbers: the number of a refusal, where 01 has one for it, and the raw weight, where there is one.
+pub record RawWeightNumbers : Type 0 where
+  pub refusal : Option ℕ
+  pub weight : Option ℕ
+
+abbrev pub weighing : ℕ → RawWeightNumbers
+weighing w = record { refusal = none; weight = some w }
+
+abbrev pub refusing : ℕ → RawWeightNumbers
+refusing number = record { refusal = some number; weight = none }
+
+abbrev pub unnumbered : RawWeightNumbers
+unnumbered = record { refusal = none; weight = none }
+
+-- The numbers of each case of the enum. `NoThickness` is 13's condition where K is at least 1: "A equals D, and D is above the pool charge" (where
+-- K is 0, 13 is judged on the sheet alone). 01 has no number for `OutsideLimits`, since no sheet reaches it, and none is made up here.
+abbrev pub numbersOf : RawWeight → RawWeightNumbers
+numbersOf (Weight w) = weighing w
+numbersOf NoThickness = refusing 13
+numbersOf OutsideLimits = unnumbered
+
+-- n is a whole number that passes (demand 3), "and never above 125,000"
+pub record PassingWeight (A D K p : ℕ) (n : RawWeightNumbers) : Type 0 where
   pub weight : ℕ
-  pub answered : r ≡ Weight weight
+  pub answered : n ≡ weighing weight
   pub passes : Passes A D K p weight
   pub at-most : weight ≤ 125000
 
 -- "the raw weight is 125,000 if D ≤ K; 0 if K = 0; else" the formula, which needs A below D: where K is at least 1, D above K and A not below D
 -- (at A = D the condition of refusal 13) there is no number. Nor is there one outside the limits.
-pub record IsRawWeight (A D K p : ℕ) (r : RawWeight) : Type 0 where
-  pub outside : (WithinLimits A D K p → ⊥) → r ≡ OutsideLimits
-  pub within-charge : WithinLimits A D K p → D ≤ K → r ≡ Weight 125000
-  pub charge-zero : WithinLimits A D K p → K < D → K ≡ 0 → r ≡ Weight 0
-  pub no-thickness : WithinLimits A D K p → K < D → 1 ≤ K → D ≤ A → r ≡ NoThickness
-  pub formula : WithinLimits A D K p → K < D → 1 ≤ K → A < D → PassingWeight A D K p r
+pub record IsRawWeight (A D K p : ℕ) (n : RawWeightNumbers) : Type 0 where
+  pub outside : (WithinLimits A D K p → ⊥) → n ≡ unnumbered
+  pub within-charge : WithinLimits A D K p → D ≤ K → n ≡ weighing 125000
+  pub charge-zero : WithinLimits A D K p → K < D → K ≡ 0 → n ≡ weighing 0
+  pub no-thickness : WithinLimits A D K p → K < D → 1 ≤ K → D ≤ A → n ≡ refusing 13
+  pub formula : WithinLimits A D K p → K < D → 1 ≤ K → A < D → PassingWeight A D K p n
 
 -- ---- the decay table: "for n from 0 to 354 the whole part of 2^32 × e^(−n/16). From n = 355 on it would be 0."
 

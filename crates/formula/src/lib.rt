@@ -1,6 +1,6 @@
 ghost use mathlib.Core.Path.{_≡_};
 ghost use Prim.Native.Nat.{_+_, _^_, _≤_, _<_};
-ghost use Rattle.formula.specs.Formula.{DecayEntry, IsRawWeight};
+ghost use Rattle.formula.specs.Formula.{DecayEntry, numbersOf, IsRawWeight};
 ghost use Rattle.formula.specs.FixedPoint.{entry, coarseDecay, fineDecay, decayBelow, decayAbove, meanDecayAbove, productAbove, units, formulaWeight, withinLimits, rawWeight};
 
 mod tables;
@@ -185,10 +185,10 @@ pub enum RawWeight {
 }
 
 // The raw weight of a tranche from a to d, for the pool charge k and the supervisory parameter p, these four in millionths. Where k is at least
-// 1, d above k and a below d, 01 leaves it open within demand 3; rawWeight settles it.
+// 1, d above k and a below d, 01 leaves it open within demand 3; rawWeight settles it. `numbersOf` gives 01's numbers for each case.
 pub fn raw_weight(a: u64, d: u64, k: u64, p: u64) -> RawWeight
-    ensures { λ r. ⌜ r ≡ rawWeight a d k p ⌝ }
-    ensures { λ r. ⌜ IsRawWeight a d k p r ⌝ }
+    ensures { λ r. ⌜ numbersOf r ≡ rawWeight a d k p ⌝ }
+    ensures { λ r. ⌜ IsRawWeight a d k p (numbersOf r) ⌝ }
 {
     if !within_limits(a, d, k, p) {
         return RawWeight::OutsideLimits;

@@ -5,3 +5,4 @@ pub mod JudgeSteps
 pub mod JudgedLaws
 pub mod GoodSheetLaw
 pub mod GoodRowLaw
+pub mod VerdictLaw

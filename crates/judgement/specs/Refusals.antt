@@ -1,6 +1,7 @@
 -- 01, "Refusals, by who can cause them": the number of each fault, and the order in which they are judged.
 use mathlib.Core.Bool.{Bool, cond, _&&_, _||_}
 use mathlib.Core.List.{List}
+use mathlib.Core.Option.{Option, none, some}
 use Prim.Native.Nat.{ℕ, zero, suc, _+_, _-_, _/_, _%_}
 use lib.Dec.{leb, ltb, eqb}
 use lib.ListN.{length}
@@ -109,3 +110,14 @@ wordsFollow s = cond (ltb (needed s) (length s)) (refused 3 (needed s)) Sound
 -- the refusals that the words alone decide: 1, 2 and 4 to 12, then 3
 unfoldable pub wordsVerdict : List ℕ → Verdict
 wordsVerdict s = orElse (judged s (needed s)) (wordsFollow s)
+
+-- ---- a verdict in 01's numbers
+
+pub record NumberAndPlace : Type 0 where
+  pub number : ℕ
+  pub place : ℕ
+
+-- the numbers of each case of the enum: "A refusal returns its number and a place"; 01 has no number for good words
+abbrev pub numbersOf : Verdict → Option NumberAndPlace
+numbersOf Sound = none
+numbersOf (Faulty r) = some (record { number = r .number; place = r .place })

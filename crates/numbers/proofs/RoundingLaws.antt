@@ -12,6 +12,9 @@ rounded-up-at-least x y pos = omega (arith, lt-div-mul-add {a = x + (y - 1)} pos
 pub rounded-up-below : (x y : ℕ) → 0 < y → roundedUp x y * y < x + y
 rounded-up-below x y pos = omega (arith, div-mul-le-self (x + (y - 1)) y)
 
+pub rounded-up-between : (x y : ℕ) → 0 < y → (x ≤ roundedUp x y * y) × (roundedUp x y * y < x + y)
+rounded-up-between x y pos = (rounded-up-at-least x y pos, rounded-up-below x y pos)
+
 -- the one number q with x ≤ q × y < x + y
 pub rounded-up-is : (x y q : ℕ) → 0 < y → x ≤ q * y → q * y < x + y → roundedUp x y ≡ q
 rounded-up-is x y q pos least most = div-eq-of-lt-le {k = q} y {m = x + (y - 1)} (omega arith) (omega arith)

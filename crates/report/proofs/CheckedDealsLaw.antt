@@ -20,6 +20,7 @@ use Rattle.deal.specs.Lines.{terms, tranche, line, lineWords}
 use Rattle.judgement.specs.Refusals.{fault, judge, firstOf, wordsVerdict}
 use Rattle.deal.specs.Refusals.{verdict}
 use Rattle.deal.specs.Results.{replyTo, lines}
+use Rattle.deal_file.specs.FileAnswer.{fileReply}
 use Rattle.files.specs.Decimal.{digits, decimal}
 use Rattle.report.specs.ReportText.{ascii, labelled, spaced, trancheLines, dealText, sheetText, fileText}
 use Rattle.report.specs.CheckedDeals.{allHold, admitted, counts, endAtMost, endAboveMinusTwo, passesAt, ordinary, JustTwoPass, checks}
@@ -33,7 +34,7 @@ unfolding
     sum poolSums knownCharge poolCharge seniorAmount attachmentPoint detachmentPoint
     exactWeight weightByRating weightByRatings
     factorial low entry fineDecay decayBelow decayAbove meanDecayOfLarge meanDecayAbove productAbove units formulaWeight rawWeight
-    formulaRawWeight tableWeight weight thin terms tranche line lineWords lines replyTo
+    formulaRawWeight tableWeight weight thin terms tranche line lineWords lines replyTo fileReply
     ascii digits decimal labelled spaced trancheLines dealText sheetText fileText
 checked-deals = refl
 

@@ -1,5 +1,5 @@
 -- The text of a file, from what `deal::weigh` answers for its words, and that it fits TEXT_ROOM bytes. No axioms.
-use mathlib.Core.Bool.{true, false}
+use mathlib.Core.Bool.{Bool, true, false}
 use mathlib.Core.List.{List, _++_}
 use mathlib.Core.Path.{_≡_, refl, sym, ap, _∙_}
 use Prim.Native.Nat.{ℕ, _+_, _*_, _/_, _^_, _≤_, _<_}
@@ -15,24 +15,13 @@ use Rattle.deal.proofs.ReplyLaws.{reply-count-within, refused-number, reply-res
 use Rattle.deal.specs.Results.{Reply, replyOf, replyTo, lines, resultsAfter}
 use Rattle.deal.specs.declared.Answer.the-variants.{Weighed, Refused}
 use Rattle.judgement.specs.declared.Refusal.{Refusal}
-use Rattle.files.specs.FileForm.{byteLimit, goodLength, fileWords, wordsAfter, fileBytes}
-use Rattle.files.proofs.FileLaws.{length-words-to, length-file-bytes, good-file, load-accepts, load-takes, words-of-bytes}
+use Rattle.files.specs.FileForm.{byteLimit, goodLength, fileWords, fileBytes}
+use Rattle.files.proofs.FileLaws.{length-file-bytes, good-file, words-of-bytes}
+use Rattle.deal_file.specs.FileAnswer.{fileReply, fileResults}
+use Rattle.deal_file.proofs.FileAnswerLaws.{reply-of-bad-length, reply-of-words, results-of-words, accepted-length}
 use Rattle.report.specs.ReportText.{refusalLine, dealText, resultRoom, sheetText, fileText, textRoom, writtenFor, textAfter}
 use Rattle.report.specs.declared.Written.the-variants.{Whole, NoRoom}
 use Rattle.report.proofs.TextLaws.{length-deal-text, length-refusal-line, deal-text-of-lines}
-
--- ---- the words of a file
-
--- a file of good length has no more words than are lent for them
-pub file-words-fit :
-    (file old : List ℕ) {after : List ℕ} → length old ≡ 4231 → goodLength file ≡ true → after ≡ wordsAfter file old → length file / 8 ≤ length after
-file-words-fit file old room good is =
-    omega (
-      arith,
-      ap length (is ∙ load-accepts file old good),
-      length-append (fileWords file) (drop (length file / 8) old),
-      length-words-to file (length file / 8),
-    )
 
 -- ---- the text of a sheet
 
@@ -49,36 +38,15 @@ weighed-text s old n k room same =
     rw (reply-results s old zero-number, ← room, ← number, ← count, ← charge)
     (deal-text-of-lines k n (lines s n) (drop (6 * n) old) (omega (arith, length-lines s n)))
 
--- and there is room for it, with sums of its amounts that fit 64 bits
-pub weighed-lines :
-    (s old after : List ℕ) (n k : ℕ) → length old ≡ resultRoom → replyOf (Weighed n k) ≡ replyTo s (length old) → after ≡ resultsAfter s old →
-    (n ≤ 32) × (6 * n ≤ length after) × ((i c : ℕ) → i < n → 4 ≤ c → c < 6 → getD after (6 * i + c) 0 ≤ 125000000000000)
-weighed-lines s old after n k room same is =
-    let number : replyTo s (length old) .number ≡ 0 = sym (ap (λ (a : Reply). a .number) same) in
-    let count = ap (λ (a : Reply). a .count) same in
-    let within = reply-count-within s (length old) number in (
-      omega arith,
-      omega (arith, ap length is, results-length s old),
-      λ i c l least most. rw is (reply-amounts s old i c number (omega arith) least most),
-    )
-
-refused-text :
-    (s : List ℕ) (r : Refusal) → replyOf (Refused r) ≡ replyTo s resultRoom → refusalLine (r .number) (r .place) ≡ sheetText s
-unfolding sheetText
-refused-text s r same =
-    let number = ap (λ (a : Reply). a .number) same in
-    let place = ap (λ (a : Reply). a .place) same in
-    rw (← number, ← place, ne-eqb (r .number) 0 (refused-number s resultRoom r same))
-
 -- ---- the text of a file
 
 loaded-text : (file : List ℕ) → goodLength file ≡ true → fileText file ≡ sheetText (fileWords file)
-unfolding fileText
-loaded-text file good = rw good
+unfolding fileText sheetText
+loaded-text file good = rw (reply-of-words file resultRoom good)
 
 pub bad-length-text : (file : List ℕ) → goodLength file ≡ false → fileText file ≡ refusalLine 15 0
 unfolding fileText
-bad-length-text file bad = rw bad
+bad-length-text file bad = rw (reply-of-bad-length file resultRoom bad)
 
 -- the file of words that a sheet may have, each of 64 bits, gets the text of these words; so does a sheet written by hand, by `made-words` and
 -- `made-small` (SheetTextLaws.antt of `sheet_text`)
@@ -89,25 +57,45 @@ stored-text ws few small =
     let good = good-file (fileBytes ws) (omega (arith, size)) (omega (arith, size)) in
     loaded-text (fileBytes ws) good ∙ ap sheetText (words-of-bytes ws small)
 
--- from the words that were loaded, the answer for them and the results
-pub weighed-file :
-    (file lent old : List ℕ) (n k : ℕ) {loaded after : List ℕ} → length old ≡ resultRoom → goodLength file ≡ true → loaded ≡ wordsAfter file lent →
-    replyOf (Weighed n k) ≡ replyTo (take (length file / 8) loaded) (length old) → after ≡ resultsAfter (take (length file / 8) loaded) old →
-    dealText k n after ≡ fileText file
-weighed-file file lent old n k {loaded} room good is same results =
-    let words = ap (take (length file / 8)) is ∙ load-takes file lent good in
-    rw results (weighed-text (take (length file / 8) loaded) old n k room same) ∙ ap sheetText words ∙ sym (loaded-text file good)
+-- an accepted file has the answer and the results of its words
+module _ (file old : List ℕ) (n k : ℕ) (same : replyOf (Weighed n k) ≡ fileReply file (length old)) where
+  length-good : goodLength file ≡ true
+  length-good = accepted-length file (length old) (sym (ap (λ (a : Reply). a .number) same))
 
-pub refused-file :
-    (file lent : List ℕ) (r : Refusal) {loaded : List ℕ} → goodLength file ≡ true → loaded ≡ wordsAfter file lent →
-    replyOf (Refused r) ≡ replyTo (take (length file / 8) loaded) resultRoom → refusalLine (r .number) (r .place) ≡ fileText file
-refused-file file lent r {loaded} good is same =
-    let words = ap (take (length file / 8)) is ∙ load-takes file lent good in
-    refused-text (take (length file / 8) loaded) r same ∙ ap sheetText words ∙ sym (loaded-text file good)
+  words-reply : replyOf (Weighed n k) ≡ replyTo (fileWords file) (length old)
+  words-reply = same ∙ reply-of-words file (length old) length-good
 
--- the refusal with a number and place that are these
-pub same-refusal : (number place n p : ℕ) → number ≡ n → place ≡ p → refusalLine number place ≡ refusalLine n p
-same-refusal number place n p e f = rw (e, f)
+  -- there is room for their text, with sums of the amounts that fit 64 bits
+  pub weighed-lines :
+      {after : List ℕ} → length old ≡ resultRoom → after ≡ fileResults file old →
+      (n ≤ 32) × (6 * n ≤ length after) × ((i c : ℕ) → i < n → 4 ≤ c → c < 6 → getD after (6 * i + c) 0 ≤ 125000000000000)
+  weighed-lines room is =
+      let s = fileWords file in
+      let results = is ∙ results-of-words file old length-good in
+      let number : replyTo s (length old) .number ≡ 0 = sym (ap (λ (a : Reply). a .number) words-reply) in
+      let count = ap (λ (a : Reply). a .count) words-reply in
+      let within = reply-count-within s (length old) number in (
+        omega arith,
+        omega (arith, ap length results, results-length s old),
+        λ i c l least most. rw results (reply-amounts s old i c number (omega arith) least most),
+      )
+
+  pub weighed-file : {after : List ℕ} → length old ≡ resultRoom → after ≡ fileResults file old → dealText k n after ≡ fileText file
+  weighed-file room is =
+      rw (is ∙ results-of-words file old length-good) (weighed-text (fileWords file) old n k room words-reply) ∙ sym (loaded-text file length-good)
+
+-- a refused file's number is not 0
+refused-file-number : (file : List ℕ) (room : ℕ) (r : Refusal) → replyOf (Refused r) ≡ fileReply file room → r .number ≡ 0 → ⊥
+refused-file-number file room r same z =
+    let number = ap (λ (a : Reply). a .number) same in
+    refused-number (fileWords file) room r (same ∙ reply-of-words file room (accepted-length file room (sym number ∙ z))) z
+
+pub refused-file : (file : List ℕ) (r : Refusal) → replyOf (Refused r) ≡ fileReply file resultRoom → refusalLine (r .number) (r .place) ≡ fileText file
+unfolding fileText
+refused-file file r same =
+    let number = ap (λ (a : Reply). a .number) same in
+    let place = ap (λ (a : Reply). a .place) same in
+    rw (← number, ← place, ne-eqb (r .number) 0 (refused-file-number file resultRoom r same))
 
 -- what is written at the start of a buffer, under another name
 pub written-as :
@@ -124,11 +112,11 @@ sheet-text-fits s =
     (λ _. length-refusal-line (a .number) (a .place))
 
 pub file-text-fits : (file : List ℕ) → length (fileText file) ≤ textRoom
-unfolding fileText
-file-text-fits file =
-    at-cond (λ (t : List ℕ). length t ≤ textRoom) (goodLength file) _ _
-    (λ _. sheet-text-fits (fileWords file))
-    (λ _. length-refusal-line 15 0)
+file-text-fits file = by-length (goodLength file) refl
+  where
+    by-length : (b : Bool) → goodLength file ≡ b → length (fileText file) ≤ textRoom
+    by-length true e = rw (loaded-text file e) (sheet-text-fits (fileWords file))
+    by-length false e = rw (bad-length-text file e) (length-refusal-line 15 0)
 
 -- ---- the text in a lent buffer
 

@@ -3,16 +3,15 @@
 use mathlib.Core.Bool.{Bool, true, false, not, _&&_, _||_}
 use mathlib.Core.List.{List, [], _∷_, _++_}
 use mathlib.Core.Logic.{_⊎_}
+use mathlib.Core.Option.{Option, none, some}
 use mathlib.Core.Path.{_≡_}
 use Prim.Native.Nat.{ℕ, _+_, _*_}
 use Prim.Native.String.{String}
 use lib.Dec.{leb, ltb, eqb}
 use Rattle.files.specs.FileForm.{fileBytes}
 use Rattle.formula.specs.FixedPoint.{rawWeight}
-use Rattle.formula.specs.Formula.{lowerExponent, upperExponent, Difference, upperEnd, lowerEnd, Passes}
+use Rattle.formula.specs.Formula.{lowerExponent, upperExponent, Difference, upperEnd, lowerEnd, Passes, RawWeightNumbers}
 use Rattle.formula.specs.Fraction.{Fraction, plus, whole}
-use Rattle.formula.specs.declared.RawWeight.{RawWeight}
-use Rattle.formula.specs.declared.RawWeight.the-variants.{Weight, NoThickness, OutsideLimits}
 use Rattle.ratings.specs.RatingTable.{ratingTable, maturityFifths, weightByRating}
 use Rattle.weights.specs.ApproachFloorCap.{approach, parameter}
 use Rattle.deal.specs.Lines.{terms, tranche, lineWords, poolAverage}
@@ -50,15 +49,18 @@ acceptedAt sheet charge = eqb (replyTo sheet resultRoom .number) 0 && eqb (reply
 abbrev pub firstLine : List ℕ → List ℕ → Bool
 firstLine sheet words = sameList (lineWords (tranche sheet 0) (terms sheet)) words
 
+-- a number is there, and is this one
+abbrev pub isThere : Option ℕ → ℕ → Bool
+isThere none w = false
+isThere (some v) w = eqb v w
+
 -- an answer of rawWeight (its inputs are A, D, K and the parameter) is this number,
-abbrev pub isWeight : RawWeight → ℕ → Bool
-isWeight (Weight v) w = eqb v w
-isWeight NoThickness w = false
-isWeight OutsideLimits w = false
+abbrev pub isWeight : RawWeightNumbers → ℕ → Bool
+isWeight n w = isThere (n .weight) w
 
 -- or one of these two
-abbrev pub isEither : RawWeight → ℕ → ℕ → Bool
-isEither r v w = isWeight r v || isWeight r w
+abbrev pub isEither : RawWeightNumbers → ℕ → ℕ → Bool
+isEither n v w = isWeight n v || isWeight n w
 
 -- "An ordinary securitisation has supervisory parameter 1"
 abbrev pub ordinary : ℕ

@@ -8,9 +8,10 @@ use Prim.Native.String.{String, [] as empty, _∷_ as _then_}
 use lib.Dec.{leb, eqb}
 use lib.ListN.{length, getD, take, drop}
 use Rattle.files.specs.Decimal.{space, newline, decimal}
-use Rattle.files.specs.FileForm.{goodLength, fileWords}
+use Rattle.files.specs.FileForm.{fileWords}
 use Rattle.deal.specs.Results.{Reply, replyTo, lines}
 use Rattle.deal.specs.Sum.{sum}
+use Rattle.deal_file.specs.FileAnswer.{fileReply}
 use Rattle.report.specs.declared.Written.{Written}
 use Rattle.report.specs.declared.Written.the-variants.{Whole, NoRoom}
 
@@ -66,9 +67,9 @@ resultRoom = 6 * 32
 unfoldable pub sheetText : List ℕ → List ℕ
 sheetText s = textFor s (replyTo s resultRoom)
 
--- the text of a file: "15 comes before all."
+-- the text of a file: that of the reply which it is due, with its words where the length is good
 unfoldable pub fileText : List ℕ → List ℕ
-fileText file = cond (goodLength file) (sheetText (fileWords file)) (refusalLine 15 0)
+fileText file = textFor (fileWords file) (fileReply file resultRoom)
 
 -- ---- the text in a lent list of bytes
 

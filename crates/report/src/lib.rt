@@ -9,7 +9,6 @@ mod lines;
 mod text;
 
 use deal::Answer;
-use files::WORD_LIMIT;
 
 // Bytes that hold every text.
 pub const TEXT_ROOM: usize = 4810;
@@ -29,14 +28,8 @@ fn compose(file: &[u8], out: &mut [u8]) -> usize
     ensures { λ r. ⌜ r ≡ length (fileText (now (file .entry))) ⌝ }
     ensures { λ r. ⌜ now (out .exit) ≡ sets (now (out .entry)) 0 (fileText (now (file .entry))) ⌝ }
 {
-    let mut sheet = [0u64; WORD_LIMIT];
-    let loaded = files::load(file, &mut sheet);
-    if !loaded {
-        return text::put_labelled(b"refused ", 15, b" at ", 0, 0, out);
-    }
-    let words = file.len() / 8;
     let mut results = [0u64; RESULT_ROOM];
-    let answer = deal::weigh(&sheet[..words], &mut results);
+    let answer = deal_file::weigh_file(file, &mut results);
     match answer {
         Answer::Weighed { count, charge } => lines::put_deal(count, charge, &results, out),
         Answer::Refused(r) => text::put_labelled(b"refused ", r.number, b" at ", r.place, 0, out),

@@ -1,5 +1,6 @@
 // Reads a sheet that is written by hand, and writes the bytes of its file to standard output. What fails is said in one line on standard error.
-use input::Input;
+mod reading;
+
 use libc::STDERR_FILENO;
 use libc::STDOUT_FILENO;
 use sheet_text::Made;
@@ -16,19 +17,17 @@ fn main() {
 
 // Reads the text that the argument names, and writes the bytes of its sheet.
 fn write_named(text: &mut [u8]) {
-    let read = input::read_named(
+    let read = reading::read_named(
         b"usage: sheet_words FILE (- for standard input)\n",
         &mut *text,
     );
-    match read {
-        Input::Bytes(n) => {
-            if n < text.len() {
-                write_sheet(&text[..n]);
-            } else {
-                refuse_length();
-            }
+    let size = read.size;
+    if read.ok {
+        if size < text.len() {
+            write_sheet(&text[..size]);
+        } else {
+            refuse_length();
         }
-        Input::Failed => {}
     }
 }
 
@@ -46,7 +45,7 @@ fn write_sheet(text: &[u8]) {
 
 // Writes the first n bytes of a buffer to standard output.
 fn write_bytes(n: u64, bytes: &[u8]) {
-    let length = input::within(n, bytes);
+    let length = buffers::within(n, bytes);
     if !io::write_all(STDOUT_FILENO, &bytes[..length]) {
         io::write_all(
             STDERR_FILENO,
@@ -57,9 +56,9 @@ fn write_bytes(n: u64, bytes: &[u8]) {
 
 // Says of the token that stands at a place of the text what is wrong with it.
 fn refuse_token(text: &[u8], token: Span, wrong: &[u8]) {
-    let end = input::within(token.end, text);
+    let end = buffers::within(token.end, text);
     let before = &text[..end];
-    let start = input::within(token.start, before);
+    let start = buffers::within(token.start, before);
     io::write_all(STDERR_FILENO, b"line ");
     io::print_decimal(STDERR_FILENO, token.line);
     io::write_all(STDERR_FILENO, b": ");
@@ -72,7 +71,7 @@ fn show_token(token: &[u8]) {
     if token.len() <= 40 {
         io::write_all(STDERR_FILENO, token);
     } else {
-        let shown = input::within(40, token);
+        let shown = buffers::within(40, token);
         io::write_all(STDERR_FILENO, &token[..shown]);
         io::write_all(STDERR_FILENO, b"...");
     }

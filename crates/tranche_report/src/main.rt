@@ -1,5 +1,6 @@
 // Reads a deal sheet's file, and prints the report on it: the lines of its tranches, or the refusal. What fails is said on standard error.
-use input::Input;
+mod reading;
+
 use libc::STDERR_FILENO;
 use libc::STDOUT_FILENO;
 use report::Written;
@@ -12,13 +13,13 @@ fn main() {
 
 // Reads the file that the argument names, and writes the report on it.
 fn print_named(file: &mut [u8]) {
-    let read = input::read_named(
+    let read = reading::read_named(
         b"usage: tranche_report FILE (- for standard input)\n",
         &mut *file,
     );
-    match read {
-        Input::Bytes(n) => print_report(&file[..n]),
-        Input::Failed => {}
+    let size = read.size;
+    if read.ok {
+        print_report(&file[..size]);
     }
 }
 
@@ -36,7 +37,7 @@ fn print_report(file: &[u8]) {
 
 // Writes the first n bytes of a buffer to standard output.
 fn print_start(n: u64, text: &[u8]) {
-    let length = input::within(n, text);
+    let length = buffers::within(n, text);
     if !io::write_all(STDOUT_FILENO, &text[..length]) {
         io::write_all(
             STDERR_FILENO,

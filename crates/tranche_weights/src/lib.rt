@@ -1,30 +1,20 @@
-// The calculator for programs in C and Rust: the two functions that a bank's own system links, with the promises of the functions they call. The header
-// is include/tranche_weights.h.
+// The calculator for programs in C and Rust: the functions that a bank's own system links, with the promises of the functions they call. The header
+// is include/tranche_weights.h. Each name ends in the version of the interface, so that a program built for another version does not link.
 ghost use mathlib.Core.Path.{_≡_};
 ghost use Prim.Native.Nat.{_≤_};
 ghost use lib.ListN.{length};
 ghost use Rattle.deal.specs.DemandThree.{KeepsDemandThree};
-ghost use Rattle.deal.specs.Results.{replyTo, resultsAfter};
+ghost use Rattle.deal.specs.Results.{replyOf, replyTo, resultsAfter};
+ghost use Rattle.deal_file.specs.FileAnswer.{fileReply, fileResults, FileKeepsDemandThree};
 ghost use Rattle.report.specs.ReportText.{fileText, textAfter, textRoom};
 ghost use Rattle.tranche_weights.specs.FourNumbers.{fourNumbers};
 use deal::Answer;
 use report::Written;
 
-// Weighs every tranche of a deal sheet, as deal::weigh does. The answer is the refusal's number, 0 where there is none; place, count and charge are
-// written through the lent numbers.
-#[no_mangle]
-pub extern "C" fn tranche_weights_weigh(
-    sheet: &[u64],
-    results: &mut [u64],
-    place: &mut u64,
-    count: &mut u64,
-    charge: &mut u64,
-) -> u64
-    ensures { λ r. ⌜ fourNumbers r (now (place .exit)) (now (count .exit)) (now (charge .exit)) ≡ replyTo (now (sheet .entry)) (length (now (results .entry))) ⌝ }
-    ensures { λ r. ⌜ now (results .exit) ≡ resultsAfter (now (sheet .entry)) (now (results .entry)) ⌝ }
-    ensures { λ r. ⌜ KeepsDemandThree (now (sheet .entry)) (length (now (results .entry))) (now (results .exit)) ⌝ }
+// An answer as a program in C gets it: the refusal's number, 0 where there is none; place, count and charge are written through the lent numbers.
+fn put_answer(answer: Answer, place: &mut u64, count: &mut u64, charge: &mut u64) -> u64
+    ensures { λ r. ⌜ fourNumbers r (now (place .exit)) (now (count .exit)) (now (charge .exit)) ≡ replyOf answer ⌝ }
 {
-    let answer = deal::weigh(sheet, results);
     match answer {
         Answer::Weighed {
             count: tranches,
@@ -44,10 +34,44 @@ pub extern "C" fn tranche_weights_weigh(
     }
 }
 
+// Weighs every tranche of a deal sheet, as deal::weigh does.
+#[no_mangle]
+pub extern "C" fn tranche_weights_weigh_v1(
+    sheet: &[u64],
+    results: &mut [u64],
+    place: &mut u64,
+    count: &mut u64,
+    charge: &mut u64,
+) -> u64
+    ensures { λ r. ⌜ fourNumbers r (now (place .exit)) (now (count .exit)) (now (charge .exit)) ≡ replyTo (now (sheet .entry)) (length (now (results .entry))) ⌝ }
+    ensures { λ r. ⌜ now (results .exit) ≡ resultsAfter (now (sheet .entry)) (now (results .entry)) ⌝ }
+    ensures { λ r. ⌜ KeepsDemandThree (now (sheet .entry)) (length (now (results .entry))) (now (results .exit)) ⌝ }
+{
+    let answer = deal::weigh(sheet, results);
+    put_answer(answer, place, count, charge)
+}
+
+// Weighs every tranche of the deal sheet that a file's bytes hold, as deal_file::weigh_file does.
+#[no_mangle]
+pub extern "C" fn tranche_weights_weigh_file_v1(
+    file: &[u8],
+    results: &mut [u64],
+    place: &mut u64,
+    count: &mut u64,
+    charge: &mut u64,
+) -> u64
+    ensures { λ r. ⌜ fourNumbers r (now (place .exit)) (now (count .exit)) (now (charge .exit)) ≡ fileReply (now (file .entry)) (length (now (results .entry))) ⌝ }
+    ensures { λ r. ⌜ now (results .exit) ≡ fileResults (now (file .entry)) (now (results .entry)) ⌝ }
+    ensures { λ r. ⌜ FileKeepsDemandThree (now (file .entry)) (length (now (results .entry))) (now (results .exit)) ⌝ }
+{
+    let answer = deal_file::weigh_file(file, results);
+    put_answer(answer, place, count, charge)
+}
+
 // Writes the report's text on a file, as report::report does. The answer is the text's length; it was written where that is at most the room lent, and
 // else nothing was.
 #[no_mangle]
-pub extern "C" fn tranche_weights_report(file: &[u8], text: &mut [u8]) -> u64
+pub extern "C" fn tranche_weights_report_v1(file: &[u8], text: &mut [u8]) -> u64
     ensures { λ r. ⌜ r ≡ length (fileText (now (file .entry))) ⌝ }
     ensures { λ r. ⌜ now (text .exit) ≡ textAfter (fileText (now (file .entry))) (now (text .entry)) ⌝ }
     ensures { λ r. ⌜ r ≤ textRoom ⌝ }

@@ -15,7 +15,7 @@ use Rattle.formula.proofs.RawWeightLaw.{raw-weight-is}
 use Rattle.formula.proofs.Limits.{limits-of-test}
 use Rattle.ratings.specs.RatingTable.{ratingTable}
 use Rattle.ratings.proofs.TableLaws.{weight-by-ratings-at-most}
-use Rattle.weights.specs.ApproachFloorCap.{approach, parameter, floor, capApplies, afterFloorAndCap, numberOf, formulaRawWeight, tableWeight, weight, WeightByFormula, thin}
+use Rattle.weights.specs.ApproachFloorCap.{approach, parameter, floor, capApplies, afterFloorAndCap, weightOrHighest, formulaRawWeight, tableWeight, weight, WeightByFormula, thin}
 use Rattle.weights.specs.declared.Terms.{Terms}
 use Rattle.weights.specs.declared.Tranche.{Tranche}
 
@@ -59,33 +59,33 @@ ratings-not-used t t′ d r same-attachment same-detachment same-senior = (simp 
 
 -- the raw weight, by the cases of IsRawWeight
 module _ (A D K p : ℕ) where
-  thick-at-most : WithinLimits A D K p → K < D → 1 ≤ K → A < D → numberOf (rawWeight A D K p) ≤ 125000
+  thick-at-most : WithinLimits A D K p → K < D → 1 ≤ K → A < D → weightOrHighest (rawWeight A D K p) ≤ 125000
   thick-at-most l above one thick =
       let w = raw-weight-is A D K p .formula l above one thick in
       rw (w .answered) (w .at-most)
 
-  above-at-most : WithinLimits A D K p → K < D → 1 ≤ K → numberOf (rawWeight A D K p) ≤ 125000
+  above-at-most : WithinLimits A D K p → K < D → 1 ≤ K → weightOrHighest (rawWeight A D K p) ≤ 125000
   above-at-most l above one =
       ⊎-elim
       (λ e. rw (raw-weight-is A D K p .no-thickness l above one (omega arith)) (omega arith))
       (λ thick. thick-at-most l above one (omega arith))
       (eq-zero-or-pos (D - A))
 
-  charged-at-most : WithinLimits A D K p → K < D → numberOf (rawWeight A D K p) ≤ 125000
+  charged-at-most : WithinLimits A D K p → K < D → weightOrHighest (rawWeight A D K p) ≤ 125000
   charged-at-most l above =
       ⊎-elim
       (λ e. rw (raw-weight-is A D K p .charge-zero l above e) (omega arith))
       (λ one. above-at-most l above one)
       (eq-zero-or-pos K)
 
-  within-at-most : WithinLimits A D K p → numberOf (rawWeight A D K p) ≤ 125000
+  within-at-most : WithinLimits A D K p → weightOrHighest (rawWeight A D K p) ≤ 125000
   within-at-most l =
       ⊎-elim
       (λ e. rw (raw-weight-is A D K p .within-charge l (omega arith)) (le-refl 125000))
       (λ above. charged-at-most l (omega arith))
       (eq-zero-or-pos (D - K))
 
-  number-at-most : (t : Bool) → withinLimits A D K p ≡ t → numberOf (rawWeight A D K p) ≤ 125000
+  number-at-most : (t : Bool) → withinLimits A D K p ≡ t → weightOrHighest (rawWeight A D K p) ≤ 125000
   unfolding rawWeight
   number-at-most true e = within-at-most (limits-of-test A D K p e)
   number-at-most false e = rw e (omega arith)

@@ -2,13 +2,12 @@
 -- give; 85 and 94 for the parameter, 87 and 96 for the floor, 88, 89 and 97 for the cap): approach and weight of a tranche, as functions of the
 -- tranche's own inputs and of the deal's terms alone. Weights are counted in hundredths of a percent.
 use mathlib.Core.Bool.{Bool, cond, not, _&&_, _||_}
+use mathlib.Core.Option.{Option·getD}
 use mathlib.Core.Path.{_≡_}
 use Prim.Native.Nat.{ℕ, _-_, min, max}
 use lib.Dec.{ltb, eqb}
 use Rattle.formula.specs.FixedPoint.{rawWeight}
-use Rattle.formula.specs.Formula.{IsRawWeight}
-use Rattle.formula.specs.declared.RawWeight.{RawWeight}
-use Rattle.formula.specs.declared.RawWeight.the-variants.{Weight, NoThickness, OutsideLimits}
+use Rattle.formula.specs.Formula.{RawWeightNumbers, IsRawWeight}
 use Rattle.ratings.specs.RatingTable.{ratingTable, present, weightByRatings}
 use Rattle.weights.specs.declared.Terms.{Terms}
 use Rattle.weights.specs.declared.Tranche.{Tranche}
@@ -48,15 +47,13 @@ afterFloorAndCap t d w =
     let raised = max w (floor (d .resecuritisation)) in
     cond (capApplies t d) (min raised (d .average)) raised
 
--- the number of a raw weight; where there is none, which no accepted sheet meets (`formula-weighs`, DemandThreeLaw.antt of `deal`), the highest
-abbrev pub numberOf : RawWeight → ℕ
-numberOf (Weight w) = w
-numberOf NoThickness = 125000
-numberOf OutsideLimits = 125000
+-- the raw weight; where there is none, which no accepted sheet meets (`formula-weighs`, DemandThreeLaw.antt of `deal`), the highest
+abbrev pub weightOrHighest : RawWeightNumbers → ℕ
+weightOrHighest n = Option·getD (n .weight) 125000
 
 -- "A SEC-SA line's weight is its tranche's raw weight after floor and cap."
 unfoldable pub formulaRawWeight : Tranche → Terms → ℕ
-formulaRawWeight t d = numberOf (rawWeight (t .attachment) (t .detachment) (d .charge) (parameter (d .resecuritisation)))
+formulaRawWeight t d = weightOrHighest (rawWeight (t .attachment) (t .detachment) (d .charge) (parameter (d .resecuritisation)))
 
 unfoldable pub tableWeight : Tranche → ℕ
 tableWeight t =
@@ -73,9 +70,9 @@ weight t d =
 -- What a weight by SEC-SA keeps: it is an answer of the formula, by `IsRawWeight`, after floor and cap. Where K is at least 1 and D above K this
 -- limits the raw weight, which the rules leave open, and says how; elsewhere it settles it.
 pub record WeightByFormula (t : Tranche) (d : Terms) (w : ℕ) : Type 0 where
-  pub raw : RawWeight
+  pub raw : RawWeightNumbers
   pub is-raw : IsRawWeight (t .attachment) (t .detachment) (d .charge) (parameter (d .resecuritisation)) raw
-  pub weight-is : w ≡ afterFloorAndCap t d (numberOf raw)
+  pub weight-is : w ≡ afterFloorAndCap t d (weightOrHighest raw)
 
 -- ---- "13: SEC-SA applies, A equals D, and D is above the pool charge"
 

@@ -104,11 +104,21 @@ impl Case {
         self.file.extend(file_form(&self.sheet));
         let length = match self.file_kind {
             File::Ragged => (self.file.len() + random.below(16) as usize).saturating_sub(8),
-            File::Stretched if random.once_in(8) => 4 * FILE_BYTES + random.below(9) as usize,
-            File::Stretched => FILE_BYTES + random.below(33) as usize - 16,
+            File::Stretched => stretched_length(random),
+            File::Empty => 0,
             File::Unused | File::Whole => self.file.len(),
         };
         self.file.resize(length, random.below(256) as u8);
+    }
+}
+
+/// A length about that of the longest file: half of the time in whole words, from one word less to one more; now and
+/// then far longer.
+fn stretched_length(random: &mut Random) -> usize {
+    match random.below(8) {
+        0 => 4 * FILE_BYTES + random.below(9) as usize,
+        1..=4 => FILE_BYTES - 8 + 8 * random.below(3) as usize,
+        _ => FILE_BYTES - 16 + random.below(33) as usize,
     }
 }
 

@@ -14,13 +14,23 @@ use independent::{Deal, Refusal};
 /// Compares all that is compared of one sheet and notes what was met.
 pub fn check(library: &Library, case: &Case, lent: &mut Lent, tally: &mut Tally) -> Result<(), Difference> {
     let expected = independent::weigh(&case.sheet, case.room as u64);
-    let said = lent.lend(library.weigh, &case.sheet, case.room);
+    let said = lent.lend(case.room, |results| (library.weigh)(&case.sheet, results));
     words::compare(&expected, &said, lent)?;
     tally.note(case, &expected, lent);
     if case.file_kind != File::Unused {
-        tally.note_file(&text::compare(library.report, &case.file)?);
+        check_file(library, case, lent, tally).map_err(Difference::of_file)?;
     }
     check_second(library, case, &expected, lent, tally)
+}
+
+/// Compares the answer to the sheet's file, with the room of the sheet, and the report on it.
+fn check_file(library: &Library, case: &Case, lent: &mut Lent, tally: &mut Tally) -> Result<(), Difference> {
+    let expected = independent::weigh_file(&case.file, case.room as u64);
+    let said = lent.lend(case.room, |results| (library.weigh_file)(&case.file, results));
+    words::compare(&expected, &said, lent)?;
+    text::compare(library.report, &case.file)?;
+    tally.note_file(&case.file, &expected);
+    Ok(())
 }
 
 /// Compares the second sheet with the first.

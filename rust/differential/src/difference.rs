@@ -75,6 +75,8 @@ pub struct Difference {
     pub expected: String,
     /// What the compared library said.
     pub said: String,
+    /// Whether it is in an answer to the sheet's file. Of a panic this is not known, and said to be false.
+    pub of_file: bool,
 }
 
 impl Difference {
@@ -84,14 +86,21 @@ impl Difference {
             part,
             expected: format!("{expected:?}"),
             said: format!("{said:?}"),
+            of_file: false,
         }
+    }
+
+    /// The same difference, in an answer to the sheet's file.
+    pub fn of_file(self) -> Difference {
+        Difference { of_file: true, ..self }
     }
 }
 
 impl fmt::Display for Difference {
     /// Prints the part, what is due and what was said, on one line.
     fn fmt(&self, to: &mut fmt::Formatter<'_>) -> fmt::Result {
-        write!(to, "{}: expected {}, said {}", self.part, self.expected, self.said)
+        let of = if self.of_file { " of the file" } else { "" };
+        write!(to, "{}{of}: expected {}, said {}", self.part, self.expected, self.said)
     }
 }
 

@@ -166,15 +166,18 @@ pub enum File {
     Ragged,
     /// Made about as long as the longest file, or far longer.
     Stretched,
+    /// No byte.
+    Empty,
 }
 
 impl File {
     /// All kinds of files, in the order of the enum.
-    pub const TABLE: [Entry<File>; 4] = [
+    pub const TABLE: [Entry<File>; 5] = [
         (File::Unused, "no file", 96),
         (File::Whole, "whole file", 24),
         (File::Ragged, "ragged file", 4),
-        (File::Stretched, "stretched file", 1),
+        (File::Stretched, "stretched file", 2),
+        (File::Empty, "empty file", 1),
     ];
 
     /// Draws a kind of file.

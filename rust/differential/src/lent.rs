@@ -1,7 +1,7 @@
 //! The words lent for results. They are filled with a pattern before the call, so that afterwards every written word
 //! can be told from an untouched one.
 
-use crate::library::{Reply, Weigh};
+use crate::library::Reply;
 use crate::sheet::LINE_WORDS;
 
 /// Words after the lent ones that are looked at too: nothing may be written past the room.
@@ -25,11 +25,11 @@ pub struct Lent {
 
 impl Lent {
     /// Fills the words with the pattern, lends so many of them to a weighing and gives its reply.
-    pub fn lend(&mut self, weigh: Weigh, sheet: &[u64], room: usize) -> Reply {
+    pub fn lend(&mut self, room: usize, weigh: impl FnOnce(&mut [u64]) -> Reply) -> Reply {
         self.words.clear();
         self.words.extend((0..room + GUARD).map(pattern));
         self.room = room;
-        weigh(sheet, &mut self.words[..room])
+        weigh(&mut self.words[..room])
     }
 
     /// The first `count` lines of the lent words, or fewer where the room holds no more.
@@ -64,11 +64,11 @@ mod tests {
     #[test]
     fn written_words_are_found() {
         let mut lent = Lent::default();
-        let weigh = |_: &[u64], results: &mut [u64]| {
+        let weigh = |results: &mut [u64]| {
             results[3] = 7;
             REPLY
         };
-        assert_eq!(lent.lend(weigh, &[], 10), REPLY);
+        assert_eq!(lent.lend(10, weigh), REPLY);
         assert_eq!(lent.touched(0), Some((3, 7)));
         assert_eq!(lent.touched(4), None);
         lent.words[10] = 8;
@@ -80,11 +80,13 @@ mod tests {
     fn lines_follow_the_reply() {
         let mut lent = Lent::default();
         let lengths = [11, 12, 20].map(|room| {
-            let reply = lent.lend(|_, _| REPLY, &[], room);
+            let reply = lent.lend(room, |_| REPLY);
             lent.lines_of(&reply).len()
         });
         assert_eq!(lengths, [1, 2, 2]);
-        assert!(lent.lines_of(&Reply { number: 14, ..REPLY }).is_empty());
+        let mut refused = REPLY;
+        refused.number = 14;
+        assert!(lent.lines_of(&refused).is_empty());
     }
 
     /// The pattern differs in every place that is ever lent.

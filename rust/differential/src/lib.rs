@@ -32,6 +32,6 @@ pub use check::check;
 pub use difference::{Difference, Part};
 pub use kind::{File, Kind, Relation, Room};
 pub use lent::Lent;
-pub use library::{Library, Reply, Weigh};
+pub use library::{Library, Reply, Weigh, WeighFile};
 pub use run::{Found, Run};
-pub use tally::{Feature, Tally};
+pub use tally::{Feature, FileFeature, Tally};

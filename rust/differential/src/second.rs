@@ -11,7 +11,7 @@ type Weighed = (Reply, Vec<[u64; LINE_WORDS]>);
 
 /// Weighs a sheet with room for its lines.
 fn weigh(library: &Library, sheet: &[u64], room: usize, lent: &mut Lent) -> Weighed {
-    let reply = lent.lend(library.weigh, sheet, room);
+    let reply = lent.lend(room, |results| (library.weigh)(sheet, results));
     (reply, lent.lines_of(&reply).to_vec())
 }
 

@@ -41,6 +41,7 @@ fn numbers(reply: &Reply) -> String {
         place,
         count,
         charge,
+        ..
     } = reply;
     format!("number {number} place {place} count {count} charge {charge}\n")
 }
@@ -62,10 +63,10 @@ fn independent_answer(answer: &Result<Deal, Refusal>) -> String {
     text
 }
 
-/// What the proved library answers to the sheet: the four numbers, and the lines that it wrote.
-fn proved_answer(library: &Library, case: &Case) -> String {
+/// What the proved library answers in a weighing: the four numbers, and the lines that it wrote.
+fn proved_answer(room: usize, weigh: impl FnOnce(&mut [u64]) -> Reply) -> String {
     let mut lent = Lent::default();
-    let reply = lent.lend(library.weigh, &case.sheet, case.room);
+    let reply = lent.lend(room, weigh);
     let lines = lent.lines_of(&reply).iter().map(|line| format!("  {}\n", words(line)));
     numbers(&reply) + &lines.collect::<String>()
 }
@@ -73,16 +74,25 @@ fn proved_answer(library: &Library, case: &Case) -> String {
 /// What both sides answer to the sheet, and to its file where there is one.
 pub fn answers(library: &Library, case: &Case) -> String {
     let independent = independent_answer(&independent::weigh(&case.sheet, case.room as u64));
-    let proved = proved_answer(library, case);
-    let mut text = format!("independent: {independent}proved: {proved}");
-    if case.file_kind != File::Unused {
-        let file = independent_answer(&independent::weigh_file(&case.file, MOST_RESULTS as u64));
-        text += &format!(
-            "independent, file: {file}proved, report: {}",
-            (library.report)(&case.file)
-        );
+    let proved = proved_answer(case.room, |results| (library.weigh)(&case.sheet, results));
+    let text = format!("independent: {independent}proved: {proved}");
+    match case.file_kind {
+        File::Unused => text,
+        _ => text + &file_answers(library, case),
     }
-    text
+}
+
+/// What both sides answer to the sheet's file, with the room of the sheet and as a report.
+fn file_answers(library: &Library, case: &Case) -> String {
+    let independent = |room| independent_answer(&independent::weigh_file(&case.file, room as u64));
+    let proved = proved_answer(case.room, |results| (library.weigh_file)(&case.file, results));
+    let answers = format!("independent, file: {}proved, file: {proved}", independent(case.room));
+    let all = independent(MOST_RESULTS);
+    answers
+        + &format!(
+            "independent, report: {all}proved, report: {}",
+            (library.report)(&case.file)
+        )
 }
 
 /// A difference with its sheet and both sides' answers; its last line names seed, index and part. After a panic no side

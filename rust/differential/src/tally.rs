@@ -3,7 +3,7 @@
 use crate::case::Case;
 use crate::kind::{File, Kind, Relation, Room};
 use crate::lent::Lent;
-use crate::sheet::{status, Layout};
+use crate::sheet::{status, Layout, FILE_BYTES};
 use independent::{Deal, Line, Refusal};
 use std::fmt;
 
@@ -52,6 +52,48 @@ impl Feature {
         (Feature::TwoWeights, "lines: two weights admitted"),
         (Feature::UnknownAtLimit, "sheets: unknown exposure exactly 5%"),
     ];
+}
+
+/// What must be met on some file.
+#[derive(Debug, Clone, Copy, PartialEq, Eq)]
+pub enum FileFeature {
+    /// Accepted.
+    Accepted,
+    /// Refused by its words: 1 to 13.
+    WordsRefused,
+    /// Refused for too little room: 14.
+    RoomRefused,
+    /// A length that is no multiple of 8.
+    PartOfWord,
+    /// The longest length that is read.
+    Longest,
+    /// One word longer than that.
+    OneWordLonger,
+}
+
+impl FileFeature {
+    /// All features with their names, in the order of the enum.
+    const TABLE: [(FileFeature, &'static str); 6] = [
+        (FileFeature::Accepted, "files: accepted"),
+        (FileFeature::WordsRefused, "files: refused by their words"),
+        (FileFeature::RoomRefused, "files: refused for too little room"),
+        (FileFeature::PartOfWord, "files: length no multiple of 8"),
+        (FileFeature::Longest, "files: of the longest length"),
+        (FileFeature::OneWordLonger, "files: one word longer"),
+    ];
+
+    /// Whether a file with this answer shows the feature.
+    fn shown(self, file: &[u8], answer: &Result<Deal, Refusal>) -> bool {
+        let number = answer.as_ref().map_or_else(|refusal| refusal.number, |_| 0);
+        match self {
+            FileFeature::Accepted => number == 0,
+            FileFeature::WordsRefused => (1..=13).contains(&number),
+            FileFeature::RoomRefused => number == 14,
+            FileFeature::PartOfWord => !file.len().is_multiple_of(8),
+            FileFeature::Longest => file.len() == FILE_BYTES,
+            FileFeature::OneWordLonger => file.len() == FILE_BYTES + 8,
+        }
+    }
 }
 
 /// The number of SEC-SA among the approaches.
@@ -125,6 +167,7 @@ fn names() -> Vec<String> {
     let statuses = ["0, paying", "1, delinquent", "2, not known", "3, a tranche"];
     names.extend(statuses.map(|name| format!("accepted with status {name}")));
     names.extend(Feature::TABLE.map(|(_, name)| name.to_string()));
+    names.extend(FileFeature::TABLE.map(|(_, name)| name.to_string()));
     names
 }
 
@@ -147,6 +190,8 @@ pub struct Tally {
     pub statuses: [u64; 4],
     /// Lines that show each feature; sheets, for the cap that decided and for the unknown exposure.
     pub features: [u64; Feature::TABLE.len()],
+    /// Files that show each feature.
+    pub file_features: [u64; FileFeature::TABLE.len()],
     /// Lines with two admitted weights where the higher one is taken.
     pub higher_taken: u64,
 }
@@ -196,10 +241,13 @@ impl Tally {
         }
     }
 
-    /// Notes the answer to a file. Numbers below 15 are counted for sheets only.
-    pub fn note_file(&mut self, answer: &Result<Deal, Refusal>) {
+    /// Notes a file whose answers were found equal. Of its refusals, 15 alone is counted by its number.
+    pub fn note_file(&mut self, file: &[u8], answer: &Result<Deal, Refusal>) {
         if let Err(Refusal { number: 15, .. }) = answer {
             self.refusals[15] += 1;
+        }
+        for (count, (feature, _)) in self.file_features.iter_mut().zip(FileFeature::TABLE) {
+            *count += u64::from(feature.shown(file, answer));
         }
     }
 
@@ -223,12 +271,13 @@ impl Tally {
         add(&mut self.approaches, &other.approaches);
         add(&mut self.statuses, &other.statuses);
         add(&mut self.features, &other.features);
+        add(&mut self.file_features, &other.file_features);
         self.higher_taken += other.higher_taken;
     }
 
     /// The counts of what must occur, in the order of their names.
     fn counts(&self) -> Vec<u64> {
-        let groups: [&[u64]; 8] = [
+        let groups: [&[u64]; 9] = [
             &self.kinds,
             &self.rooms,
             &self.files,
@@ -237,6 +286,7 @@ impl Tally {
             &self.approaches,
             &self.statuses,
             &self.features,
+            &self.file_features,
         ];
         groups.concat()
     }
@@ -281,6 +331,32 @@ mod tests {
         assert!((0..)
             .zip(Feature::TABLE)
             .all(|(place, entry)| entry.0 as usize == place));
+        assert!((0..)
+            .zip(FileFeature::TABLE)
+            .all(|(place, entry)| entry.0 as usize == place));
+    }
+
+    /// A file counts by its answer and by its length; a refused length counts as 15 and by its length alone.
+    #[test]
+    fn files_are_counted() {
+        let counts = |length, number| {
+            let answer = match number {
+                0 => Ok(Deal {
+                    charge: 0,
+                    lines: Vec::new(),
+                }),
+                _ => Err(Refusal { number, place: 0 }),
+            };
+            let mut tally = Tally::default();
+            tally.note_file(&vec![0; length], &answer);
+            (tally.file_features, tally.refusals[15])
+        };
+        assert_eq!(counts(144, 0), ([1, 0, 0, 0, 0, 0], 0));
+        assert_eq!(counts(0, 1), ([0, 1, 0, 0, 0, 0], 0));
+        assert_eq!(counts(33_848, 13), ([0, 1, 0, 0, 1, 0], 0));
+        assert_eq!(counts(144, 14), ([0, 0, 1, 0, 0, 0], 0));
+        assert_eq!(counts(33_847, 15), ([0, 0, 0, 1, 0, 0], 1));
+        assert_eq!(counts(33_856, 15), ([0, 0, 0, 0, 0, 1], 1));
     }
 
     /// Each count that must occur has a name.

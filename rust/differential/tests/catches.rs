@@ -1,7 +1,8 @@
 //! The comparison finds a wrong answer in each part that it compares: each test puts a function with one fault in place
 //! of the proved one.
 
-use differential::{show, Case, Feature, Found, Library, Part, Reply, Run, Tally, Weigh};
+use differential::{show, Case, Difference, Feature, Found, Library, Part, Reply, Run, Tally, Weigh, WeighFile};
+use std::ops::RangeInclusive;
 
 /// The seed of the runs.
 const SEED: u64 = 3;
@@ -16,28 +17,46 @@ fn run(library: Library, threads: u64) -> Result<Tally, Found> {
     run.go(&library)
 }
 
-/// The part in which a run first finds this library different. The outcome is the same on any number of threads.
-fn first_part(library: Library) -> Option<Part> {
+/// The difference that a run first finds in this library. The outcome is the same on any number of threads.
+fn first_difference(library: Library) -> Option<Difference> {
     let found = run(library, 2).err();
     assert_eq!(run(library, 1).err(), found);
     assert_eq!(run(library, 3).err(), found);
-    found.map(|found| found.difference.part)
+    found.map(|found| found.difference)
+}
+
+/// The part in which a run first finds this library different, in an answer to a file or else to a sheet's words.
+fn first_part(library: Library, of_file: bool) -> Option<Part> {
+    let difference = first_difference(library)?;
+    assert_eq!(difference.of_file, of_file, "{difference}");
+    Some(difference.part)
 }
 
 /// The part in which a run first finds this weighing different.
 fn weighed(weigh: Weigh) -> Option<Part> {
-    first_part(Library {
+    let library = Library {
         weigh,
         ..Library::PROVED
-    })
+    };
+    first_part(library, false)
+}
+
+/// The part in which a run first finds this weighing of files different.
+fn filed(weigh_file: WeighFile) -> Option<Part> {
+    let library = Library {
+        weigh_file,
+        ..Library::PROVED
+    };
+    first_part(library, true)
 }
 
 /// The part in which a run first finds this report different.
 fn reported(report: fn(&[u8]) -> String) -> Option<Part> {
-    first_part(Library {
+    let library = Library {
         report,
         ..Library::PROVED
-    })
+    };
+    first_part(library, true)
 }
 
 /// The proved weighing, the start of each wrong one.
@@ -73,6 +92,7 @@ fn text(file: &[u8]) -> String {
 #[test]
 fn nothing_wrong_is_passed() {
     assert_eq!(weighed(proved), None);
+    assert_eq!(filed(|file, results| read(file, results, good_length, proved)), None);
     assert_eq!(reported(text), None);
 }
 
@@ -257,6 +277,154 @@ fn panic_is_a_difference() {
     assert_eq!(weighed(|_, _| panic!("a side that stops")), Some(Part::Panic));
 }
 
+/// Whether a file of this length is read.
+fn good_length(length: usize) -> bool {
+    length.is_multiple_of(8) && length <= 33_848
+}
+
+/// Weighs a file: refusal 15 where the length is not good, else its whole words by this weighing.
+fn read(file: &[u8], results: &mut [u64], good: fn(usize) -> bool, weigh: Weigh) -> Reply {
+    if !good(file.len()) {
+        return Reply::refusing(15, 0);
+    }
+    let (words, _) = file.as_chunks();
+    let sheet: Vec<u64> = words.iter().map(|bytes| u64::from_le_bytes(*bytes)).collect();
+    weigh(&sheet, results)
+}
+
+/// A weighing of files that takes other lengths as good is found: by a number, or by a file weighed that is refused.
+#[test]
+fn wrong_length_of_a_file() {
+    let wrong: [WeighFile; 6] = [
+        |file, results| read(file, results, |_| true, proved),
+        |file, results| read(file, results, |length| length <= 33_848, proved),
+        |file, results| read(file, results, |length| length.is_multiple_of(8), proved),
+        |file, results| {
+            read(
+                file,
+                results,
+                |length| length.is_multiple_of(8) && length <= 33_840,
+                proved,
+            )
+        },
+        |file, results| {
+            read(
+                file,
+                results,
+                |length| length.is_multiple_of(8) && length <= 33_856,
+                proved,
+            )
+        },
+        |file, results| read(file, results, |length| length > 0 && good_length(length), proved),
+    ];
+    for (place, weigh_file) in wrong.into_iter().enumerate() {
+        let part = filed(weigh_file);
+        assert!(matches!(part, Some(Part::Outcome | Part::Number)), "{place}: {part:?}");
+    }
+}
+
+/// The proved weighing of files with a fault in the reply to each file that gets one of these numbers.
+fn faulty_file(file: &[u8], results: &mut [u64], numbers: RangeInclusive<u64>, fault: fn(&mut Reply)) -> Reply {
+    let mut reply = (Library::PROVED.weigh_file)(file, results);
+    if numbers.contains(&reply.number) {
+        fault(&mut reply);
+    }
+    reply
+}
+
+/// The part in which a run first finds the fault in the reply to each file that gets one of the numbers.
+macro_rules! faulty_files {
+    ($numbers:expr, $fault:expr) => {
+        filed(|file, results| faulty_file(file, results, $numbers, $fault))
+    };
+}
+
+/// Each of the four numbers of refusal 15, and a file of a bad length reported as weighed.
+#[test]
+fn wrong_reply_to_a_bad_length() {
+    assert_eq!(faulty_files!(15..=15, |reply| reply.number = 1), Some(Part::Number));
+    assert_eq!(faulty_files!(15..=15, |reply| reply.place = 1), Some(Part::Place));
+    assert_eq!(faulty_files!(15..=15, |reply| reply.count = 1), Some(Part::Count));
+    assert_eq!(faulty_files!(15..=15, |reply| reply.charge = 1), Some(Part::Charge));
+    let unwritten = faulty_files!(15..=15, |reply| reply.charge = u64::MAX);
+    assert_eq!(unwritten, Some(Part::Charge));
+    let weighed = faulty_files!(15..=15, |reply| *reply = Reply::accepting(0, 0));
+    assert_eq!(weighed, Some(Part::Outcome));
+}
+
+/// Each of the four numbers of a file that its words or the room refuse, and such a file reported as weighed.
+#[test]
+fn wrong_reply_to_a_refused_file() {
+    assert_eq!(faulty_files!(1..=14, |reply| reply.number += 1), Some(Part::Number));
+    assert_eq!(faulty_files!(1..=14, |reply| reply.place += 1), Some(Part::Place));
+    assert_eq!(faulty_files!(1..=14, |reply| reply.count = 1), Some(Part::Count));
+    assert_eq!(faulty_files!(1..=14, |reply| reply.charge = 1), Some(Part::Charge));
+    let weighed = faulty_files!(1..=14, |reply| *reply = Reply::accepting(0, 0));
+    assert_eq!(weighed, Some(Part::Outcome));
+}
+
+/// Each of the four numbers of an accepted file.
+#[test]
+fn wrong_reply_to_an_accepted_file() {
+    assert_eq!(faulty_files!(0..=0, |reply| reply.number = 15), Some(Part::Outcome));
+    assert_eq!(faulty_files!(0..=0, |reply| reply.place = 1), Some(Part::Place));
+    assert_eq!(faulty_files!(0..=0, |reply| reply.count -= 1), Some(Part::Count));
+    assert_eq!(faulty_files!(0..=0, |reply| reply.charge += 1), Some(Part::Charge));
+}
+
+/// Writes 0 to a lent word on refusal 15: the first, or else the last.
+fn word_on_bad_length<const FIRST: bool>(file: &[u8], results: &mut [u64]) -> Reply {
+    let reply = (Library::PROVED.weigh_file)(file, results);
+    let word = if FIRST { results.first_mut() } else { results.last_mut() };
+    word.into_iter()
+        .filter(|_| reply.number == 15)
+        .for_each(|word| *word = 0);
+    reply
+}
+
+/// Results are untouched on refusal 15: the first word and the last.
+#[test]
+fn results_written_on_a_bad_length() {
+    assert_eq!(filed(word_on_bad_length::<true>), Some(Part::ResultsOnRefusal));
+    assert_eq!(filed(word_on_bad_length::<false>), Some(Part::ResultsOnRefusal));
+}
+
+/// The part in which a run first finds this weighing of the words of files different.
+macro_rules! faulty_words {
+    ($weigh:expr) => {
+        filed(|file, results| read(file, results, good_length, $weigh))
+    };
+}
+
+/// The lines of an accepted file, and the words that must be as they were.
+#[test]
+fn wrong_results_of_a_file() {
+    assert_eq!(faulty_words!(wrong_word::<0>), Some(Part::Approach));
+    assert_eq!(faulty_words!(wrong_word::<1>), Some(Part::Attachment));
+    assert_eq!(faulty_words!(wrong_word::<2>), Some(Part::Detachment));
+    assert_eq!(faulty_words!(wrong_word::<3>), Some(Part::Weight));
+    assert_eq!(faulty_words!(wrong_word::<4>), Some(Part::RiskWeighted));
+    assert_eq!(faulty_words!(wrong_word::<5>), Some(Part::Capital));
+    assert_eq!(faulty_words!(last_line_unwritten), Some(Part::Approach));
+    assert_eq!(faulty_words!(word_after_lines), Some(Part::AfterLines));
+    assert_eq!(faulty_words!(last_word), Some(Part::AfterLines));
+    assert_eq!(faulty_words!(first_word_on_refusal), Some(Part::ResultsOnRefusal));
+    assert_eq!(faulty_words!(last_word_on_refusal), Some(Part::ResultsOnRefusal));
+}
+
+/// A weighing of files that panics ends the run as a difference.
+#[test]
+fn panic_on_a_file_is_a_difference() {
+    let library = Library {
+        weigh_file: |_, _| panic!("a side that stops"),
+        ..Library::PROVED
+    };
+    assert_eq!(
+        first_difference(library).map(|difference| difference.part),
+        Some(Part::Panic)
+    );
+}
+
 /// The independent answer, with the triple that `choose` takes from each line's admitted ones.
 fn chosen(sheet: &[u64], results: &mut [u64], choose: fn(&[independent::Amounts]) -> [u64; 3]) -> Reply {
     let deal = match independent::weigh(sheet, results.len() as u64) {
@@ -358,4 +526,27 @@ fn difference_is_shown_in_full() {
         found.index, found.difference
     );
     assert_eq!(text.lines().last(), Some(last.as_str()));
+}
+
+/// A difference in a file's answer is shown as one, with what each side said to the file.
+#[test]
+fn difference_of_a_file_is_shown() {
+    let library = Library {
+        weigh_file: |file, results| faulty_file(file, results, 15..=15, |reply| reply.place = 9),
+        ..Library::PROVED
+    };
+    let found = run(library, 2).expect_err("15 has place 0");
+    let text = show::difference(&library, SEED, &Case::new(SEED, found.index), &found);
+    assert!(
+        text.contains("\nindependent, file: number 15 place 0 count 0 charge 0\n"),
+        "{text}"
+    );
+    assert!(
+        text.contains("\nproved, file: number 15 place 9 count 0 charge 0\n"),
+        "{text}"
+    );
+    assert!(
+        text.ends_with("difference in place of the file: expected 0, said 9\n"),
+        "{text}"
+    );
 }

@@ -1,10 +1,13 @@
 //! "Which approach, then floor, then cap" of document 01. Weights are in hundredths of a percent.
 
+use crate::answer::{Amounts, Line, Refusal};
 use crate::charge::{average_risk_weight_times, to_word, Points, PoolCharge};
 use crate::formula::{raw_weights, Terms, HIGHEST_WEIGHT};
 use crate::rating;
 use crate::sheet::{Facts, Row, Tranche};
-use crate::{Amounts, Line};
+
+/// The number of the refusal of a SEC-SA tranche with A equal to D, above the pool charge.
+const NO_THICKNESS: u64 = 13;
 
 /// The three approaches, with the numbers that a line reports.
 #[derive(Debug, Clone, Copy, PartialEq, Eq)]
@@ -46,6 +49,18 @@ pub fn choose(facts: &Facts, tranche: &Tranche, pool: &PoolCharge) -> Approach {
     } else {
         Approach::SecSa
     }
+}
+
+/// Refusal 13: SEC-SA applies, A equals D, and D is above the pool charge; place of the tranche amount.
+pub fn refuse_no_thickness(approach: Approach, points: &Points, charge: u64, place: u64) -> Result<(), Refusal> {
+    let no_thickness = points.attachment == points.detachment;
+    if approach == Approach::SecSa && no_thickness && points.detachment > charge {
+        return Err(Refusal {
+            number: NO_THICKNESS,
+            place,
+        });
+    }
+    Ok(())
 }
 
 /// The figure of the cap: 100 x (sum of exposure x risk weight) / (sum of exposure) over all rows, rounded up.

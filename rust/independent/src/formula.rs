@@ -32,47 +32,10 @@
 mod fixed;
 pub mod rational;
 pub mod series;
+mod terms;
 
 use fixed::{decay, Fixed};
-
-/// The highest weight, 1250%.
-pub const HIGHEST_WEIGHT: u64 = 125_000;
-
-/// What the formula is worked from: charge K, A and D in millionths, and the parameter p counted in halves.
-#[derive(Debug, Clone, Copy, PartialEq, Eq)]
-pub struct Terms {
-    pub charge: u64,
-    pub attachment: u64,
-    pub detachment: u64,
-    pub parameter_halves: u64,
-}
-
-impl Terms {
-    /// 2 x s = 2 x p x K, a whole number.
-    fn twice_s(&self) -> u64 {
-        self.parameter_halves * self.charge
-    }
-
-    /// max(K - A, 0).
-    fn below_charge(&self) -> u64 {
-        self.charge.saturating_sub(self.attachment)
-    }
-
-    /// l = max(A - K, 0).
-    fn l(&self) -> u64 {
-        self.attachment.saturating_sub(self.charge)
-    }
-
-    /// u = D - K, for D above K.
-    fn u(&self) -> u64 {
-        self.detachment - self.charge
-    }
-
-    /// D - A.
-    fn thickness(&self) -> u64 {
-        self.detachment - self.attachment
-    }
-}
+pub use terms::{Terms, HIGHEST_WEIGHT};
 
 /// The raw weights that document 01 admits, in rising order: 125,000 if D <= K; 0 if K = 0; else the one or two whole
 /// numbers that pass. A equal to D above K is refused before (refusal 13) and must not come here.

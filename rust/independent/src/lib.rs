@@ -5,52 +5,23 @@
 //! every intermediate result fits (the largest is about 10^19). The exponentials of the formula are held between two
 //! fixed-point numbers, each rounded outward.
 //!
-//! One module stands for each heading of document 01:
-//! - [`sheet`]: "The deal sheet" and "Refusals, by who can cause them";
+//! [`answer`] has the types of the answers. One module stands for each heading of document 01, and uses only `answer`
+//! and modules above it in this list:
+//! - [`sheet`]: "The deal sheet" and "Refusals, by who can cause them", but for refusal 13;
 //! - [`charge`]: "Points and pool charge";
-//! - [`approach`]: "Which approach, then floor, then cap";
 //! - [`rating`]: "The rating table";
-//! - [`formula`]: "The formula and its series".
+//! - [`formula`]: "The formula and its series";
+//! - [`approach`]: "Which approach, then floor, then cap", and refusal 13.
 #![forbid(unsafe_code)]
 
+pub mod answer;
 pub mod approach;
 pub mod charge;
 pub mod formula;
 pub mod rating;
 pub mod sheet;
 
-/// A refusal: its number and its place, as listed under "Refusals, by who can cause them".
-#[derive(Debug, Clone, Copy, PartialEq, Eq)]
-pub struct Refusal {
-    pub number: u64,
-    pub place: u64,
-}
-
-/// A weighed deal: the pool charge in millionths, and one line per tranche in the order of the sheet.
-#[derive(Debug, Clone, PartialEq, Eq)]
-pub struct Deal {
-    pub charge: u64,
-    pub lines: Vec<Line>,
-}
-
-/// One tranche's line. Approach is 0 for the fallback, 1 for SEC-ERBA, 2 for SEC-SA. Attachment and detachment are A
-/// and D in millionths. `amounts` lists every triple that document 01 admits, in rising order of weight: one triple,
-/// or two where two raw weights pass and still differ after floor and cap.
-#[derive(Debug, Clone, PartialEq, Eq)]
-pub struct Line {
-    pub approach: u64,
-    pub attachment: u64,
-    pub detachment: u64,
-    pub amounts: Vec<Amounts>,
-}
-
-/// The weight in hundredths of a percent, and the two amounts that follow from it and the amount held.
-#[derive(Debug, Clone, Copy, PartialEq, Eq)]
-pub struct Amounts {
-    pub weight: u64,
-    pub risk_weighted: u64,
-    pub capital: u64,
-}
+pub use answer::{Amounts, Deal, Line, Refusal};
 
 /// Weighs a deal sheet. `room` is how many result words the caller lends, for refusal 14.
 ///
@@ -65,7 +36,7 @@ pub fn weigh(sheet: &[u64], room: u64) -> Result<Deal, Refusal> {
     let lines = sheet.tranches.iter().map(|tranche| {
         let points = charge::points(nominal, &sheet.tranches, tranche.class);
         let approach = approach::choose(&sheet.facts, tranche, &pool);
-        sheet::refuse_no_thickness(approach, &points, pool.charge, tranche.place)?;
+        approach::refuse_no_thickness(approach, &points, pool.charge, tranche.place)?;
         Ok(approach::line(
             &sheet.facts,
             tranche,

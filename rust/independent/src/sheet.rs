@@ -3,9 +3,7 @@
 //! The words are read from place 0 upward, each judged as it is read, so the first bad word decides at its own place.
 //! A missing word comes after all words that are there, so it is found only when none of those is bad.
 
-use crate::approach::Approach;
-use crate::charge::Points;
-use crate::Refusal;
+use crate::answer::Refusal;
 
 /// A needed word is missing.
 const MISSING: u64 = 1;
@@ -31,8 +29,6 @@ const MATURITY: u64 = 10;
 const RATING: u64 = 11;
 /// Pool kind 1 or 2.
 const POOL_KIND: u64 = 12;
-/// SEC-SA applies, A equals D, and D is above the pool charge.
-const NO_THICKNESS: u64 = 13;
 /// Results shorter than six words per tranche.
 const SHORT_RESULTS: u64 = 14;
 /// The file's length is not a multiple of 8 or over 33,848 bytes.
@@ -208,18 +204,6 @@ pub fn refuse_short_results(sheet: &Sheet, room: u64) -> Result<(), Refusal> {
         return Err(Refusal {
             number: SHORT_RESULTS,
             place: 0,
-        });
-    }
-    Ok(())
-}
-
-/// Refusal 13: SEC-SA applies, A equals D, and D is above the pool charge; place of the tranche amount.
-pub fn refuse_no_thickness(approach: Approach, points: &Points, charge: u64, place: u64) -> Result<(), Refusal> {
-    let no_thickness = points.attachment == points.detachment;
-    if approach == Approach::SecSa && no_thickness && points.detachment > charge {
-        return Err(Refusal {
-            number: NO_THICKNESS,
-            place,
         });
     }
     Ok(())

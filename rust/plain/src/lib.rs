@@ -11,19 +11,16 @@
 
 #![forbid(unsafe_code)]
 
+mod points;
 mod pool;
 mod rating;
 mod sheet;
 mod tranche;
 
+use points::Points;
+pub use sheet::Refusal;
 use sheet::{Deal, MOST_TRANCHES, TRANCHE_WORDS};
-use tranche::{Approach, Points, Terms};
-
-/// A refusal: its number and its place.
-pub type Refusal = (u64, u64);
-
-/// Result words for each tranche: approach, A, D, weight, risk-weighted amount, capital.
-const LINE_WORDS: usize = 6;
+use tranche::{Approach, Terms, LINE_WORDS};
 
 /// Weighs the deal of a sheet and writes a line of six words for each tranche into `results`.
 ///
@@ -38,7 +35,7 @@ pub fn weigh(sheet: &[u64], results: &mut [u64]) -> Result<(u64, u64), Refusal> 
     let terms = Terms::of(&deal);
     let mut points = [Points::default(); MOST_TRANCHES];
     let points = &mut points[..count];
-    tranche::place(deal.tranches, deal.pool.nominal(), points);
+    points::place(deal.tranches, deal.pool.nominal(), points);
     refuse_empty_tranche(&deal, &terms, points)?;
     let (lines, _) = results.as_chunks_mut::<LINE_WORDS>();
     for ((line, words), points) in lines.iter_mut().zip(deal.tranches).zip(points) {

@@ -1,6 +1,6 @@
 //! "The rating table": the weight that a rating gives.
 
-use crate::tranche::Points;
+use crate::points::Points;
 
 /// Percent for the codes 1 to 18: senior 1 year, senior 5 years, non-senior 1 year, non-senior 5 years.
 const LONG_TERM: [[f64; 4]; 18] = [

@@ -1,8 +1,10 @@
 //! "The deal sheet" and "Refusals": reading the words in order and refusing the first bad one.
 
 use crate::pool::{Pool, Row};
-use crate::Refusal;
 use std::ops::RangeInclusive;
+
+/// A refusal: its number and its place.
+pub type Refusal = (u64, u64);
 
 /// Words of a tranche's row.
 pub const TRANCHE_WORDS: usize = 7;

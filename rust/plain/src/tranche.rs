@@ -1,18 +1,14 @@
-//! "Points and pool charge", "Which approach, then floor, then cap" and "The formula and its series", tranche by tranche.
+//! "Which approach, then floor, then cap" and "The formula and its series", tranche by tranche.
 
+use crate::points::Points;
 use crate::rating;
-use crate::sheet::{Deal, Tranche, TRANCHE_WORDS};
-use crate::LINE_WORDS;
+use crate::sheet::{Deal, Tranche};
+
+/// Result words for each tranche: approach, A, D, weight, risk-weighted amount, capital.
+pub const LINE_WORDS: usize = 6;
 
 /// 1250%, in hundredths of a percent.
 const FULL: f64 = 125_000.0;
-
-/// Where a tranche attaches and detaches, in millionths of the pool.
-#[derive(Clone, Copy, Default)]
-pub struct Points {
-    pub attachment: f64,
-    pub detachment: f64,
-}
 
 /// The approaches with their result words.
 #[derive(Clone, Copy, PartialEq)]
@@ -20,22 +16,6 @@ pub enum Approach {
     Fallback = 0,
     SecErba = 1,
     SecSa = 2,
-}
-
-/// Works out the points of each tranche, one class at a time from the senior class down. Each class detaches where the
-/// class above it attaches.
-pub fn place(tranches: &[[u64; TRANCHE_WORDS]], nominal: u64, mut points: &mut [Points]) {
-    let mut below = nominal;
-    let mut detachment = 1e6;
-    for class in tranches.chunk_by(|one, next| one[1] == next[1]) {
-        let amount = class.iter().map(|words| words[0]).sum();
-        below = below.saturating_sub(amount);
-        let attachment = (below as f64 * 1e6 / nominal as f64).floor();
-        let of_class;
-        (of_class, points) = points.split_at_mut(class.len());
-        of_class.fill(Points { attachment, detachment });
-        detachment = attachment;
-    }
 }
 
 /// What all tranches of a deal share.

@@ -5,25 +5,20 @@ use tranche_weights::{
     Facts, LongTerm, Months, PoolAmount, RiskWeight, Row, SheetBuilder, Status, Tranche, TrancheAmount,
 };
 
-/// Ends with an error where document 01 does not admit a value, or where the sheet is refused.
+/// Ends with an error where a value is outside its limits, or where the sheet is refused.
 fn main() -> Result<(), Box<dyn Error>> {
     let loan = |amount, percent| -> Result<Row, Box<dyn Error>> {
         let amount = PoolAmount::new(amount)?;
-        let risk_weight = RiskWeight::new(percent)?;
-        Ok(Row {
-            exposure: amount,
-            nominal: amount,
-            risk_weight,
-        })
+        Ok(Row::new(amount, amount, RiskWeight::new(percent)?))
     };
     let months = Months::new(60)?;
     let senior = Tranche::new(TrancheAmount::new(850_000)?, months, 500_000)?;
     let junior = Tranche::new(TrancheAmount::new(150_000)?, months, 20_000)?;
 
-    let mut builder = SheetBuilder::ordinary(Facts {
-        due_diligence_held: true,
-        pool_composition_known: true,
-    });
+    let facts = Facts::new()
+        .with_due_diligence_held(true)
+        .with_pool_composition_known(true);
+    let mut builder = SheetBuilder::ordinary(facts);
     builder
         .row(loan(900_000, 100)?, Status::Paying)?
         .row(loan(100_000, 50)?, Status::Delinquent)?
@@ -33,7 +28,7 @@ fn main() -> Result<(), Box<dyn Error>> {
     let deal = builder.build()?.weigh()?;
     println!("pool charge {} millionths", deal.charge);
     for line in &deal.lines {
-        println!("{:?}: weight {}, capital {}", line.approach, line.weight, line.capital);
+        println!("{}: weight {}, capital {}", line.approach, line.weight, line.capital);
     }
     println!("capital {}", deal.total_capital());
     Ok(())

@@ -1,7 +1,12 @@
 //! A weighed deal and its lines (document 01, "The deal sheet", the results).
 
+use std::fmt;
+
+use crate::limits::LINE_WORDS;
+
 /// A weighed deal.
 #[derive(Debug, Clone, PartialEq, Eq, Hash)]
+#[non_exhaustive]
 pub struct Deal {
     /// The pool charge, in millionths: 80,000 is 8%.
     pub charge: u64,
@@ -10,6 +15,11 @@ pub struct Deal {
 }
 
 impl Deal {
+    /// The deal of this charge and these lines.
+    pub(crate) const fn new(charge: u64, lines: Vec<Line>) -> Deal {
+        Deal { charge, lines }
+    }
+
     /// The sum of the lines' risk-weighted amounts, in whole currency units. It is wide enough for lines of any
     /// amounts.
     pub fn total_risk_weighted_amount(&self) -> u128 {
@@ -27,17 +37,20 @@ impl Deal {
 
 /// The line of a tranche.
 #[derive(Debug, Clone, Copy, PartialEq, Eq, Hash)]
+#[non_exhaustive]
 pub struct Line {
     /// The approach that gave the weight.
     pub approach: Approach,
-    /// The attachment point A, in millionths of the pool's nominal amount, rounded down.
+    /// The attachment point A: the share of the pool's nominal amount that bears losses before this tranche does, in
+    /// millionths, rounded down.
     pub attachment: u64,
-    /// The detachment point D, in millionths of the pool's nominal amount, rounded down.
+    /// The detachment point D: the share of the pool's nominal amount at whose loss nothing of this tranche is left, in
+    /// millionths, rounded down.
     pub detachment: u64,
     /// The risk weight after floor and cap, in hundredths of a percent: 125,000 is 1250%.
     ///
-    /// Under the formula (SEC-SA), the raw weight before floor and cap is no lower than the exact value and less than
-    /// 2 above it.
+    /// Under the formula (SEC-SA), the weight before floor and cap is no lower than the formula's exact value and less
+    /// than 2 above it.
     pub weight: u64,
     /// The risk-weighted amount of what is held, in whole currency units, rounded up.
     pub risk_weighted_amount: u64,
@@ -47,9 +60,10 @@ pub struct Line {
 
 impl Line {
     /// The line that six result words state.
-    pub(crate) fn of(&[approach, attachment, detachment, weight, risk_weighted_amount, capital]: &[u64; 6]) -> Line {
+    pub(crate) fn of(words: &[u64; LINE_WORDS]) -> Line {
+        let &[approach, attachment, detachment, weight, risk_weighted_amount, capital] = words;
         Line {
-            approach: Approach::of(approach),
+            approach: approach.into(),
             attachment,
             detachment,
             weight,
@@ -59,8 +73,9 @@ impl Line {
     }
 }
 
-/// The approach that gave a tranche its weight (document 01, "Which approach, then floor, then cap").
+/// The approach that gave a tranche its weight.
 #[derive(Debug, Clone, Copy, PartialEq, Eq, Hash)]
+#[non_exhaustive]
 pub enum Approach {
     /// 0: the fallback of 1250%.
     Fallback,
@@ -68,19 +83,43 @@ pub enum Approach {
     SecErba,
     /// 2: SEC-SA, the formula.
     SecSa,
-    /// A word that document 01 does not list. The library never gives one; one would mean that another archive was
-    /// linked in its place. The word is kept here, so that nothing false is said of it.
+    /// A word that is not listed. The library never gives one; one would mean that another archive was linked in its
+    /// place. The word is kept here, so that nothing false is said of it.
     Unlisted(u64),
 }
 
 impl Approach {
+    /// The result word that states the approach.
+    pub const fn word(self) -> u64 {
+        match self {
+            Approach::Fallback => 0,
+            Approach::SecErba => 1,
+            Approach::SecSa => 2,
+            Approach::Unlisted(word) => word,
+        }
+    }
+}
+
+impl From<u64> for Approach {
     /// The approach that a result word states.
-    const fn of(word: u64) -> Approach {
+    fn from(word: u64) -> Approach {
         match word {
             0 => Approach::Fallback,
             1 => Approach::SecErba,
             2 => Approach::SecSa,
             other => Approach::Unlisted(other),
+        }
+    }
+}
+
+impl fmt::Display for Approach {
+    /// Prints the approach as the standard names it.
+    fn fmt(&self, f: &mut fmt::Formatter<'_>) -> fmt::Result {
+        match self {
+            Approach::Fallback => f.pad("fallback"),
+            Approach::SecErba => f.pad("SEC-ERBA"),
+            Approach::SecSa => f.pad("SEC-SA"),
+            Approach::Unlisted(word) => f.pad(&format!("unlisted approach {word}")),
         }
     }
 }
@@ -93,16 +132,22 @@ mod tests {
     #[test]
     fn an_unlisted_approach_is_kept() {
         assert_eq!(Line::of(&[3, 0, 0, 0, 0, 0]).approach, Approach::Unlisted(3));
+        assert_eq!(Approach::Unlisted(3).to_string(), "unlisted approach 3");
+    }
+
+    /// Each word states the approach that gives it back.
+    #[test]
+    fn approaches_keep_their_words() {
+        assert!([0, 1, 2, 3, u64::MAX]
+            .iter()
+            .all(|&word| Approach::from(word).word() == word));
     }
 
     /// The totals of lines of any amounts are exact.
     #[test]
     fn totals_are_wide_enough() {
         let line = Line::of(&[0, 0, 0, 0, u64::MAX, u64::MAX - 1]);
-        let deal = Deal {
-            charge: 0,
-            lines: vec![line; 3],
-        };
+        let deal = Deal::new(0, vec![line; 3]);
         assert_eq!(deal.total_risk_weighted_amount(), 3 * u128::from(u64::MAX));
         assert_eq!(deal.total_capital(), 3 * u128::from(u64::MAX - 1));
     }

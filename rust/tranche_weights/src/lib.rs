@@ -1,37 +1,38 @@
-//! Risk weights of securitisation tranches: a safe crate over the static library `libtranche_weights.a`, whose code is
-//! proved to follow the scope paper (document 01).
+//! Risk weights of securitisation tranches under the Basel framework (its chapters CRE40 to CRE44): a safe crate over
+//! the static library `libtranche_weights.a`, whose code is proved. The repository's README says what of the standard
+//! is covered, what is proved and what is assumed.
 //!
-//! A deal goes in as a sheet, and one line per tranche comes out, or one refusal with its number and place. There are
-//! two ways in:
+//! A deal goes in as a sheet, a list of numbers, and one line per tranche comes out, or one refusal with its number and
+//! place. There are two ways in:
 //!
-//! - [`SheetBuilder`] takes values that document 01 admits, and no others; the [`Sheet`] that it builds is weighed to a
-//!   [`Deal`]. Every sheet of an SA pool whose words document 01 admits can be built.
+//! - [`SheetBuilder`] takes values within their limits, and no others; the [`Sheet`] that it builds is weighed to a
+//!   [`Deal`]. Every sheet that the library accepts can be built.
 //! - [`weigh_words`], [`weigh_file`], [`report`] and [`report_into`] take any words or any bytes; [`reply_to_words`]
-//!   gives the four numbers of the C function.
+//!   and [`reply_to_file`] give the four numbers of the C functions.
 //!
 //! # A deal from end to end
 //!
-//! This is the first of document 01's checked deals. Amounts are in whole currency units, points and charge in
-//! millionths, weights in hundredths of a percent.
+//! Amounts are in whole units of one currency, points and charge in millionths of the pool, weights in hundredths of a
+//! percent.
 //!
 //! ```
 //! use std::error::Error;
 //! use tranche_weights::{
-//!     Approach, Facts, Line, LongTerm, Months, PoolAmount, RiskWeight, Row, SheetBuilder, Status, Tranche,
-//!     TrancheAmount,
+//!     Approach, Facts, LongTerm, Months, PoolAmount, RiskWeight, Row, SheetBuilder, Status, Tranche, TrancheAmount,
 //! };
 //!
 //! fn main() -> Result<(), Box<dyn Error>> {
 //!     let loans = |amount| -> Result<Row, Box<dyn Error>> {
 //!         let amount = PoolAmount::new(amount)?;
-//!         Ok(Row { exposure: amount, nominal: amount, risk_weight: RiskWeight::new(100)? })
+//!         Ok(Row::new(amount, amount, RiskWeight::new(100)?))
 //!     };
 //!     let six_years = Months::new(72)?;
 //!     let senior = Tranche::new(TrancheAmount::new(800)?, six_years, 800)?;
 //!     let middle = Tranche::new(TrancheAmount::new(150)?, six_years, 100)?;
 //!     let junior = Tranche::new(TrancheAmount::new(50)?, six_years, 50)?;
 //!
-//!     let mut builder = SheetBuilder::ordinary(Facts { due_diligence_held: true, pool_composition_known: true });
+//!     let facts = Facts::new().with_due_diligence_held(true).with_pool_composition_known(true);
+//!     let mut builder = SheetBuilder::ordinary(facts);
 //!     builder
 //!         .row(loans(950)?, Status::Paying)?
 //!         .row(loans(50)?, Status::Delinquent)?
@@ -40,47 +41,79 @@
 //!         .next_class(junior)?;
 //!     let deal = builder.build()?.weigh()?;
 //!
-//!     let line = |approach, [attachment, detachment, weight, risk_weighted_amount, capital]: [u64; 5]| {
-//!         Line { approach, attachment, detachment, weight, risk_weighted_amount, capital }
-//!     };
 //!     assert_eq!(deal.charge, 101_000);
-//!     assert_eq!(
-//!         deal.lines,
-//!         [
-//!             line(Approach::SecErba, [200_000, 1_000_000, 2_000, 160, 13]),
-//!             line(Approach::SecErba, [50_000, 200_000, 26_350, 264, 22]),
-//!             line(Approach::SecSa, [0, 50_000, 125_000, 625, 50]),
-//!         ]
-//!     );
+//!     let [senior, middle, junior] = deal.lines[..] else { panic!("a line for each tranche") };
+//!     assert_eq!((senior.approach, senior.weight, senior.capital), (Approach::SecErba, 2_000, 13));
+//!     assert_eq!((middle.approach, middle.weight, middle.capital), (Approach::SecErba, 26_350, 22));
+//!     assert_eq!((junior.approach, junior.weight, junior.capital), (Approach::SecSa, 125_000, 50));
+//!     assert_eq!((middle.attachment, middle.detachment), (50_000, 200_000));
 //!     assert_eq!((deal.total_risk_weighted_amount(), deal.total_capital()), (1_049, 85));
 //!     Ok(())
 //! }
 //! ```
 //!
+//! # The words of a sheet
+//!
+//! A word is an unsigned number of 64 bits; its place is its position in the sheet, counted from 0. In this order:
+//!
+//! - 4, then four facts: the pool kind (0, a pool under the standardised approach; 1 and 2, a pool under the IRB
+//!   approach in whole or in part, are refused), then re-securitisation, due diligence held, pool composition known,
+//!   each 0 for no and 1 for yes;
+//! - the number of pool rows, 1 to 1,000, then for each: exposure amount and nominal amount (1 to 10^10), risk weight
+//!   in percent (0 to 1250), status (0 paying, 1 delinquent, 2 not known; 3, a securitisation tranche, in a
+//!   re-securitisation and only there);
+//! - the number of tranches, 1 to 32, then for each: amount (1 to 10^13), class, final legal maturity in months (1 to
+//!   1200), amount held (0 to the amount), three rating codes (0 for none, else [`Rating::code`]).
+//!
+//! The class is the rank: class 1 is the senior class, which bears losses last. Tranches stand from senior to junior:
+//! the first has class 1, each next the class of the one before it, with which it ranks pari passu, or one more.
+//!
 //! # Linking
 //!
 //! The library is for x86-64 Linux only. `rt staticlib tranche_weights`, run from the repository's root, makes
 //! `target/staticlib/libtranche_weights.a`, and the crate links it from there. The environment variable
-//! `TRANCHE_WEIGHTS_LIB` names another folder; a relative one counts from the crate's folder.
+//! `TRANCHE_WEIGHTS_LIB` names another folder; a relative one counts from the crate's folder. Without the archive,
+//! checking and documenting work, with a warning; building does not.
+//!
+//! The crate calls version 1 of the library's interface. Every symbol of the archive carries its version, as in
+//! `tranche_weights_weigh_v1`, so that an archive of another version fails to link.
+//!
+//! The library keeps no state, so threads can call it at the same time. Of the calling thread's stack 64 KB are enough.
+//!
+//! # Later versions
+//!
+//! Types that are marked non-exhaustive get cases and fields in later versions, and lines get words. A program that
+//! makes facts and rows by `new` and `with_…`, has an arm for all other cases in each `match`, and counts the words
+//! that it lends by [`LINE_WORDS`] and [`RESULT_WORDS`], goes on with those too.
 
 #![deny(missing_docs)]
 #![deny(unsafe_code)]
 
 mod calls;
 mod deal;
+mod facts;
 mod library;
 mod limits;
+mod numbers;
 mod pool;
+mod rating;
 mod refusal;
+mod reply;
 mod sheet;
 mod sheet_error;
+mod text_room_error;
 mod tranche;
 
-pub use calls::{reply_to_words, report, report_into, weigh_file, weigh_words, Reply, Weighed, TEXT_ROOM};
+pub use calls::{reply_to_file, reply_to_words, report, report_into, weigh_file, weigh_words};
 pub use deal::{Approach, Deal, Line};
-pub use limits::{Months, PoolAmount, RiskWeight, TrancheAmount};
+pub use facts::Facts;
+pub use limits::{LINE_WORDS, MOST_ROWS, MOST_TRANCHES, RESULT_WORDS, TEXT_ROOM};
+pub use numbers::{Months, PoolAmount, RiskWeight, TrancheAmount};
 pub use pool::{Row, Status};
+pub use rating::{LongTerm, Rating, ShortTerm};
 pub use refusal::{Reason, Refusal};
-pub use sheet::{Facts, Ordinary, Resecuritisation, Sheet, SheetBuilder, MOST_ROWS, MOST_TRANCHES};
+pub use reply::{Reply, Weighed};
+pub use sheet::{Ordinary, Resecuritisation, Sheet, SheetBuilder};
 pub use sheet_error::SheetError;
-pub use tranche::{LongTerm, Rating, ShortTerm, Tranche};
+pub use text_room_error::TextRoomError;
+pub use tranche::Tranche;

@@ -1,11 +1,12 @@
-//! The two C functions of the static library, and the crate's only unsafe code.
+//! The three C functions of the static library, version 1, and the crate's only unsafe code.
 
 #![allow(unsafe_code)]
 
-use crate::Reply;
+use crate::reply::Reply;
 
 extern "C" {
     /// Weighs the sheet; returns the refusal's number, 0 where weighed.
+    #[link_name = "tranche_weights_weigh_v1"]
     fn tranche_weights_weigh(
         sheet: *const u64,
         words: usize,
@@ -16,7 +17,20 @@ extern "C" {
         charge: *mut u64,
     ) -> u64;
 
+    /// Weighs the sheet that the file's bytes state; returns the refusal's number, 0 where weighed.
+    #[link_name = "tranche_weights_weigh_file_v1"]
+    fn tranche_weights_weigh_file(
+        file: *const u8,
+        size: usize,
+        results: *mut u64,
+        room: usize,
+        place: *mut u64,
+        count: *mut u64,
+        charge: *mut u64,
+    ) -> u64;
+
     /// Writes the report's text where it fits the room, else nothing; returns the text's length.
+    #[link_name = "tranche_weights_report_v1"]
     fn tranche_weights_report(file: *const u8, size: usize, text: *mut u8, room: usize) -> u64;
 }
 
@@ -24,26 +38,11 @@ extern "C" {
 /// leaves unwritten shows.
 const UNWRITTEN: u64 = u64::MAX;
 
-/// Lends the library a sheet and room for the results, and hands back its answer as it is.
-pub(crate) fn weigh(sheet: &[u64], results: &mut [u64]) -> Reply {
+/// Lends three separate words for place, count and charge to a call that returns the number, and puts the four
+/// together.
+fn reply(call: impl FnOnce(&mut u64, &mut u64, &mut u64) -> u64) -> Reply {
     let [mut place, mut count, mut charge] = [UNWRITTEN; 3];
-    // SAFETY: the declaration is the library's own, and `size_t` is `usize` on x86-64 Linux, the only target that
-    // build.rs lets through. The pointers of both slices are aligned and valid for the lengths given with them, the
-    // sheet's for reading, the results' for reading and writing (of an empty slice no word is touched). A shared and
-    // a mutable borrow do not overlap, and the other three pointers are to separate local words. The library touches
-    // nothing else, has no data of its own that it writes (so threads can call it at once), keeps no pointer after its
-    // return and does not unwind.
-    let number = unsafe {
-        tranche_weights_weigh(
-            sheet.as_ptr(),
-            sheet.len(),
-            results.as_mut_ptr(),
-            results.len(),
-            &mut place,
-            &mut count,
-            &mut charge,
-        )
-    };
+    let number = call(&mut place, &mut count, &mut charge);
     Reply {
         number,
         place,
@@ -52,9 +51,35 @@ pub(crate) fn weigh(sheet: &[u64], results: &mut [u64]) -> Reply {
     }
 }
 
+/// Lends the library a sheet and room for the results, and hands back its answer as it is.
+pub(crate) fn weigh(sheet: &[u64], results: &mut [u64]) -> Reply {
+    // SAFETY: the declaration is the library's own, and `size_t` is `usize` on x86-64 Linux, the only target that
+    // build.rs lets through. The pointers of both slices are aligned and valid for the lengths given with them, the
+    // sheet's for reading, the results' for reading and writing (of an empty slice no word is touched). A shared and
+    // a mutable borrow do not overlap, and the other three pointers are from mutable borrows of separate words. The
+    // library touches nothing else, has no data of its own that it writes (so threads can call it at once), keeps no
+    // pointer after its return and does not unwind. The stack that it takes no type can promise: the crate's
+    // documentation says how much is enough.
+    reply(|place, count, charge| unsafe {
+        let (sheet, words) = (sheet.as_ptr(), sheet.len());
+        let (results, room) = (results.as_mut_ptr(), results.len());
+        tranche_weights_weigh(sheet, words, results, room, place, count, charge)
+    })
+}
+
+/// Lends the library a file's bytes and room for the results, and hands back its answer as it is.
+pub(crate) fn weigh_file(file: &[u8], results: &mut [u64]) -> Reply {
+    // SAFETY: as for `weigh`, with the file's bytes in place of the sheet's words.
+    reply(|place, count, charge| unsafe {
+        let (file, size) = (file.as_ptr(), file.len());
+        let (results, room) = (results.as_mut_ptr(), results.len());
+        tranche_weights_weigh_file(file, size, results, room, place, count, charge)
+    })
+}
+
 /// Lends the library a file's bytes and room for the text, and hands back the text's length as it is.
 pub(crate) fn report(file: &[u8], text: &mut [u8]) -> u64 {
-    // SAFETY: as above: two slices that do not overlap, each pointer valid for the length given with it, the file's
-    // for reading, the text's for reading and writing, and nothing else is touched or kept.
+    // SAFETY: as for `weigh`: two slices that do not overlap, each pointer valid for the length given with it, the
+    // file's for reading, the text's for reading and writing, and nothing else is touched or kept.
     unsafe { tranche_weights_report(file.as_ptr(), file.len(), text.as_mut_ptr(), text.len()) }
 }

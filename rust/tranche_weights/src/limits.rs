@@ -1,52 +1,29 @@
-//! Numbers that hold only what document 01 admits under "The deal sheet".
+//! The limits of a sheet's counts and numbers, and the sizes of what a caller lends (document 01, "The deal sheet").
 
-use crate::SheetError;
+/// The most rows that a pool has; the fewest is 1.
+pub const MOST_ROWS: usize = 1000;
 
-/// Makes a type of whole numbers within limits; a value outside them is answered with the error of the same name.
-macro_rules! limited {
-    ($(#[$doc:meta])* $name:ident, $lowest:literal, $highest:literal) => {
-        $(#[$doc])*
-        #[derive(Debug, Clone, Copy, PartialEq, Eq, PartialOrd, Ord, Hash)]
-        pub struct $name(u64);
+/// The most tranches that a deal has; the fewest is 1.
+pub const MOST_TRANCHES: usize = 32;
 
-        impl $name {
-            /// The lowest value that document 01 admits.
-            pub const LOWEST: u64 = $lowest;
-            /// The highest value that document 01 admits.
-            pub const HIGHEST: u64 = $highest;
+/// The result words of one tranche, in the order of the fields of [`Line`](crate::Line).
+pub const LINE_WORDS: usize = 6;
 
-            /// Takes a value from `LOWEST` to `HIGHEST`; the error holds any other.
-            pub const fn new(value: u64) -> Result<Self, SheetError> {
-                match value {
-                    Self::LOWEST..=Self::HIGHEST => Ok(Self(value)),
-                    _ => Err(SheetError::$name(value)),
-                }
-            }
+/// Result words that are enough for every sheet: the lines of the most tranches.
+pub const RESULT_WORDS: usize = MOST_TRANCHES * LINE_WORDS;
 
-            /// The value, as it stands in the sheet.
-            pub const fn get(self) -> u64 {
-                self.0
-            }
-        }
-    };
-}
+/// Bytes of a report's text that are always enough: 32 lines of seven numbers, the first and the last line, with every
+/// number of 20 digits.
+pub const TEXT_ROOM: usize = 4810;
 
-limited! {
-    /// Exposure amount or nominal amount of a pool row, in whole currency units: 1 to 10^10.
-    PoolAmount, 1, 10_000_000_000
-}
+/// The lowest and the highest exposure amount or nominal amount of a pool row.
+pub(crate) const POOL_AMOUNT: (u64, u64) = (1, 10_000_000_000);
 
-limited! {
-    /// Risk weight of a pool row, in whole percent: 0 to 1250.
-    RiskWeight, 0, 1250
-}
+/// The lowest and the highest risk weight of a pool row, in percent.
+pub(crate) const RISK_WEIGHT: (u64, u64) = (0, 1250);
 
-limited! {
-    /// Amount of a tranche, in whole currency units: 1 to 10^13.
-    TrancheAmount, 1, 10_000_000_000_000
-}
+/// The lowest and the highest amount of a tranche.
+pub(crate) const TRANCHE_AMOUNT: (u64, u64) = (1, 10_000_000_000_000);
 
-limited! {
-    /// Final legal maturity of a tranche, in months: 1 to 1200.
-    Months, 1, 1200
-}
+/// The lowest and the highest maturity of a tranche, in months.
+pub(crate) const MONTHS: (u64, u64) = (1, 1200);

@@ -1,12 +1,13 @@
 //! The pool's rows (document 01, "The deal sheet").
 
-use crate::{PoolAmount, RiskWeight};
+use crate::numbers::{PoolAmount, RiskWeight};
 
 /// A row of the pool, without its status.
 ///
 /// The status is given where the row is added: [`Status`] in an ordinary pool; in a re-securitisation there is none to
 /// choose, since each row is a securitisation tranche.
 #[derive(Debug, Clone, Copy, PartialEq, Eq, Hash)]
+#[non_exhaustive]
 pub struct Row {
     /// Exposure amount, in whole currency units.
     pub exposure: PoolAmount,
@@ -16,8 +17,25 @@ pub struct Row {
     pub risk_weight: RiskWeight,
 }
 
+impl Row {
+    /// A row of these figures, in the order of the sheet.
+    pub const fn new(exposure: PoolAmount, nominal: PoolAmount, risk_weight: RiskWeight) -> Row {
+        Row {
+            exposure,
+            nominal,
+            risk_weight,
+        }
+    }
+
+    /// The first three words of the row in the sheet; its status follows them.
+    pub(crate) const fn words(&self) -> [u64; 3] {
+        [self.exposure.get(), self.nominal.get(), self.risk_weight.get()]
+    }
+}
+
 /// The status of a row in an ordinary pool.
 #[derive(Debug, Clone, Copy, PartialEq, Eq, Hash)]
+#[non_exhaustive]
 pub enum Status {
     /// Known, and not delinquent.
     Paying = 0,

@@ -3,20 +3,21 @@
 use std::error::Error;
 use std::fmt;
 
-/// Why a sheet is refused: one case for each of document 01's 15 numbers.
+/// Why a sheet is refused: one case for each refusal number.
 #[derive(Debug, Clone, Copy, PartialEq, Eq, Hash)]
+#[non_exhaustive]
 pub enum Reason {
-    /// 1: a needed word is missing; the place is the sheet's length.
+    /// 1: the sheet ends before a word that it needs; the place is the sheet's length.
     MissingWord,
     /// 2: a count is outside its limits.
     Count,
-    /// 3: words follow the last section; the place of the first.
+    /// 3: words follow the last tranche; the place of the first.
     WordsFollow,
-    /// 4: a fact outside its codes.
+    /// 4: a fact is none of its codes.
     Fact,
-    /// 5: a pool amount outside 1 to 10^10.
+    /// 5: an exposure or nominal amount outside 1 to 10^10.
     PoolAmount,
-    /// 6: a risk weight above 1250.
+    /// 6: a risk weight above 1250 percent.
     RiskWeight,
     /// 7: a status that the deal can't have.
     Status,
@@ -24,77 +25,93 @@ pub enum Reason {
     TrancheAmount,
     /// 9: a class out of order.
     Class,
-    /// 10: a maturity outside 1 to 1200.
+    /// 10: a maturity outside 1 to 1200 months.
     Maturity,
-    /// 11: a rating code not listed.
+    /// 11: a rating code that is not listed.
     Rating,
-    /// 12: an IRB or mixed pool.
+    /// 12: a pool under the internal ratings-based approach (IRB), in whole or in part.
     PoolKind,
-    /// 13: SEC-SA applies, A equals D, and D is above the pool charge; the place of the tranche amount.
+    /// 13: a tranche under the formula (SEC-SA) whose attachment and detachment points are equal, above the pool
+    /// charge; the place of its amount.
     ThinTranche,
-    /// 14: results shorter than six words per tranche; place 0.
+    /// 14: fewer result words lent than the tranches' lines take; place 0.
     Room,
-    /// 15: a file's length is no multiple of 8 or over 33,848 bytes; place 0.
+    /// 15: a file's length is no multiple of 8, or above 33,848 bytes; place 0.
     FileLength,
-    /// A number that document 01 does not list. The library never gives one; one would mean that another archive was
-    /// linked in its place. The number is kept here, so that nothing false is said of it.
+    /// A number that is not listed. The library never gives one; one would mean that another archive was linked in its
+    /// place. The number is kept here, so that nothing false is said of it.
     Unlisted(u64),
 }
 
-/// Every number with its reason and with what is wrong, in the words of the repository's README ("Refusals").
-const LISTED: [(u64, Reason, &str); 15] = [
+impl Reason {
+    /// The refusal's number.
+    pub const fn number(self) -> u64 {
+        match self {
+            Reason::MissingWord => 1,
+            Reason::Count => 2,
+            Reason::WordsFollow => 3,
+            Reason::Fact => 4,
+            Reason::PoolAmount => 5,
+            Reason::RiskWeight => 6,
+            Reason::Status => 7,
+            Reason::TrancheAmount => 8,
+            Reason::Class => 9,
+            Reason::Maturity => 10,
+            Reason::Rating => 11,
+            Reason::PoolKind => 12,
+            Reason::ThinTranche => 13,
+            Reason::Room => 14,
+            Reason::FileLength => 15,
+            Reason::Unlisted(number) => number,
+        }
+    }
+}
+
+impl fmt::Display for Reason {
+    /// Says what is wrong.
+    fn fmt(&self, f: &mut fmt::Formatter<'_>) -> fmt::Result {
+        let listed = LISTED.iter().find(|(reason, _)| reason == self);
+        f.pad(listed.map_or(UNLISTED, |(_, wrong)| *wrong))
+    }
+}
+
+/// Every listed reason with what is wrong, in the words of the repository's README ("Refusals").
+const LISTED: [(Reason, &str); 15] = [
+    (Reason::MissingWord, "the sheet ends too early; the place is its length"),
     (
-        1,
-        Reason::MissingWord,
-        "the sheet ends too early; the place is its length",
-    ),
-    (
-        2,
         Reason::Count,
         "a count is outside its limits: 4 facts, 1 to 1,000 pool rows, 1 to 32 tranches",
     ),
     (
-        3,
         Reason::WordsFollow,
         "words follow the last tranche; the place of the first",
     ),
-    (4, Reason::Fact, "a fact is none of its codes"),
+    (Reason::Fact, "a fact is none of its codes"),
+    (Reason::PoolAmount, "an exposure or nominal amount is 0 or above 10^10"),
+    (Reason::RiskWeight, "a risk weight is above 1250"),
+    (Reason::Status, "a status that the deal can't have"),
     (
-        5,
-        Reason::PoolAmount,
-        "an exposure or nominal amount is 0 or above 10^10",
-    ),
-    (6, Reason::RiskWeight, "a risk weight is above 1250"),
-    (7, Reason::Status, "a status that the deal can't have"),
-    (
-        8,
         Reason::TrancheAmount,
         "a tranche amount is 0 or above 10^13, or more is held than there is",
     ),
-    (9, Reason::Class, "a class out of order"),
-    (10, Reason::Maturity, "a maturity outside 1 to 1200 months"),
-    (11, Reason::Rating, "a rating that is not in the list"),
-    (12, Reason::PoolKind, "an IRB or mixed pool"),
+    (Reason::Class, "a class out of order"),
+    (Reason::Maturity, "a maturity outside 1 to 1200 months"),
+    (Reason::Rating, "a rating that is not in the list"),
+    (Reason::PoolKind, "an IRB or mixed pool"),
     (
-        13,
         Reason::ThinTranche,
         "a tranche under the formula (unrated, or any in a re-securitisation) whose class is so thin that its \
          attachment and detachment points are equal, above the pool charge; the place of its amount",
     ),
+    (Reason::Room, "the calling program lent too few result words; place 0"),
     (
-        14,
-        Reason::Room,
-        "the calling program lent too few result words; place 0",
-    ),
-    (
-        15,
         Reason::FileLength,
         "the file's length is no multiple of 8, or above 33,848 bytes; place 0",
     ),
 ];
 
 /// What is wrong where the number is none of document 01's.
-const UNLISTED: &str = "a number that document 01 does not list; another archive is linked in the library's place";
+const UNLISTED: &str = "a number that is not listed; another archive is linked in the library's place";
 
 /// A refusal: its number, its place in the sheet, counted in words from 0, and its reason.
 ///
@@ -111,36 +128,28 @@ impl Refusal {
         Refusal { number, place }
     }
 
-    /// The refusal of a file whose length no sheet can have.
-    pub(crate) const FILE_LENGTH: Refusal = Refusal::new(15, 0);
-
-    /// The refusal's number, 1 to 15.
+    /// The refusal's number, as [`Reason`] lists them.
     pub const fn number(&self) -> u64 {
         self.number
     }
 
-    /// The place of the word that decided, counted from 0; where the number's own rule sets another, that one.
+    /// The place of the first word that is wrong, counted from 0. Where [`Reason`] names another place for the number,
+    /// it is that one.
     pub const fn place(&self) -> u64 {
         self.place
     }
 
-    /// The reason that the number stands for. A number that is none of document 01's gives [`Reason::Unlisted`].
+    /// The reason that the number stands for. A number that is not listed gives [`Reason::Unlisted`].
     pub fn reason(&self) -> Reason {
-        self.listed()
-            .map_or(Reason::Unlisted(self.number), |(_, reason, _)| *reason)
-    }
-
-    /// The number's entry in the list, where it has one.
-    fn listed(&self) -> Option<&'static (u64, Reason, &'static str)> {
-        LISTED.iter().find(|(number, _, _)| *number == self.number)
+        let listed = LISTED.iter().find(|(reason, _)| reason.number() == self.number);
+        listed.map_or(Reason::Unlisted(self.number), |(reason, _)| *reason)
     }
 }
 
 impl fmt::Display for Refusal {
     /// Prints number and place as the report does, then what is wrong.
     fn fmt(&self, f: &mut fmt::Formatter<'_>) -> fmt::Result {
-        let wrong = self.listed().map_or(UNLISTED, |(_, _, wrong)| *wrong);
-        write!(f, "refused {} at {}: {wrong}", self.number, self.place)
+        write!(f, "refused {} at {}: {}", self.number, self.place, self.reason())
     }
 }
 
@@ -169,27 +178,29 @@ mod tests {
     /// The README's table has just these numbers, each with just this text.
     #[test]
     fn the_readme_says_the_same() {
-        assert_eq!(readme_table(), LISTED.map(|(number, _, wrong)| (number, wrong)));
+        assert_eq!(readme_table(), LISTED.map(|(reason, wrong)| (reason.number(), wrong)));
     }
 
     /// The list has the numbers 1 to 15 in order, and each gives its own reason.
     #[test]
     fn the_list_has_each_number_once() {
-        for ((number, reason, _), expected) in LISTED.iter().zip(1..) {
-            assert_eq!(*number, expected);
-            assert_eq!(Refusal::new(*number, 0).reason(), *reason);
+        for ((reason, wrong), number) in LISTED.iter().zip(1..) {
+            assert_eq!(reason.number(), number);
+            assert_eq!(Refusal::new(number, 0).reason(), *reason);
+            assert_eq!(reason.to_string(), *wrong);
         }
     }
 
-    /// A number that document 01 does not list is kept and said to be none of its.
+    /// A number that document 01 does not list is kept and said to be none that is listed.
     #[test]
     fn an_unlisted_number_is_kept() {
         for number in [0, 16, u64::MAX] {
             let refusal = Refusal::new(number, 3);
             assert_eq!(refusal.reason(), Reason::Unlisted(number));
+            assert_eq!(refusal.reason().number(), number);
             assert!(refusal
                 .to_string()
-                .starts_with(&format!("refused {number} at 3: a number that document 01 does not")));
+                .starts_with(&format!("refused {number} at 3: a number that is not listed; ")));
         }
     }
 }

@@ -3,22 +3,13 @@
 use std::marker::PhantomData;
 
 use crate::calls::weigh_sheet;
-use crate::{Deal, Refusal, Row, SheetError, Status, Tranche};
-
-/// The most rows that a pool has; the fewest is 1.
-pub const MOST_ROWS: usize = 1000;
-
-/// The most tranches that a deal has; the fewest is 1.
-pub const MOST_TRANCHES: usize = 32;
-
-/// What is said of the deal as a whole. The pool kind is always SA, the one kind that the calculator covers.
-#[derive(Debug, Clone, Copy, PartialEq, Eq, Hash)]
-pub struct Facts {
-    /// Due diligence is held. Without it every tranche gets the fallback of 1250%.
-    pub due_diligence_held: bool,
-    /// The pool's composition is known. Without it no tranche gets the senior cap.
-    pub pool_composition_known: bool,
-}
+use crate::deal::Deal;
+use crate::facts::Facts;
+use crate::limits::{MOST_ROWS, MOST_TRANCHES};
+use crate::pool::{Row, Status};
+use crate::refusal::Refusal;
+use crate::sheet_error::SheetError;
+use crate::tranche::Tranche;
 
 /// Marks the builder of an ordinary deal, whose rows have a [`Status`].
 #[derive(Debug, Clone, Copy, PartialEq, Eq, Hash)]
@@ -51,7 +42,11 @@ impl SheetBuilder<Ordinary> {
         Self::start(false, facts)
     }
 
-    /// Adds a row with its status; the error says that the pool is full.
+    /// Adds a row with its status.
+    ///
+    /// # Errors
+    ///
+    /// [`SheetError::TooManyRows`] where the pool is full.
     pub fn row(&mut self, row: Row, status: Status) -> Result<&mut Self, SheetError> {
         self.add_row(row, status as u64)
     }
@@ -63,7 +58,11 @@ impl SheetBuilder<Resecuritisation> {
         Self::start(true, facts)
     }
 
-    /// Adds a row, a securitisation tranche; the error says that the pool is full.
+    /// Adds a row, a securitisation tranche.
+    ///
+    /// # Errors
+    ///
+    /// [`SheetError::TooManyRows`] where the pool is full.
     pub fn row(&mut self, row: Row) -> Result<&mut Self, SheetError> {
         self.add_row(row, SECURITISATION_TRANCHE)
     }
@@ -92,19 +91,27 @@ impl<Kind> SheetBuilder<Kind> {
         if self.rows.len() == MOST_ROWS {
             return Err(SheetError::TooManyRows);
         }
-        self.rows
-            .push([row.exposure.get(), row.nominal.get(), row.risk_weight.get(), status]);
+        let [exposure, nominal, risk_weight] = row.words();
+        self.rows.push([exposure, nominal, risk_weight, status]);
         Ok(self)
     }
 
     /// Places a tranche in the next class: class 1, the senior class, for the first tranche; for any other, the class
-    /// that ranks just below the tranche placed before it. The error says that the deal is full.
+    /// that ranks just below the tranche placed before it.
+    ///
+    /// # Errors
+    ///
+    /// [`SheetError::TooManyTranches`] where the deal is full.
     pub fn next_class(&mut self, tranche: Tranche) -> Result<&mut Self, SheetError> {
         self.place(tranche, self.class + 1)
     }
 
-    /// Places a tranche in the class of the tranche placed before it, with which it ranks pari passu. The error says
-    /// that there is no tranche before it, or that the deal is full.
+    /// Places a tranche in the class of the tranche placed before it, with which it ranks pari passu.
+    ///
+    /// # Errors
+    ///
+    /// [`SheetError::NoTrancheBefore`] where no tranche was placed, [`SheetError::TooManyTranches`] where the deal is
+    /// full.
     pub fn same_class(&mut self, tranche: Tranche) -> Result<&mut Self, SheetError> {
         if self.class == 0 {
             return Err(SheetError::NoTrancheBefore);
@@ -122,7 +129,11 @@ impl<Kind> SheetBuilder<Kind> {
         Ok(self)
     }
 
-    /// Makes the sheet of all that was added; the error says that there is no row or no tranche.
+    /// Makes the sheet of all that was added.
+    ///
+    /// # Errors
+    ///
+    /// [`SheetError::NoRows`] or [`SheetError::NoTranches`] where there are none.
     pub fn build(&self) -> Result<Sheet, SheetError> {
         if self.rows.is_empty() {
             return Err(SheetError::NoRows);
@@ -143,7 +154,7 @@ fn section<const WORDS: usize>(rows: &[[u64; WORDS]]) -> Vec<u64> {
     words
 }
 
-/// The sheet of a deal, as [`SheetBuilder`] makes it: every word is one that document 01 admits.
+/// The sheet of a deal, as [`SheetBuilder`] makes it: every word is within its limits.
 #[derive(Debug, Clone, PartialEq, Eq, Hash)]
 pub struct Sheet {
     words: Vec<u64>,
@@ -162,6 +173,8 @@ impl Sheet {
 
     /// Weighs the deal.
     ///
+    /// # Errors
+    ///
     /// The one refusal that such a sheet can get is 13, [`Reason::ThinTranche`](crate::Reason::ThinTranche): that one
     /// depends on the whole deal, and no single word is at fault.
     ///
@@ -173,13 +186,14 @@ impl Sheet {
     ///
     /// # fn main() -> Result<(), SheetError> {
     /// let ten_billion = PoolAmount::new(10_000_000_000)?;
-    /// let loans = Row { exposure: ten_billion, nominal: ten_billion, risk_weight: RiskWeight::new(100)? };
+    /// let loans = Row::new(ten_billion, ten_billion, RiskWeight::new(100)?);
     /// let five_years = Months::new(60)?;
     /// let senior = Tranche::new(TrancheAmount::new(4_999_995_000)?, five_years, 0)?;
     /// // One unit of ten billion: both points round down to 500,000 millionths, above the pool charge of 80,000.
     /// let thin = Tranche::new(TrancheAmount::new(1)?, five_years, 1)?;
     ///
-    /// let mut deal = SheetBuilder::ordinary(Facts { due_diligence_held: true, pool_composition_known: true });
+    /// let facts = Facts::new().with_due_diligence_held(true).with_pool_composition_known(true);
+    /// let mut deal = SheetBuilder::ordinary(facts);
     /// deal.row(loans, Status::Paying)?.next_class(senior)?.next_class(thin)?;
     /// let refusal = deal.build()?.weigh().unwrap_err();
     ///

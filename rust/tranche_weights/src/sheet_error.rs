@@ -3,12 +3,13 @@
 use std::error::Error;
 use std::fmt;
 
-use crate::{Months, PoolAmount, RiskWeight, TrancheAmount, MOST_ROWS, MOST_TRANCHES};
+use crate::limits::{self, MOST_ROWS, MOST_TRANCHES};
 
-/// Why a value, a tranche or a sheet can't be made: document 01 ("The deal sheet") does not admit it.
+/// Why a value, a tranche or a sheet can't be made.
 ///
-/// Each case names the refusal that it forestalls.
+/// Each case names the refusal that the library would answer with ([`Reason`](crate::Reason)).
 #[derive(Debug, Clone, Copy, PartialEq, Eq, Hash)]
+#[non_exhaustive]
 pub enum SheetError {
     /// A pool amount outside 1 to 10^10: the amount given (refusal 5).
     PoolAmount(u64),
@@ -21,10 +22,12 @@ pub enum SheetError {
         /// The amount held, as given.
         held: u64,
         /// The tranche's amount.
-        amount: TrancheAmount,
+        amount: u64,
     },
     /// A maturity outside 1 to 1200 months: the months given (refusal 10).
     Months(u64),
+    /// A rating code outside 1 to 18 and 21 to 24: the code given (refusal 11).
+    Rating(u64),
     /// A first tranche placed in the same class as the one before it: there is none (refusal 9).
     NoTrancheBefore,
     /// A pool without rows (refusal 2).
@@ -41,32 +44,19 @@ impl fmt::Display for SheetError {
     /// Says in one line what was given and what is admitted.
     fn fmt(&self, f: &mut fmt::Formatter<'_>) -> fmt::Result {
         match *self {
-            SheetError::PoolAmount(given) => {
-                outside(f, "a pool amount", given, PoolAmount::LOWEST, PoolAmount::HIGHEST)
-            }
-            SheetError::RiskWeight(given) => outside(
-                f,
-                "a risk weight in percent",
-                given,
-                RiskWeight::LOWEST,
-                RiskWeight::HIGHEST,
-            ),
-            SheetError::TrancheAmount(given) => outside(
-                f,
-                "a tranche amount",
-                given,
-                TrancheAmount::LOWEST,
-                TrancheAmount::HIGHEST,
-            ),
-            SheetError::HeldAboveAmount { held, amount } => outside(f, "an amount held", held, 0, amount.get()),
-            SheetError::Months(given) => outside(f, "a maturity in months", given, Months::LOWEST, Months::HIGHEST),
+            SheetError::PoolAmount(given) => outside(f, "a pool amount", given, limits::POOL_AMOUNT),
+            SheetError::RiskWeight(given) => outside(f, "a risk weight in percent", given, limits::RISK_WEIGHT),
+            SheetError::TrancheAmount(given) => outside(f, "a tranche amount", given, limits::TRANCHE_AMOUNT),
+            SheetError::HeldAboveAmount { held, amount } => outside(f, "an amount held", held, (0, amount)),
+            SheetError::Months(given) => outside(f, "a maturity in months", given, limits::MONTHS),
+            SheetError::Rating(given) => write!(f, "a rating code is 1 to 18 or 21 to 24, not {given}"),
             SheetError::NoTrancheBefore => {
                 write!(f, "the first tranche has no tranche before it to share a class with")
             }
             SheetError::NoRows => write!(f, "a pool has at least 1 row"),
-            SheetError::TooManyRows => write!(f, "a pool has at most {} rows", MOST_ROWS),
+            SheetError::TooManyRows => write!(f, "a pool has at most {MOST_ROWS} rows"),
             SheetError::NoTranches => write!(f, "a deal has at least 1 tranche"),
-            SheetError::TooManyTranches => write!(f, "a deal has at most {} tranches", MOST_TRANCHES),
+            SheetError::TooManyTranches => write!(f, "a deal has at most {MOST_TRANCHES} tranches"),
         }
     }
 }
@@ -74,6 +64,6 @@ impl fmt::Display for SheetError {
 impl Error for SheetError {}
 
 /// Writes that a number is outside its limits.
-fn outside(f: &mut fmt::Formatter<'_>, what: &str, given: u64, lowest: u64, highest: u64) -> fmt::Result {
+fn outside(f: &mut fmt::Formatter<'_>, what: &str, given: u64, (lowest, highest): (u64, u64)) -> fmt::Result {
     write!(f, "{what} is {lowest} to {highest}, not {given}")
 }

@@ -1,95 +1,10 @@
-//! A tranche and its ratings (document 01, "The deal sheet" and "The rating table").
+//! A tranche (document 01, "The deal sheet").
 
-use crate::{Months, SheetError, TrancheAmount};
+use crate::numbers::{Months, TrancheAmount};
+use crate::rating::Rating;
+use crate::sheet_error::SheetError;
 
-/// A long-term grade: a row of the rating table.
-#[derive(Debug, Clone, Copy, PartialEq, Eq, Hash)]
-pub enum LongTerm {
-    /// AAA.
-    Aaa = 1,
-    /// AA+.
-    AaPlus = 2,
-    /// AA.
-    Aa = 3,
-    /// AA-.
-    AaMinus = 4,
-    /// A+.
-    APlus = 5,
-    /// A.
-    A = 6,
-    /// A-.
-    AMinus = 7,
-    /// BBB+.
-    BbbPlus = 8,
-    /// BBB.
-    Bbb = 9,
-    /// BBB-.
-    BbbMinus = 10,
-    /// BB+.
-    BbPlus = 11,
-    /// BB.
-    Bb = 12,
-    /// BB-.
-    BbMinus = 13,
-    /// B+.
-    BPlus = 14,
-    /// B.
-    B = 15,
-    /// B-.
-    BMinus = 16,
-    /// CCC+, CCC or CCC-.
-    Ccc = 17,
-    /// Below CCC-.
-    BelowCccMinus = 18,
-}
-
-/// A short-term grade.
-#[derive(Debug, Clone, Copy, PartialEq, Eq, Hash)]
-pub enum ShortTerm {
-    /// A-1/P-1.
-    First = 21,
-    /// A-2/P-2.
-    Second = 22,
-    /// A-3/P-3.
-    Third = 23,
-    /// All other short-term grades.
-    Other = 24,
-}
-
-/// A rating of a tranche.
-#[derive(Debug, Clone, Copy, PartialEq, Eq, Hash)]
-pub enum Rating {
-    /// A long-term rating.
-    LongTerm(LongTerm),
-    /// A short-term rating.
-    ShortTerm(ShortTerm),
-}
-
-impl Rating {
-    /// The rating code, as it stands in the sheet: 1 to 18 or 21 to 24.
-    pub const fn code(self) -> u64 {
-        match self {
-            Rating::LongTerm(grade) => grade as u64,
-            Rating::ShortTerm(grade) => grade as u64,
-        }
-    }
-}
-
-impl From<LongTerm> for Rating {
-    /// The long-term rating of that grade.
-    fn from(grade: LongTerm) -> Rating {
-        Rating::LongTerm(grade)
-    }
-}
-
-impl From<ShortTerm> for Rating {
-    /// The short-term rating of that grade.
-    fn from(grade: ShortTerm) -> Rating {
-        Rating::ShortTerm(grade)
-    }
-}
-
-/// A tranche, without its class: the class follows from where the builder places it.
+/// A tranche, without its class: the class follows from where [`SheetBuilder`](crate::SheetBuilder) places it.
 #[derive(Debug, Clone, Copy, PartialEq, Eq, Hash)]
 pub struct Tranche {
     amount: TrancheAmount,
@@ -99,11 +14,18 @@ pub struct Tranche {
 }
 
 impl Tranche {
-    /// An unrated tranche. The amount held, in whole currency units, is 0 to the tranche's amount; the error holds any
-    /// other.
+    /// An unrated tranche, of which so much is held, in whole currency units: 0 to the tranche's amount.
+    ///
+    /// # Errors
+    ///
+    /// [`SheetError::HeldAboveAmount`] where more is held.
     pub const fn new(amount: TrancheAmount, maturity: Months, held: u64) -> Result<Tranche, SheetError> {
-        if held > amount.get() {
-            return Err(SheetError::HeldAboveAmount { held, amount });
+        let amount_word = amount.get();
+        if held > amount_word {
+            return Err(SheetError::HeldAboveAmount {
+                held,
+                amount: amount_word,
+            });
         }
         Ok(Tranche {
             amount,
@@ -116,6 +38,7 @@ impl Tranche {
     /// The same tranche with these ratings in place of those it had.
     ///
     /// In a re-securitisation they stand in the sheet and are not used.
+    #[must_use]
     pub const fn with_ratings(self, ratings: [Option<Rating>; 3]) -> Tranche {
         Tranche { ratings, ..self }
     }

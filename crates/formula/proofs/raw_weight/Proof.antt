@@ -5,16 +5,15 @@ use Prim.Native.Nat.{ℕ}
 use native.Mathlib.Omega.{arith}
 use borrow.Author.Needs.{needs}
 use borrow.Author.Tests.{not-true, not-false, le-leb, lt-leb, eq-eqb, ne-eqb}
-use Rattle.formula.specs.Formula.{IsRawWeight}
+use Rattle.formula.specs.Formula.{RawWeightNumbers, IsRawWeight}
 use Rattle.formula.specs.FixedPoint.{withinLimits, rawWeight}
-use Rattle.formula.specs.declared.RawWeight.{RawWeight}
 use Rattle.formula.proofs.Limits.{limits-of-test}
 use Rattle.formula.proofs.RawWeightLaw.{raw-weight-is}
 use Rattle.formula.proofs.raw_weight.Statement.{statement}
 use Rattle.formula.proofs.raw_weight.Tie as tie
 
 -- whatever equals rawWeight is the raw weight
-kept : {A D K p : ℕ} {r : RawWeight} → r ≡ rawWeight A D K p → (r ≡ rawWeight A D K p) × IsRawWeight A D K p r
+kept : {A D K p : ℕ} {n : RawWeightNumbers} → n ≡ rawWeight A D K p → (n ≡ rawWeight A D K p) × IsRawWeight A D K p n
 kept {A} {D} {K} {p} e = (e, subst (IsRawWeight A D K p) (sym e) (raw-weight-is A D K p))
 
 -- behind the first test

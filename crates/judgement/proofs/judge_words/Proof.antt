@@ -1,11 +1,11 @@
 -- `judge_words`: a fault of a needed word decides, and where they are sound the test of words that follow. No axioms.
-use mathlib.Core.Path.{_≡_, _∙_, sym}
+use mathlib.Core.Path.{_≡_, _∙_, sym, ap}
 use native.Mathlib.Omega.{arith}
 use lib.ListN.{length}
 use borrow.Author.Needs.{needs}
 use borrow.Author.Tests.{le-ltb, lt-ltb}
 use Rattle.judgement.specs.DealSheet.{needed}
-use Rattle.judgement.specs.Refusals.{judged, wordsVerdict}
+use Rattle.judgement.specs.Refusals.{judged, wordsVerdict, numbersOf}
 use Rattle.judgement.specs.declared.Verdict.the-variants.{Sound}
 use Rattle.judgement.proofs.SheetLimits.{pool-counted, tranches-counted}
 use Rattle.judgement.proofs.JudgeSteps.{fault-decides}
@@ -23,7 +23,7 @@ enum-told-2 c = search needs
 
 returns : tie.Need-returns
 unfolding wordsVerdict
-returns c = fault-decides _ _ (c .enum-told2 .given .1) (c .before .before .judge-needed .ensures)
+returns c = ap numbersOf (fault-decides _ _ (c .enum-told2 .given .1) (c .before .before .judge-needed .ensures))
 
 -- behind the first test
 sound : (c : tie.After-enum-told) →

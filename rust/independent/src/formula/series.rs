@@ -2,7 +2,7 @@
 //! nothing in the calculator: the tests hold the quick decision to it.
 
 use super::rational::{Natural, Ratio};
-use super::{Terms, HIGHEST_WEIGHT};
+use super::terms::{Terms, HIGHEST_WEIGHT};
 
 /// Low(k) and Up(k) for q = numerator / denominator. Low(k) is the sum of q^i / i! for i from 0 to k. Up(k) is
 /// Low(k) + 2 x q^(k+1) / (k+1)!. Both are worked over the common denominator of their terms.

@@ -1,49 +1,52 @@
 //! What the typed way in lets through and what it answers with an error (document 01, "The deal sheet").
 
 use crate::checked_deal::{ordinary, row, tranche};
-use tranche_weights::{
-    Facts, Months, PoolAmount, RiskWeight, SheetBuilder, SheetError, Status, TrancheAmount, MOST_ROWS, MOST_TRANCHES,
-};
-
-/// Each limited number takes its two limits and answers what is beyond them with its own error.
-#[test]
-fn numbers_keep_their_limits() {
-    assert_eq!(PoolAmount::new(1).map(PoolAmount::get), Ok(1));
-    assert_eq!(PoolAmount::new(10_000_000_000).map(PoolAmount::get), Ok(10_000_000_000));
-    assert_eq!(PoolAmount::new(0), Err(SheetError::PoolAmount(0)));
-    assert_eq!(
-        PoolAmount::new(10_000_000_001),
-        Err(SheetError::PoolAmount(10_000_000_001))
-    );
-    assert_eq!(RiskWeight::new(0).map(RiskWeight::get), Ok(0));
-    assert_eq!(RiskWeight::new(1250).map(RiskWeight::get), Ok(1250));
-    assert_eq!(RiskWeight::new(1251), Err(SheetError::RiskWeight(1251)));
-    assert_eq!(TrancheAmount::new(1).map(TrancheAmount::get), Ok(1));
-    assert_eq!(
-        TrancheAmount::new(10_000_000_000_000).map(TrancheAmount::get),
-        Ok(10_000_000_000_000)
-    );
-    assert_eq!(TrancheAmount::new(0), Err(SheetError::TrancheAmount(0)));
-    assert_eq!(
-        TrancheAmount::new(10_000_000_000_001),
-        Err(SheetError::TrancheAmount(10_000_000_000_001))
-    );
-    assert_eq!(Months::new(1).map(Months::get), Ok(1));
-    assert_eq!(Months::new(1200).map(Months::get), Ok(1200));
-    assert_eq!(Months::new(0), Err(SheetError::Months(0)));
-    assert_eq!(Months::new(1201), Err(SheetError::Months(1201)));
-}
+use tranche_weights::{Facts, PoolAmount, RiskWeight, Row, SheetBuilder, SheetError, Status, MOST_ROWS, MOST_TRANCHES};
 
 /// All of a tranche or nothing of it can be held, and no unit more than all.
 #[test]
-fn no_more_is_held_than_the_amount() -> Result<(), SheetError> {
-    let amount = TrancheAmount::new(800)?;
+fn no_more_is_held_than_the_amount() {
     assert!(tranche(800, 800).is_ok());
     assert!(tranche(800, 0).is_ok());
     assert_eq!(
         tranche(800, 801),
-        Err(SheetError::HeldAboveAmount { held: 801, amount })
+        Err(SheetError::HeldAboveAmount { held: 801, amount: 800 })
     );
+}
+
+/// Without setters no fact is affirmed; each setter sets its own word of the sheet and no other, and can take it back.
+#[test]
+fn facts_are_set_one_by_one() -> Result<(), SheetError> {
+    let flags = |facts| -> Result<Vec<u64>, SheetError> {
+        let mut builder = SheetBuilder::ordinary(facts);
+        builder.row(row(1)?, Status::Paying)?.next_class(tranche(1, 1)?)?;
+        Ok(builder.build()?.words()[..5].to_vec())
+    };
+    let none = Facts::new();
+    assert_eq!(none, Facts::default());
+    assert_eq!(flags(none)?, [4, 0, 0, 0, 0]);
+    assert_eq!(flags(none.with_due_diligence_held(true))?, [4, 0, 0, 1, 0]);
+    assert_eq!(flags(none.with_pool_composition_known(true))?, [4, 0, 0, 0, 1]);
+    let both = none.with_due_diligence_held(true).with_pool_composition_known(true);
+    assert_eq!(flags(both)?, [4, 0, 0, 1, 1]);
+    assert_eq!(
+        both.with_due_diligence_held(false).with_pool_composition_known(false),
+        none
+    );
+    Ok(())
+}
+
+/// A row's figures stand in the sheet in the order in which they are given, before the status.
+#[test]
+fn a_row_keeps_the_order_of_its_figures() -> Result<(), SheetError> {
+    let row = Row::new(PoolAmount::new(7)?, PoolAmount::new(8)?, RiskWeight::new(9)?);
+    assert_eq!(
+        (row.exposure.get(), row.nominal.get(), row.risk_weight.get()),
+        (7, 8, 9)
+    );
+    let mut builder = ordinary();
+    builder.row(row, Status::NotKnown)?.next_class(tranche(1, 1)?)?;
+    assert_eq!(builder.build()?.words()[5..10], [1, 7, 8, 9, 2]);
     Ok(())
 }
 
@@ -64,11 +67,7 @@ fn a_pool_has_at_most_1000_rows() -> Result<(), SheetError> {
 /// A re-securitisation's pool has the same limit.
 #[test]
 fn a_pool_of_tranches_has_at_most_1000_rows() -> Result<(), SheetError> {
-    let facts = Facts {
-        due_diligence_held: true,
-        pool_composition_known: false,
-    };
-    let mut builder = SheetBuilder::resecuritisation(facts);
+    let mut builder = SheetBuilder::resecuritisation(Facts::new().with_due_diligence_held(true));
     for _ in 0..MOST_ROWS {
         builder.row(row(1)?)?;
     }
@@ -127,8 +126,7 @@ fn nothing_is_built_of_nothing() -> Result<(), SheetError> {
 
 /// Each error says in one line what is admitted and what was given.
 #[test]
-fn errors_say_what_is_admitted() -> Result<(), SheetError> {
-    let amount = TrancheAmount::new(800)?;
+fn errors_say_what_is_admitted() {
     let lines = [
         (SheetError::PoolAmount(0), "a pool amount is 1 to 10000000000, not 0"),
         (
@@ -140,10 +138,11 @@ fn errors_say_what_is_admitted() -> Result<(), SheetError> {
             "a tranche amount is 1 to 10000000000000, not 0",
         ),
         (
-            SheetError::HeldAboveAmount { held: 801, amount },
+            SheetError::HeldAboveAmount { held: 801, amount: 800 },
             "an amount held is 0 to 800, not 801",
         ),
         (SheetError::Months(1201), "a maturity in months is 1 to 1200, not 1201"),
+        (SheetError::Rating(19), "a rating code is 1 to 18 or 21 to 24, not 19"),
         (
             SheetError::NoTrancheBefore,
             "the first tranche has no tranche before it to share a class with",
@@ -156,5 +155,4 @@ fn errors_say_what_is_admitted() -> Result<(), SheetError> {
     for (error, line) in lines {
         assert_eq!(error.to_string(), line);
     }
-    Ok(())
 }

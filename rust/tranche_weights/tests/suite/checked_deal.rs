@@ -33,11 +33,7 @@ pub fn file_of(words: &[u64]) -> Vec<u8> {
 /// A row of equal amounts at 100%.
 pub fn row(amount: u64) -> Result<Row, SheetError> {
     let amount = PoolAmount::new(amount)?;
-    Ok(Row {
-        exposure: amount,
-        nominal: amount,
-        risk_weight: RiskWeight::new(100)?,
-    })
+    Ok(Row::new(amount, amount, RiskWeight::new(100)?))
 }
 
 /// An unrated tranche of 72 months.
@@ -47,10 +43,10 @@ pub fn tranche(amount: u64, held: u64) -> Result<Tranche, SheetError> {
 
 /// The start of an ordinary deal with both facts affirmed.
 pub fn ordinary() -> SheetBuilder<Ordinary> {
-    SheetBuilder::ordinary(Facts {
-        due_diligence_held: true,
-        pool_composition_known: true,
-    })
+    let facts = Facts::new()
+        .with_due_diligence_held(true)
+        .with_pool_composition_known(true);
+    SheetBuilder::ordinary(facts)
 }
 
 /// The builder makes exactly the checked deal's words and file.

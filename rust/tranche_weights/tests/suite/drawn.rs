@@ -3,34 +3,9 @@
 use crate::checked_deal::file_of;
 use crate::texts::text_of;
 use tranche_weights::{
-    report, weigh_file, Facts, LongTerm, Months, PoolAmount, Rating, Reason, RiskWeight, Row, Sheet, SheetBuilder,
-    SheetError, ShortTerm, Status, Tranche, TrancheAmount,
+    report, weigh_file, Facts, Months, PoolAmount, Rating, Reason, RiskWeight, Row, Sheet, SheetBuilder, SheetError,
+    Status, Tranche, TrancheAmount,
 };
-
-/// The long-term grades, by rating code from 1.
-const LONG_TERM: [LongTerm; 18] = [
-    LongTerm::Aaa,
-    LongTerm::AaPlus,
-    LongTerm::Aa,
-    LongTerm::AaMinus,
-    LongTerm::APlus,
-    LongTerm::A,
-    LongTerm::AMinus,
-    LongTerm::BbbPlus,
-    LongTerm::Bbb,
-    LongTerm::BbbMinus,
-    LongTerm::BbPlus,
-    LongTerm::Bb,
-    LongTerm::BbMinus,
-    LongTerm::BPlus,
-    LongTerm::B,
-    LongTerm::BMinus,
-    LongTerm::Ccc,
-    LongTerm::BelowCccMinus,
-];
-
-/// The short-term grades, by rating code from 21.
-const SHORT_TERM: [ShortTerm; 4] = [ShortTerm::First, ShortTerm::Second, ShortTerm::Third, ShortTerm::Other];
 
 /// The statuses of an ordinary pool, by status word.
 const STATUSES: [Status; 3] = [Status::Paying, Status::Delinquent, Status::NotKnown];
@@ -127,31 +102,25 @@ impl Generator {
     }
 }
 
-/// The rating that a code states.
-fn rating_of(code: u64) -> Option<Rating> {
-    match code {
-        0 => None,
-        1..=18 => Some(LONG_TERM[code as usize - 1].into()),
-        _ => Some(SHORT_TERM[code as usize - 21].into()),
+/// The rating that a word states, if any.
+fn rating_of(word: u64) -> Result<Option<Rating>, SheetError> {
+    match word {
+        0 => Ok(None),
+        code => Rating::try_from(code).map(Some),
     }
 }
 
 /// The row that four words state, without its status.
 fn row_of(words: &[u64]) -> Result<Row, SheetError> {
     let (exposure, nominal) = (PoolAmount::new(words[0])?, PoolAmount::new(words[1])?);
-    Ok(Row {
-        exposure,
-        nominal,
-        risk_weight: RiskWeight::new(words[2])?,
-    })
+    Ok(Row::new(exposure, nominal, RiskWeight::new(words[2])?))
 }
 
 /// Builds the sheet that the words state, by the builder of its kind.
 fn built(words: &[u64]) -> Result<Sheet, SheetError> {
-    let facts = Facts {
-        due_diligence_held: words[3] == 1,
-        pool_composition_known: words[4] == 1,
-    };
+    let facts = Facts::new()
+        .with_due_diligence_held(words[3] == 1)
+        .with_pool_composition_known(words[4] == 1);
     let (rows, tranches) = words[6..].split_at(4 * words[5] as usize);
     if words[2] == 1 {
         let mut builder = SheetBuilder::resecuritisation(facts);
@@ -173,7 +142,7 @@ fn with_tranches<Kind>(mut builder: SheetBuilder<Kind>, words: &[u64]) -> Result
     let mut class = 0;
     for row in words.chunks(7) {
         let tranche = Tranche::new(TrancheAmount::new(row[0])?, Months::new(row[2])?, row[3])?;
-        let tranche = tranche.with_ratings([row[4], row[5], row[6]].map(rating_of));
+        let tranche = tranche.with_ratings([rating_of(row[4])?, rating_of(row[5])?, rating_of(row[6])?]);
         if row[1] == class {
             builder.same_class(tranche)?;
         } else {

@@ -2,9 +2,13 @@
 
 #![forbid(unsafe_code)]
 
+mod build_script;
 mod builder;
 mod checked_deal;
 mod drawn;
+mod numbers;
+mod ratings;
 mod refusals;
 mod results;
+mod stack;
 mod texts;

@@ -1,7 +1,9 @@
 //! Each refusal, with its number, place and reason (document 01, "Refusals, by who can cause them").
 
 use crate::checked_deal::{file_of, RESULTS, WORDS};
-use tranche_weights::{reply_to_words, report, weigh_file, weigh_words, Reason, Refusal, Reply};
+use tranche_weights::{
+    reply_to_file, reply_to_words, report, weigh_file, weigh_words, Reason, Refusal, Reply, RESULT_WORDS,
+};
 
 /// The checked deal with one word replaced.
 fn with(place: usize, word: u64) -> Vec<u64> {
@@ -54,12 +56,8 @@ fn hold(refusal: Refusal, number: u64, place: u64, reason: Reason) {
         (refusal.number(), refusal.place(), refusal.reason()),
         (number, place, reason)
     );
-    assert!(
-        refusal
-            .to_string()
-            .starts_with(&format!("refused {number} at {place}: ")),
-        "{refusal}"
-    );
+    assert_eq!(reason.number(), number);
+    assert_eq!(refusal.to_string(), format!("refused {number} at {place}: {reason}"));
 }
 
 /// Words are refused with number, place and reason, as words and as a file; the results are as they were.
@@ -70,6 +68,10 @@ fn refused_words_leave_the_results() {
         let mut results = before.clone();
         hold(weigh_words(&words, &mut results).unwrap_err(), number, place, reason);
         assert_eq!(reply_to_words(&words, &mut results), Reply::refusing(number, place));
+        assert_eq!(
+            reply_to_file(&file_of(&words), &mut results),
+            Reply::refusing(number, place)
+        );
         assert_eq!(results, before);
         hold(weigh_file(&file_of(&words)).unwrap_err(), number, place, reason);
         assert_eq!(report(&file_of(&words)), format!("refused {number} at {place}\n"));
@@ -84,6 +86,7 @@ fn too_little_room_leaves_the_results() {
         let mut results = before.clone();
         hold(weigh_words(&WORDS, &mut results).unwrap_err(), 14, 0, Reason::Room);
         assert_eq!(reply_to_words(&WORDS, &mut results), Reply::refusing(14, 0));
+        assert_eq!(reply_to_file(&file_of(&WORDS), &mut results), Reply::refusing(14, 0));
         assert_eq!(results, before);
     }
 }
@@ -91,13 +94,21 @@ fn too_little_room_leaves_the_results() {
 /// A file's length is a multiple of 8 and at most 33,848; any other is 15 at 0, before all that its words say.
 #[test]
 fn a_bad_length_of_a_file_comes_before_all() {
+    let before: Vec<u64> = (900..).take(RESULT_WORDS).collect();
+    let mut results = before.clone();
     for length in [1, 7, 9, 33_847, 33_849, 33_856] {
-        hold(weigh_file(&vec![0; length]).unwrap_err(), 15, 0, Reason::FileLength);
-        assert_eq!(report(&vec![0; length]), "refused 15 at 0\n");
+        let file = vec![0; length];
+        hold(weigh_file(&file).unwrap_err(), 15, 0, Reason::FileLength);
+        assert_eq!(reply_to_file(&file, &mut results), Reply::refusing(15, 0));
+        assert_eq!(reply_to_file(&file, &mut []), Reply::refusing(15, 0));
+        assert_eq!(report(&file), "refused 15 at 0\n");
     }
     for length in [8, 33_848] {
-        hold(weigh_file(&vec![0; length]).unwrap_err(), 2, 0, Reason::Count);
+        let file = vec![0; length];
+        hold(weigh_file(&file).unwrap_err(), 2, 0, Reason::Count);
+        assert_eq!(reply_to_file(&file, &mut results), Reply::refusing(2, 0));
     }
+    assert_eq!(results, before);
 }
 
 /// A refusal prints what is wrong in the desk's words, and is an error that a caller can pass on.

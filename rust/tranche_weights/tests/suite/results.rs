@@ -1,38 +1,47 @@
 //! The lent results (document 01, "The deal sheet").
 
 use crate::checked_deal::{file_of, RESULTS, WORDS};
-use tranche_weights::{reply_to_words, weigh_file, weigh_words, Approach, Reply, Weighed};
+use tranche_weights::{
+    reply_to_file, reply_to_words, weigh_file, weigh_words, Approach, Reply, LINE_WORDS, MOST_TRANCHES, RESULT_WORDS,
+};
 
-/// The lines' words are written where they just fit, and words after them are as they were.
-#[test]
-fn lines_leave_later_words() {
-    for room in [RESULTS.len(), RESULTS.len() + 5] {
+/// Holds a call that weighs the checked deal into lent results: its lines' words are written where they just fit, and
+/// words after them are as they were.
+fn hold_results(reply: impl Fn(&mut [u64]) -> Reply) {
+    for room in [RESULTS.len(), RESULTS.len() + 5, RESULT_WORDS] {
         let before: Vec<u64> = (900..).take(room).collect();
         let mut results = before.clone();
-        assert_eq!(
-            weigh_words(&WORDS, &mut results),
-            Ok(Weighed {
-                count: 3,
-                charge: 101_000
-            })
-        );
+        assert_eq!(reply(&mut results), Reply::accepting(3, 101_000));
         assert_eq!(results[..RESULTS.len()], RESULTS);
         assert_eq!(results[RESULTS.len()..], before[RESULTS.len()..]);
     }
 }
 
-/// An accepted sheet's number and place are 0, beside its count and charge.
+/// Words and file are weighed into the same results.
+#[test]
+fn lines_leave_later_words() {
+    hold_results(|results| reply_to_words(&WORDS, results));
+    hold_results(|results| reply_to_file(&file_of(&WORDS), results));
+}
+
+/// An accepted sheet's number and place are 0, beside its count and charge, and so it is weighed.
 #[test]
 fn an_accepted_sheet_has_number_and_place_0() {
+    let mut results = [0; RESULTS.len()];
+    let reply = reply_to_words(&WORDS, &mut results);
     assert_eq!(
-        reply_to_words(&WORDS, &mut [0; RESULTS.len()]),
-        Reply {
-            number: 0,
-            place: 0,
-            count: 3,
-            charge: 101_000
-        }
+        (reply.number, reply.place, reply.count, reply.charge),
+        (0, 0, 3, 101_000)
     );
+    let weighed = weigh_words(&WORDS, &mut results).expect("the checked deal is accepted");
+    assert_eq!((weighed.count, weighed.charge), (3, 101_000));
+    assert_eq!(reply.outcome(), Ok(weighed));
+}
+
+/// The sizes of what is lent: six words for each of 32 tranches.
+#[test]
+fn sizes_are_those_of_the_results() {
+    assert_eq!((LINE_WORDS, MOST_TRANCHES, RESULT_WORDS), (6, 32, 192));
 }
 
 /// A deal's lines hold the six result words, each in its field.
@@ -43,7 +52,7 @@ fn a_line_holds_the_six_words() {
     assert_eq!(deal.lines.len(), 3);
     for (line, words) in deal.lines.iter().zip(RESULTS.chunks(6)) {
         let approach = [Approach::Fallback, Approach::SecErba, Approach::SecSa][words[0] as usize];
-        assert_eq!(line.approach, approach);
+        assert_eq!((line.approach, line.approach.word()), (approach, words[0]));
         let rest = [
             line.attachment,
             line.detachment,
@@ -63,4 +72,11 @@ fn without_due_diligence_every_line_is_the_fallback() {
     let deal = weigh_file(&file_of(&words)).expect("the sheet is accepted");
     let seen: Vec<_> = deal.lines.iter().map(|line| (line.approach, line.weight)).collect();
     assert_eq!(seen, [(Approach::Fallback, 125_000); 3]);
+}
+
+/// An approach prints as the standard names it, to the width asked for.
+#[test]
+fn approaches_have_names() {
+    let names = [Approach::Fallback, Approach::SecErba, Approach::SecSa].map(|approach| format!("{approach:>8}"));
+    assert_eq!(names, ["fallback", "SEC-ERBA", "  SEC-SA"]);
 }

@@ -1,17 +1,8 @@
 //! The report's text and the lent room for it (document 01, "Checked deals").
 
 use crate::checked_deal::{file_of, TEXT, WORDS};
-use tranche_weights::{report, report_into, weigh_file, Approach, Deal, Refusal, MOST_ROWS, MOST_TRANCHES, TEXT_ROOM};
-
-/// The word that states an approach.
-fn approach_word(approach: Approach) -> u64 {
-    match approach {
-        Approach::Fallback => 0,
-        Approach::SecErba => 1,
-        Approach::SecSa => 2,
-        Approach::Unlisted(word) => word,
-    }
-}
+use std::error::Error;
+use tranche_weights::{report, report_into, weigh_file, Deal, Refusal, MOST_ROWS, MOST_TRANCHES, TEXT_ROOM};
 
 /// The report's text that document 01 describes for an answer.
 pub fn text_of(outcome: &Result<Deal, Refusal>) -> String {
@@ -21,7 +12,7 @@ pub fn text_of(outcome: &Result<Deal, Refusal>) -> String {
     };
     let mut text = format!("charge {} tranches {}\n", deal.charge, deal.lines.len());
     for (line, number) in deal.lines.iter().zip(1..) {
-        let approach = approach_word(line.approach);
+        let approach = line.approach.word();
         let points = format!("{} {}", line.attachment, line.detachment);
         let amounts = format!("{} {} {}", line.weight, line.risk_weighted_amount, line.capital);
         text += &format!("{number} {approach} {points} {amounts}\n");
@@ -43,7 +34,7 @@ fn the_report_on_a_refused_file_names_number_and_place() {
 }
 
 /// The file of a deal with the most rows and tranches, every amount at its limit and all of it held.
-fn largest_file() -> Vec<u8> {
+pub fn largest_file() -> Vec<u8> {
     let rows = [[10_000_000_000, 10_000_000_000, 1250, 0]; MOST_ROWS];
     let tranches = [[10_000_000_000_000, 1, 1200, 10_000_000_000_000, 0, 0, 0]; MOST_TRANCHES];
     let counts = [rows.len() as u64, tranches.len() as u64];
@@ -61,7 +52,8 @@ fn hold_room(file: &[u8], text: &str, room: usize) {
     } else {
         (Err(text.len()), &[][..])
     };
-    assert_eq!(report_into(file, &mut bytes[..room]), answer, "room {room}");
+    let said = report_into(file, &mut bytes[..room]).map_err(|error| error.needed());
+    assert_eq!(said, answer, "room {room}");
     assert_eq!(bytes, [written, &before[written.len()..]].concat(), "room {room}");
 }
 
@@ -75,4 +67,11 @@ fn a_text_is_written_whole_or_not_begun() {
         let rooms = [0, 1, text.len() - 1, text.len(), text.len() + 3, TEXT_ROOM];
         rooms.iter().for_each(|room| hold_room(&file, &text, *room));
     }
+}
+
+/// Too little room is an error that a caller can pass on, and it says what is needed.
+#[test]
+fn too_little_room_says_what_is_needed() {
+    let error: Box<dyn Error> = report_into(&[], &mut [0; 14]).unwrap_err().into();
+    assert_eq!(error.to_string(), "the report needs room for 15 bytes");
 }

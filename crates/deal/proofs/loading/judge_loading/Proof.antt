@@ -9,6 +9,7 @@ use Rattle.judgement.specs.Refusals.{wordsVerdict}
 use Rattle.judgement.specs.declared.Verdict.the-variants.{Sound}
 use Rattle.judgement.proofs.SheetLimits.{tranches-counted, tranches-within}
 use Rattle.judgement.proofs.JudgeSteps.{fault-decides, needed-sound}
+use Rattle.judgement.proofs.VerdictLaw.{verdict-settled}
 use Rattle.deal.proofs.PlacesLaws.{count-is}
 use Rattle.deal.proofs.loading.judge_loading.Statement.{statement}
 use Rattle.deal.proofs.loading.judge_loading.Tie as tie
@@ -22,12 +23,16 @@ enum-told c = search needs
 enum-told-2 : tie.Need-enum-told-2
 enum-told-2 c = search needs
 
+-- the verdict on the words, which its numbers settle
+told : (c : tie.After-judge-words) → c .judge-words .result ≡ wordsVerdict (c .before .before .args .s .now)
+told c = verdict-settled (c .judge-words .result) (wordsVerdict (c .before .before .args .s .now)) (c .judge-words .ensures)
+
 returns : tie.Need-returns
-returns c = fault-decides _ _ (c .enum-told2 .given .1) (c .before .before .judge-words .ensures)
+returns c = fault-decides _ _ (c .enum-told2 .given .1) (told (c .before .before))
 
 -- behind the first test
 sound : (c : tie.After-enum-told) → wordsVerdict (c .before .before .before .before .args .s .now) ≡ Sound
-sound c = sym (c .before .before .judge-words .ensures) ∙ c .enum-told .given .1
+sound c = sym (told (c .before .before)) ∙ c .enum-told .given .1
 
 places-of-requires : tie.Need-places-of-requires
 places-of-requires c κs = needed-sound _ (sound c)

@@ -1,0 +1,34 @@
+//! What is answered to a sheet: a weighed deal or a refusal.
+
+/// A refusal: its number and its place, as listed under "Refusals, by who can cause them".
+#[derive(Debug, Clone, Copy, PartialEq, Eq)]
+pub struct Refusal {
+    pub number: u64,
+    pub place: u64,
+}
+
+/// A weighed deal: the pool charge in millionths, and one line per tranche in the order of the sheet.
+#[derive(Debug, Clone, PartialEq, Eq)]
+pub struct Deal {
+    pub charge: u64,
+    pub lines: Vec<Line>,
+}
+
+/// One tranche's line. Approach is 0 for the fallback, 1 for SEC-ERBA, 2 for SEC-SA. Attachment and detachment are A
+/// and D in millionths. `amounts` lists every triple that document 01 admits, in rising order of weight: one triple,
+/// or two where two raw weights pass and still differ after floor and cap.
+#[derive(Debug, Clone, PartialEq, Eq)]
+pub struct Line {
+    pub approach: u64,
+    pub attachment: u64,
+    pub detachment: u64,
+    pub amounts: Vec<Amounts>,
+}
+
+/// The weight in hundredths of a percent, and the two amounts that follow from it and the amount held.
+#[derive(Debug, Clone, Copy, PartialEq, Eq)]
+pub struct Amounts {
+    pub weight: u64,
+    pub risk_weighted: u64,
+    pub capital: u64,
+}

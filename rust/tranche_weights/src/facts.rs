@@ -1,0 +1,49 @@
+//! The facts of a deal (document 01, "The deal sheet").
+
+/// What is said of the deal as a whole: nothing at first, and then what each `with_…` says.
+///
+/// Every pool is one under the standardised approach, the one kind that the calculator covers.
+///
+/// ```
+/// use tranche_weights::Facts;
+///
+/// let facts = Facts::new().with_due_diligence_held(true);
+/// assert!(facts.due_diligence_held && !facts.pool_composition_known);
+/// ```
+#[derive(Debug, Clone, Copy, Default, PartialEq, Eq, Hash)]
+#[non_exhaustive]
+pub struct Facts {
+    /// Due diligence is held. Without it every tranche gets the fallback of 1250%.
+    pub due_diligence_held: bool,
+    /// The pool's composition is known. Without it no tranche gets the cap of the senior class, the average risk weight
+    /// of the pool.
+    pub pool_composition_known: bool,
+}
+
+impl Facts {
+    /// No due diligence is held and the pool's composition is not known.
+    pub const fn new() -> Facts {
+        Facts {
+            due_diligence_held: false,
+            pool_composition_known: false,
+        }
+    }
+
+    /// The same facts, with due diligence held or not.
+    #[must_use]
+    pub const fn with_due_diligence_held(self, held: bool) -> Facts {
+        Facts {
+            due_diligence_held: held,
+            ..self
+        }
+    }
+
+    /// The same facts, with the pool's composition known or not.
+    #[must_use]
+    pub const fn with_pool_composition_known(self, known: bool) -> Facts {
+        Facts {
+            pool_composition_known: known,
+            ..self
+        }
+    }
+}

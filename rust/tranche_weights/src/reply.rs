@@ -1,0 +1,64 @@
+//! What the library answers to a sheet, as its C functions give it.
+
+use crate::refusal::Refusal;
+
+/// The four numbers that the library answers to a sheet, as its C functions give them.
+#[derive(Debug, Clone, Copy, PartialEq, Eq, Hash)]
+#[non_exhaustive]
+pub struct Reply {
+    /// The refusal's number; 0 where the sheet is accepted.
+    pub number: u64,
+    /// The refusal's place; 0 where the sheet is accepted.
+    pub place: u64,
+    /// The number of tranches; 0 on a refusal.
+    pub count: u64,
+    /// The pool charge, in millionths; 0 on a refusal.
+    pub charge: u64,
+}
+
+impl Reply {
+    /// The reply that accepts a sheet: number and place are 0.
+    pub const fn accepting(count: u64, charge: u64) -> Reply {
+        Reply {
+            number: 0,
+            place: 0,
+            count,
+            charge,
+        }
+    }
+
+    /// The reply that refuses a sheet: count and charge are 0.
+    pub const fn refusing(number: u64, place: u64) -> Reply {
+        Reply {
+            number,
+            place,
+            count: 0,
+            charge: 0,
+        }
+    }
+
+    /// Count and charge of an accepted sheet.
+    ///
+    /// # Errors
+    ///
+    /// The [`Refusal`] where the number is not 0.
+    pub const fn outcome(self) -> Result<Weighed, Refusal> {
+        match self.number {
+            0 => Ok(Weighed {
+                count: self.count,
+                charge: self.charge,
+            }),
+            number => Err(Refusal::new(number, self.place)),
+        }
+    }
+}
+
+/// What the library answers to a sheet that it weighed.
+#[derive(Debug, Clone, Copy, PartialEq, Eq, Hash)]
+#[non_exhaustive]
+pub struct Weighed {
+    /// The number of tranches: the lines of so many now stand in the results.
+    pub count: u64,
+    /// The pool charge, in millionths.
+    pub charge: u64,
+}

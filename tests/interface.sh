@@ -1,0 +1,53 @@
+#!/bin/sh
+# The version of the interface: the archive has just the header's functions, by the header's version, and neither the C example nor the Rust crate links with an
+# archive of another version. Such an archive is made of the real one by renaming. The static library is built first: rt staticlib tranche_weights.
+set -eu
+cd "$(dirname "$0")/.."
+room=$(mktemp -d)
+trap 'rm -rf "$room"' EXIT
+archive=target/staticlib/libtranche_weights.a
+version=$(sed -n 's/^#define TRANCHE_WEIGHTS_INTERFACE \([0-9]*\)$/\1/p' include/tranche_weights.h)
+[ -n "$version" ] || { echo "the header has no version"; exit 1; }
+names=$(sed -n "s/^uint64_t \(tranche_weights_[a-z_]*\)_v$version(.*/\1/p" include/tranche_weights.h)
+
+# What the archive exports is what the header declares: a function for each name, and nothing else.
+nm -g --defined-only "$archive" | awk 'NF == 3 { print $3 }' | sort > "$room/exported"
+for name in $names; do
+    echo "${name}_v$version"
+done | sort > "$room/declared"
+[ -s "$room/declared" ]
+cmp "$room/declared" "$room/exported"
+echo "functions of the archive: ok"
+
+# The archive of another version.
+mkdir "$room/other"
+other="$room/other/libtranche_weights.a"
+next=$((version + 1))
+objcopy $(for name in $names; do echo "--redefine-sym ${name}_v$version=${name}_v$next"; done) "$archive" "$other"
+
+# A build that must fail because the linker misses a function of this version: must_not_link NAME COMMAND..
+must_not_link() {
+    name=$1
+    shift
+    if "$@" > "$room/log" 2>&1; then
+        echo "$name: linked with an archive of version $next"
+        exit 1
+    fi
+    if ! grep -q "undefined .*tranche_weights_[a-z_]*_v$version" "$room/log"; then
+        echo "$name: not refused by the linker"
+        cat "$room/log"
+        exit 1
+    fi
+    echo "$name: ok"
+}
+
+must_not_link "C and another version" cc -std=c99 -Iinclude examples/print_lines.c "$other" -o "$room/print_lines"
+must_not_link "Rust and another version" env TRANCHE_WEIGHTS_LIB="$room/other" CARGO_TARGET_DIR="$room/rust" \
+    cargo build --offline --quiet --manifest-path rust/Cargo.toml -p tranche_weights --example deal
+
+# The header is C99 and C++.
+printf '#include "tranche_weights.h"\n' > "$room/alone.c"
+cp "$room/alone.c" "$room/alone.cc"
+cc -std=c99 -Wall -Wextra -Wpedantic -Werror -Iinclude -fsyntax-only "$room/alone.c"
+c++ -std=c++11 -Wall -Wextra -Wpedantic -Werror -Iinclude -fsyntax-only "$room/alone.cc"
+echo "header alone: ok"
