@@ -1,6 +1,7 @@
 #!/bin/sh
-# The version of the interface: the archive has just the header's functions, by the header's version, and neither the C example nor the Rust crate links with an
-# archive of another version. Such an archive is made of the real one by renaming. The static library is built first: rt staticlib tranche_weights.
+# The version of the interface: the archive has just the header's functions, by the header's version, the header has the README's refusals, and neither the C
+# example nor the Rust crate links with an archive of another version. Such an archive is made of the real one by renaming. The static library is built first:
+# rt staticlib tranche_weights.
 set -eu
 cd "$(dirname "$0")/.."
 room=$(mktemp -d)
@@ -18,6 +19,11 @@ done | sort > "$room/declared"
 [ -s "$room/declared" ]
 cmp "$room/declared" "$room/exported"
 echo "functions of the archive: ok"
+
+# The header has a name for each refusal that the README lists, and for no other number but 0.
+sed -n '/TRANCHE_WEIGHTS_ACCEPTED = 0/,/^}/s/.* = \([0-9]*\).*/\1/p' include/tranche_weights.h > "$room/named"
+{ echo 0; sed -n '/^## Refusals/,/^## From C/s/^| \([0-9]*\) |.*/\1/p' README.md; } | cmp - "$room/named"
+echo "refusals of the header: ok"
 
 # The archive of another version.
 mkdir "$room/other"
