@@ -28,11 +28,11 @@ static long read_file(const char *name, unsigned char *bytes)
 static const char *name_of(uint64_t approach)
 {
     switch (approach) {
-    case TRANCHE_WEIGHTS_FALLBACK:
+    case TRANCHE_WEIGHTS_BY_FALLBACK:
         return "fallback";
-    case TRANCHE_WEIGHTS_SEC_ERBA:
+    case TRANCHE_WEIGHTS_BY_SEC_ERBA:
         return "SEC-ERBA";
-    case TRANCHE_WEIGHTS_SEC_SA:
+    case TRANCHE_WEIGHTS_BY_SEC_SA:
         return "SEC-SA";
     default:
         return "an approach without a name here";
@@ -43,8 +43,8 @@ static const char *name_of(uint64_t approach)
 static void print_line(uint64_t number, const uint64_t *line)
 {
     printf("tranche %" PRIu64 ": %s from %.4f%% to %.4f%%, weight %.2f%%, risk-weighted amount %" PRIu64 ", capital %" PRIu64 "\n", number,
-           name_of(line[TRANCHE_WEIGHTS_APPROACH]), line[TRANCHE_WEIGHTS_ATTACHMENT] / 1e4, line[TRANCHE_WEIGHTS_DETACHMENT] / 1e4,
-           line[TRANCHE_WEIGHTS_WEIGHT] / 1e2, line[TRANCHE_WEIGHTS_RISK_WEIGHTED_AMOUNT], line[TRANCHE_WEIGHTS_CAPITAL]);
+           name_of(line[TRANCHE_WEIGHTS_WORD_APPROACH]), line[TRANCHE_WEIGHTS_WORD_ATTACHMENT] / 1e4, line[TRANCHE_WEIGHTS_WORD_DETACHMENT] / 1e4,
+           line[TRANCHE_WEIGHTS_WORD_WEIGHT] / 1e2, line[TRANCHE_WEIGHTS_WORD_RISK_WEIGHTED_AMOUNT], line[TRANCHE_WEIGHTS_WORD_CAPITAL]);
 }
 
 /* Weighs the sheet of a file's bytes and prints its lines, or the refusal. Returns the refusal's number, 0 where there is none. */

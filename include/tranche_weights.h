@@ -6,20 +6,21 @@
  *
  * What holds of all three functions
  * - The caller owns all memory. Nothing is allocated, kept or freed, and no pointer outlives the call.
- * - There is no state: calls on different memory may run at the same time on different threads.
+ * - There is no state: calls that write to different memory may run at the same time on different threads, also on the same sheet.
  * - Whatever the words or bytes are, the call ends and gives the answer described here; no input is undefined.
- * - A list of length 0 is nothing: its pointer is not looked at and may be null.
+ * - A list of length 0 is nothing: its pointer is not looked at and may be null. What is lent to be written need not be initialised.
  * - What the caller owes: any other pointer is not null and is aligned for its type, as many words or bytes as its length says stay readable (or writable, where the
  *   pointer is not const) until the call returns, and what the function writes overlaps nothing else that is passed. place, count and charge are never null.
  * - It also owes the stack: 16 KB are enough for tranche_weights_weigh and 64 KB for the two that take a file (tests/calls.c runs them on threads with no more).
- * - What is proved is the code that stands behind these names. That a caller keeps what it owes, no proof can see.
+ * - What is proved is the archive's three functions, whose names end in the version; the functions here only hand on to them. That a caller keeps what it owes, no
+ *   proof can see.
  *
  * Versions
- * - Within a version of the interface nothing below changes but comments.
+ * - Within a version of the interface nothing that is declared or said here changes, and every sheet keeps its answer.
  * - A later version may add facts, sections, refusals and approaches, and words at the end of a line, and so change the limits and lengths below; it may no longer
- *   give a refusal that is listed here. A refusal's number, an approach's word and the place of a word in the line keep their meaning in all versions, and a number
- *   that is no longer given is not used again. So a program that goes by the names below, and takes a refusal or an approach that it does not know for what it is,
- *   need only be compiled anew.
+ *   give a refusal that is listed here, and it may give a sheet another weight where the rules have changed. A refusal's number, an approach's word and the place of a
+ *   word in the line keep their meaning in all versions, and a number that is no longer given is not used again. So a program that goes by the names below, and
+ *   takes a refusal or an approach that it does not know for what it is, need only be compiled anew.
  * - Each function's name in the archive ends in the version. A header and an archive of two versions do not link: the linker names the function that is missing.
  */
 #ifndef TRANCHE_WEIGHTS_H
@@ -39,14 +40,14 @@ extern "C" {
 #define TRANCHE_WEIGHTS_SHEET_WORDS 4231
 #define TRANCHE_WEIGHTS_FILE_BYTES (8 * TRANCHE_WEIGHTS_SHEET_WORDS)
 
-/* The places of the words of a line, and how many there are. */
+/* The places of the words in a line, and how many there are. */
 enum {
-    TRANCHE_WEIGHTS_APPROACH = 0,             /* an approach, as listed below */
-    TRANCHE_WEIGHTS_ATTACHMENT = 1,           /* the attachment point, in millionths of the pool */
-    TRANCHE_WEIGHTS_DETACHMENT = 2,           /* the detachment point, in millionths of the pool */
-    TRANCHE_WEIGHTS_WEIGHT = 3,               /* the risk weight, in hundredths of a percent */
-    TRANCHE_WEIGHTS_RISK_WEIGHTED_AMOUNT = 4, /* in whole currency units */
-    TRANCHE_WEIGHTS_CAPITAL = 5,              /* in whole currency units */
+    TRANCHE_WEIGHTS_WORD_APPROACH = 0,             /* an approach, as listed below */
+    TRANCHE_WEIGHTS_WORD_ATTACHMENT = 1,           /* the attachment point, in millionths of the pool */
+    TRANCHE_WEIGHTS_WORD_DETACHMENT = 2,           /* the detachment point, in millionths of the pool */
+    TRANCHE_WEIGHTS_WORD_WEIGHT = 3,               /* the risk weight, in hundredths of a percent */
+    TRANCHE_WEIGHTS_WORD_RISK_WEIGHTED_AMOUNT = 4, /* in whole currency units */
+    TRANCHE_WEIGHTS_WORD_CAPITAL = 5,              /* in whole currency units */
     TRANCHE_WEIGHTS_LINE_WORDS = 6
 };
 
@@ -58,29 +59,29 @@ enum {
 
 /* The approaches. */
 enum {
-    TRANCHE_WEIGHTS_FALLBACK = 0, /* the fallback of 1250% */
-    TRANCHE_WEIGHTS_SEC_ERBA = 1, /* the rating table */
-    TRANCHE_WEIGHTS_SEC_SA = 2    /* the formula */
+    TRANCHE_WEIGHTS_BY_FALLBACK = 0, /* the fallback of 1250% */
+    TRANCHE_WEIGHTS_BY_SEC_ERBA = 1, /* the rating table */
+    TRANCHE_WEIGHTS_BY_SEC_SA = 2    /* the formula */
 };
 
 /* The numbers that a call returns. The README says of each refusal what to do. */
 enum {
     TRANCHE_WEIGHTS_ACCEPTED = 0,
-    TRANCHE_WEIGHTS_MISSING_WORD = 1,   /* the sheet ends too early; the place is its length */
-    TRANCHE_WEIGHTS_COUNT = 2,          /* a count is outside its limits */
-    TRANCHE_WEIGHTS_WORDS_FOLLOW = 3,   /* words follow the last section */
-    TRANCHE_WEIGHTS_FACT = 4,           /* a fact is none of its codes */
-    TRANCHE_WEIGHTS_POOL_AMOUNT = 5,    /* an exposure or nominal amount is 0 or above 10^10 */
-    TRANCHE_WEIGHTS_RISK_WEIGHT = 6,    /* a risk weight is above 1250 */
-    TRANCHE_WEIGHTS_STATUS = 7,         /* a status that the deal can't have */
-    TRANCHE_WEIGHTS_TRANCHE_AMOUNT = 8, /* a tranche amount is 0 or above 10^13, or more is held than there is */
-    TRANCHE_WEIGHTS_CLASS = 9,          /* a class out of order */
-    TRANCHE_WEIGHTS_MATURITY = 10,      /* a maturity outside 1 to 1200 months */
-    TRANCHE_WEIGHTS_RATING = 11,        /* a rating that is not listed */
-    TRANCHE_WEIGHTS_POOL_KIND = 12,     /* an IRB or mixed pool */
-    TRANCHE_WEIGHTS_THIN_TRANCHE = 13,  /* a tranche too thin for the formula; the place of its amount */
-    TRANCHE_WEIGHTS_ROOM = 14,          /* too few result words; place 0 */
-    TRANCHE_WEIGHTS_FILE_LENGTH = 15    /* a file's length is no multiple of 8 or above TRANCHE_WEIGHTS_FILE_BYTES; place 0 */
+    TRANCHE_WEIGHTS_REFUSED_MISSING_WORD = 1,   /* the sheet ends too early; the place is its length */
+    TRANCHE_WEIGHTS_REFUSED_COUNT = 2,          /* a count is outside its limits */
+    TRANCHE_WEIGHTS_REFUSED_WORDS_FOLLOW = 3,   /* words follow the last section */
+    TRANCHE_WEIGHTS_REFUSED_FACT = 4,           /* a fact is none of its codes */
+    TRANCHE_WEIGHTS_REFUSED_POOL_AMOUNT = 5,    /* an exposure or nominal amount is 0 or above 10^10 */
+    TRANCHE_WEIGHTS_REFUSED_RISK_WEIGHT = 6,    /* a risk weight is above 1250 */
+    TRANCHE_WEIGHTS_REFUSED_STATUS = 7,         /* a status that the deal can't have */
+    TRANCHE_WEIGHTS_REFUSED_TRANCHE_AMOUNT = 8, /* a tranche amount is 0 or above 10^13, or more is held than there is */
+    TRANCHE_WEIGHTS_REFUSED_CLASS = 9,          /* a class out of order */
+    TRANCHE_WEIGHTS_REFUSED_MATURITY = 10,      /* a maturity outside 1 to 1200 months */
+    TRANCHE_WEIGHTS_REFUSED_RATING = 11,        /* a rating that is not listed */
+    TRANCHE_WEIGHTS_REFUSED_POOL_KIND = 12,     /* an IRB or mixed pool */
+    TRANCHE_WEIGHTS_REFUSED_THIN_TRANCHE = 13,  /* a tranche too thin for the formula; the place of its amount */
+    TRANCHE_WEIGHTS_REFUSED_ROOM = 14,          /* too few result words; place 0 */
+    TRANCHE_WEIGHTS_REFUSED_FILE_LENGTH = 15    /* a file's length is no multiple of 8 or above TRANCHE_WEIGHTS_FILE_BYTES; place 0 */
 };
 
 /* The functions as the archive names them. They take what the functions below take, and no null pointer. */

@@ -1,6 +1,6 @@
 #!/bin/sh
-# Builds examples/print_lines.c and tests/calls.c, with every warning an error, and holds what they print to what is due. The programs and the static library are
-# built first: rt check sheet_words tranche_report, rt staticlib tranche_weights.
+# Builds examples/print_lines.c, tests/calls.c and tests/null_lists.c, with every warning an error, and holds what they print to what is due. The programs and the
+# static library are built first: rt check sheet_words tranche_report, rt staticlib tranche_weights.
 set -eu
 cd "$(dirname "$0")/.."
 room=$(mktemp -d)
@@ -8,6 +8,9 @@ trap 'rm -rf "$room"' EXIT
 build="cc -O2 -Wall -Wextra -Wpedantic -Werror -Iinclude"
 $build -std=c99 examples/print_lines.c target/staticlib/libtranche_weights.a -o "$room/print_lines"
 $build -std=c11 -pthread tests/calls.c target/staticlib/libtranche_weights.a -o "$room/calls"
+$build -std=c99 tests/null_lists.c -o "$room/null_lists"
+"$room/null_lists"
+echo "null for lists of length 0: ok"
 
 # One case of the example: held NAME FILE STATUS STANDARD-OUTPUT STANDARD-ERROR, the last two in printf's escapes
 held() {

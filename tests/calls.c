@@ -16,7 +16,7 @@
 
 /* A sheet that is accepted, its line, and the word after it as it was. */
 static const uint64_t sheet[] = {4, 0, 0, 1, 1, 1, 100, 100, 100, 0, 1, 80, 1, 60, 80, 1, 0, 0};
-static const uint64_t lines[] = {TRANCHE_WEIGHTS_SEC_ERBA, 200000, 1000000, 1900, 16, 2, 7};
+static const uint64_t lines[] = {TRANCHE_WEIGHTS_BY_SEC_ERBA, 200000, 1000000, 1900, 16, 2, 7};
 #define WORDS (sizeof sheet / sizeof *sheet)
 
 static unsigned char file[TRANCHE_WEIGHTS_FILE_BYTES + 1];
@@ -101,8 +101,8 @@ static void accepted(struct given g, const char *what)
 static void *try_weigh(void *unused)
 {
     accepted(weigh(WORDS, TRANCHE_WEIGHTS_LINE_WORDS), "an accepted sheet");
-    refused(weigh(WORDS, TRANCHE_WEIGHTS_LINE_WORDS - 1), TRANCHE_WEIGHTS_ROOM, 0, "a sheet with too little room");
-    refused(weigh(WORDS - 1, TRANCHE_WEIGHTS_LINE_WORDS), TRANCHE_WEIGHTS_MISSING_WORD, WORDS - 1, "a sheet with a word missing");
+    refused(weigh(WORDS, TRANCHE_WEIGHTS_LINE_WORDS - 1), TRANCHE_WEIGHTS_REFUSED_ROOM, 0, "a sheet with too little room");
+    refused(weigh(WORDS - 1, TRANCHE_WEIGHTS_LINE_WORDS), TRANCHE_WEIGHTS_REFUSED_MISSING_WORD, WORDS - 1, "a sheet with a word missing");
     return unused;
 }
 
@@ -110,9 +110,9 @@ static void *try_weigh(void *unused)
 static void *try_weigh_file(void *unused)
 {
     accepted(weigh_file(8 * WORDS, TRANCHE_WEIGHTS_LINE_WORDS), "an accepted file");
-    refused(weigh_file(8 * WORDS, TRANCHE_WEIGHTS_LINE_WORDS - 1), TRANCHE_WEIGHTS_ROOM, 0, "a file with too little room");
-    refused(weigh_file(8 * WORDS - 8, TRANCHE_WEIGHTS_LINE_WORDS), TRANCHE_WEIGHTS_MISSING_WORD, WORDS - 1, "a file with a word missing");
-    refused(weigh_file(8 * WORDS - 1, 0), TRANCHE_WEIGHTS_FILE_LENGTH, 0, "a file of a bad length");
+    refused(weigh_file(8 * WORDS, TRANCHE_WEIGHTS_LINE_WORDS - 1), TRANCHE_WEIGHTS_REFUSED_ROOM, 0, "a file with too little room");
+    refused(weigh_file(8 * WORDS - 8, TRANCHE_WEIGHTS_LINE_WORDS), TRANCHE_WEIGHTS_REFUSED_MISSING_WORD, WORDS - 1, "a file with a word missing");
+    refused(weigh_file(8 * WORDS - 1, 0), TRANCHE_WEIGHTS_REFUSED_FILE_LENGTH, 0, "a file of a bad length");
     return unused;
 }
 
@@ -121,13 +121,18 @@ static void *try_null(void *unused)
 {
     struct given g = before;
     g.number = tranche_weights_weigh(NULL, 0, g.results, TRANCHE_WEIGHTS_LINE_WORDS, &g.place, &g.count, &g.charge);
-    refused(g, TRANCHE_WEIGHTS_MISSING_WORD, 0, "no sheet");
+    refused(g, TRANCHE_WEIGHTS_REFUSED_MISSING_WORD, 0, "no sheet");
+    g = before;
     g.number = tranche_weights_weigh(sheet, WORDS, NULL, 0, &g.place, &g.count, &g.charge);
-    refused(g, TRANCHE_WEIGHTS_ROOM, 0, "no results");
-    g.number = tranche_weights_weigh_file(NULL, 0, NULL, 0, &g.place, &g.count, &g.charge);
-    refused(g, TRANCHE_WEIGHTS_MISSING_WORD, 0, "no file and no results");
+    refused(g, TRANCHE_WEIGHTS_REFUSED_ROOM, 0, "no results");
+    g = before;
+    g.number = tranche_weights_weigh_file(NULL, 0, g.results, TRANCHE_WEIGHTS_LINE_WORDS, &g.place, &g.count, &g.charge);
+    refused(g, TRANCHE_WEIGHTS_REFUSED_MISSING_WORD, 0, "no file");
+    g = before;
+    g.number = tranche_weights_weigh_file((const uint8_t *)sheet, 8 * WORDS, NULL, 0, &g.place, &g.count, &g.charge);
+    refused(g, TRANCHE_WEIGHTS_REFUSED_ROOM, 0, "no results for a file");
     due(tranche_weights_report(NULL, 0, text, sizeof text) == 15 && memcmp(text, "refused 1 at 0\n", 15) == 0, "the report on no file");
-    due(tranche_weights_report(NULL, 0, NULL, 0) == 15, "no room for the report on no file");
+    due(tranche_weights_report(file, size, NULL, 0) == report(sizeof text), "no room for the report");
     return unused;
 }
 

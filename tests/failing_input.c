@@ -8,7 +8,9 @@
 #include <fcntl.h>
 #include <stdio.h>
 #include <stdlib.h>
+#include <sys/ioctl.h>
 #include <termios.h>
+#include <time.h>
 #include <unistd.h>
 
 /* The most bytes of the file: few enough that the terminal holds them all, and the write waits for no reader. */
@@ -35,8 +37,20 @@ static int open_slave(int master)
     return slave;
 }
 
-/* Writes the bytes of a file to the slave. */
-static void write_file(const char *name, int slave)
+/* Waits, a second at the most, until so many bytes can be read. */
+static void await(int master, size_t size)
+{
+    const struct timespec pause = {0, 1000000};
+    int there = 0;
+    for (int i = 0; i < 1000 && (size_t)there < size; i++) {
+        need(ioctl(master, FIONREAD, &there) == 0, "the bytes can't be counted");
+        nanosleep(&pause, NULL);
+    }
+    need((size_t)there == size, "the bytes are not there");
+}
+
+/* Writes the bytes of a file to the slave, and sees that the master has them. */
+static void write_file(const char *name, int slave, int master)
 {
     static unsigned char bytes[MOST + 1];
     FILE *from = fopen(name, "rb");
@@ -45,6 +59,7 @@ static void write_file(const char *name, int slave)
     fclose(from);
     need(size <= MOST, "the file is too long");
     need(write(slave, bytes, size) == (ssize_t)size, "the slave can't be written");
+    await(master, size);
 }
 
 int main(int argc, char **argv)
@@ -53,7 +68,7 @@ int main(int argc, char **argv)
     int master = posix_openpt(O_RDWR | O_NOCTTY);
     need(master >= 0, "no pseudo-terminal");
     int slave = open_slave(master);
-    write_file(argv[1], slave);
+    write_file(argv[1], slave, master);
     need(close(slave) == 0 && dup2(master, STDIN_FILENO) == STDIN_FILENO && close(master) == 0, "no standard input");
     execv(argv[2], argv + 2);
     need(0, "the program can't be run");

@@ -1,7 +1,7 @@
 #!/bin/sh
 # The version of the interface: the archive has just the header's functions, by the header's version, the header has the README's refusals, and neither the C
-# example nor the Rust crate links with an archive of another version. Such an archive is made of the real one by renaming. The static library is built first:
-# rt staticlib tranche_weights.
+# example nor the Rust crate links with an archive of another version. Such an archive is made of the real one by renaming. Last, the header alone, and the Rust
+# crate with no archive. The static library is built first: rt staticlib tranche_weights.
 set -eu
 cd "$(dirname "$0")/.."
 room=$(mktemp -d)
@@ -51,9 +51,20 @@ must_not_link "C and another version" cc -std=c99 -Iinclude examples/print_lines
 must_not_link "Rust and another version" env TRANCHE_WEIGHTS_LIB="$room/other" CARGO_TARGET_DIR="$room/rust" \
     cargo build --offline --quiet --manifest-path rust/Cargo.toml -p tranche_weights --example deal
 
-# The header is C99 and C++.
-printf '#include "tranche_weights.h"\n' > "$room/alone.c"
+# The header stands alone, in C99 and in C++: the report on no file is "refused 1 at 0" and a newline.
+cat > "$room/alone.c" << 'END'
+#include "tranche_weights.h"
+int main(void) { return tranche_weights_report(NULL, 0, NULL, 0) == 15 ? 0 : 1; }
+END
 cp "$room/alone.c" "$room/alone.cc"
-cc -std=c99 -Wall -Wextra -Wpedantic -Werror -Iinclude -fsyntax-only "$room/alone.c"
-c++ -std=c++11 -Wall -Wextra -Wpedantic -Werror -Iinclude -fsyntax-only "$room/alone.cc"
-echo "header alone: ok"
+cc -std=c99 -Wall -Wextra -Wpedantic -Werror -Iinclude "$room/alone.c" "$archive" -o "$room/alone"
+"$room/alone"
+c++ -std=c++11 -Wall -Wextra -Wpedantic -Werror -Iinclude "$room/alone.cc" "$archive" -o "$room/alone_in_c++"
+"$room/alone_in_c++"
+echo "header alone, in C and in C++: ok"
+
+# Without an archive a Rust program can be checked and documented.
+for job in "check" "doc --no-deps"; do
+    env TRANCHE_WEIGHTS_LIB="$room/none" CARGO_TARGET_DIR="$room/rust" cargo $job --offline --quiet --manifest-path rust/Cargo.toml -p tranche_weights
+done
+echo "Rust without an archive: ok"

@@ -38,7 +38,11 @@ fn print_example(i: usize) {
     let read = reading::read_argument(i, b"usage: checked_examples FILE...\n", &mut text);
     let size = read.size;
     if read.ok {
-        print_sheet(&text[..size]);
+        if size < text.len() {
+            print_sheet(&text[..size]);
+        } else {
+            io::write_all(STDOUT_FILENO, b"too long\n");
+        }
     }
 }
 

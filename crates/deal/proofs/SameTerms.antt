@@ -105,7 +105,7 @@ pub same-tranche :
     tranche s′ i ≡ tranche s i
 unfolding tranche attachmentPoint detachmentPoint
 same-tranche s s′ i counts sums l alike own =
-    rw (
+    simp (
       sums,
       classes i l,
       same-senior-amount s s′ (class s i + 1) counts amounts classes,

@@ -1,8 +1,8 @@
 -- The answer to a file, by its length and by the words that are loaded from it; and that its four numbers settle it. No axioms.
 use mathlib.Core.Bool.{Bool, true, false, true≢false}
-use mathlib.Core.List.{List, _++_}
+use mathlib.Core.List.{List}
 use mathlib.Core.Path.{_≡_, refl, sym, ap, _∙_}
-use Prim.Native.Nat.{ℕ, _+_, _/_, _≤_}
+use Prim.Native.Nat.{ℕ, _/_, _≤_}
 use native.Mathlib.Omega.{arith}
 use lib.ListN.{length, take, drop, length-append}
 use Rattle.files.specs.FileForm.{goodLength, fileWords, wordsAfter}
@@ -16,11 +16,11 @@ use Rattle.deal_file.specs.FileAnswer.{fileReply, fileResults, FileKeeps
 
 -- ---- by the length of the file
 
-abbrev pub badLength : Reply
-badLength = record { number = 15; place = 0; count = 0; charge = 0 }
+abbrev pub badLength : Answer
+badLength = Refused (record { number = 15; place = 0 })
 
 module _ (file : List ℕ) where
-  pub reply-of-bad-length : (room : ℕ) → goodLength file ≡ false → fileReply file room ≡ badLength
+  pub reply-of-bad-length : (room : ℕ) → goodLength file ≡ false → fileReply file room ≡ replyOf badLength
   unfolding fileReply
   reply-of-bad-length room bad = rw bad
 
@@ -59,7 +59,7 @@ file-words-fit file old room good is =
 
 -- a bad length is refused and leaves the results
 pub bad-length-refused :
-    (file old : List ℕ) {a : Reply} → goodLength file ≡ false → a ≡ badLength →
+    (file old : List ℕ) {a : Reply} → goodLength file ≡ false → a ≡ replyOf badLength →
     (a ≡ fileReply file (length old)) × ((old ≡ fileResults file old) × FileKeepsDemandThree file (length old) old)
 bad-length-refused file old bad is = (
   is ∙ sym (reply-of-bad-length file (length old) bad),
@@ -81,7 +81,7 @@ words-weighed file lent old new good is kept =
 
 -- ---- the four numbers settle the answer
 
-bad-length-answer : (a : Answer) → replyOf a ≡ badLength → a ≡ Refused (record { number = 15; place = 0 })
+bad-length-answer : (a : Answer) → replyOf a ≡ replyOf badLength → a ≡ badLength
 bad-length-answer (Weighed n k) same = absurd (omega (arith, ap (λ (x : Reply). x .number) same))
 bad-length-answer (Refused r) same =
     let number = ap (λ (x : Reply). x .number) same in

@@ -6,11 +6,12 @@ use mathlib.Core.Path.{_≡_}
 use Prim.Native.Nat.{ℕ}
 use Rattle.files.specs.FileForm.{goodLength, fileWords}
 use Rattle.deal.specs.DemandThree.{KeepsDemandThree}
-use Rattle.deal.specs.Results.{Reply, replyTo, resultsAfter}
+use Rattle.deal.specs.Results.{Reply, replyOf, replyTo, resultsAfter}
+use Rattle.deal.specs.declared.Answer.the-variants.{Refused}
 
 -- the numbers that a file is due, with room for that many result words
 unfoldable pub fileReply : List ℕ → ℕ → Reply
-fileReply file room = cond (goodLength file) (replyTo (fileWords file) room) (record { number = 15; place = 0; count = 0; charge = 0 })
+fileReply file room = cond (goodLength file) (replyTo (fileWords file) room) (replyOf (Refused (record { number = 15; place = 0 })))
 
 -- the results: those of the file's words, or as they were
 unfoldable pub fileResults : List ℕ → List ℕ → List ℕ

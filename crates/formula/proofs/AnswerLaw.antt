@@ -1,7 +1,5 @@
 -- The numbers of a raw weight settle the answer: no two answers have the same numbers. No axioms.
-use mathlib.Core.Option.{Option}
 use mathlib.Core.Path.{_≡_, refl, ap}
-use Prim.Native.Nat.{ℕ}
 use Rattle.formula.specs.Formula.{RawWeightNumbers, numbersOf}
 use Rattle.formula.specs.declared.RawWeight.{RawWeight}
 use Rattle.formula.specs.declared.RawWeight.the-variants.{Weight, NoThickness, OutsideLimits}

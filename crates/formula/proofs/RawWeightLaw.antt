@@ -9,7 +9,7 @@ use borrow.Author.Tests.{le-leb, lt-leb, eq-eqb, ne-eqb}
 use Rattle.numbers.proofs.RoundingLaws.{rounded-up-between}
 use Rattle.formula.specs.Fraction.{Fraction, over}
 use Rattle.formula.specs.Formula.{low, up, Passes, WithinLimits, weighing, refusing, unnumbered, IsRawWeight}
-use Rattle.formula.specs.FixedPoint.{productDistance, productAbove, units, formulaWeight, withinLimits, rawWeight}
+use Rattle.formula.specs.FixedPoint.{productDistance, productAbove, units, weightNumerator, formulaWeight, withinLimits, rawWeight}
 use Rattle.formula.proofs.Limits.{limits-of-test, test-of-limits}
 use Rattle.formula.proofs.SeriesLaws.{low-top-pos, up-top-pos}
 use Rattle.formula.proofs.DecayBounds.{not-above-smaller, not-below-larger}
@@ -80,15 +80,14 @@ module _ (A D K p : ℕ) (K-pos : 0 < K) (p-pos : 0 < p) (above : K < D) (thick 
       (product-high (units lower b) (units width b))
       (product-low (units lower b) (units width b))
 
-  -- the numerator of the weight, rounded up over the thickness
-  rounded-up :
-      (125000 * ((K - A) * 2 ^ 27 + v * product) ≤ w * ((D - A) * 2 ^ 27)) ×
-      (w * ((D - A) * 2 ^ 27) < 125000 * ((K - A) * 2 ^ 27 + v * product) + (D - A) * 2 ^ 27)
+  -- the weight is the numerator over the thickness, rounded up
+  rounded-up : (weightNumerator A D K p ≤ w * ((D - A) * 2 ^ 27)) × (w * ((D - A) * 2 ^ 27) < weightNumerator A D K p + (D - A) * 2 ^ 27)
   unfolding formulaWeight
-  rounded-up = rounded-up-between (125000 * ((K - A) * 2 ^ 27 + v * product)) ((D - A) * 2 ^ 27) (omega arith)
+  rounded-up = rounded-up-between (weightNumerator A D K p) ((D - A) * 2 ^ 27) (omega arith)
 
-  -- productDistance × 125,000 is below 2^27
+  -- less than 2 above what the product at its lowest gives, since productDistance × 125,000 is below 2^27
   near : w * ((D - A) * 2 ^ 27) < 125000 * ((K - A) * 2 ^ 27 + v * (product - productDistance)) + 2 * ((D - A) * 2 ^ 27)
+  unfolding weightNumerator
   near = core product (product - productDistance) (D - A) (K - A) v (omega arith) (omega arith) (rounded-up .1)
     where
       core : (P Q m t v : ℕ) → P ≤ Q + productDistance → t + v ≡ m → w * (m * 2 ^ 27) < 125000 * (t * 2 ^ 27 + v * P) + m * 2 ^ 27 →
@@ -100,6 +99,7 @@ module _ (A D K p : ℕ) (K-pos : 0 < K) (p-pos : 0 < p) (above : K < D) (thick 
 
   -- The raw weight passes.
   pub formula-passes : Passes A D K p w
+  unfolding weightNumerator
   formula-passes =
       let k = gap .0 in
       record {
@@ -112,6 +112,7 @@ module _ (A D K p : ℕ) (K-pos : 0 < K) (p-pos : 0 < p) (above : K < D) (thick 
 
   -- It is at most 125,000, since the product is at most 2^27.
   pub formula-at-most : w ≤ 125000
+  unfolding weightNumerator
   formula-at-most = core (K - A) v (D - A) product thickness (omega arith) (product-above-at-most (units lower b) (units width b)) (rounded-up .1)
     where
       core : (t v m P : ℕ) → t + v ≡ m → 0 < m → P ≤ 2 ^ 27 → w * (m * 2 ^ 27) < 125000 * (t * 2 ^ 27 + v * P) + m * 2 ^ 27 → w ≤ 125000

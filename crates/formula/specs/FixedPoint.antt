@@ -60,12 +60,16 @@ productAbove L x = (decayAbove L * meanDecayAbove x + (2 ^ 32 - 1)) / 2 ^ 32
 unfoldable pub units : ℕ → ℕ → ℕ
 units a b = a * 2 ^ 32 / b
 
--- 125,000 × (max(K − A, 0) + v × product) / (D − A), rounded up, where v = D − max(A, K) and the product is in units of 2^−27
-unfoldable pub formulaWeight : ℕ → ℕ → ℕ → ℕ → ℕ
-formulaWeight A D K p =
+-- 125,000 × (max(K − A, 0) + v × product) in units of 2^−27, where v = D − max(A, K)
+unfoldable pub weightNumerator : ℕ → ℕ → ℕ → ℕ → ℕ
+weightNumerator A D K p =
     let v = D - max A K in
     let product = productAbove (units ((A - K) * 1000000) (p * K)) (units (v * 1000000) (p * K)) in
-    roundedUp (125000 * ((K - A) * 2 ^ 27 + v * product)) ((D - A) * 2 ^ 27)
+    125000 * ((K - A) * 2 ^ 27 + v * product)
+
+-- that over D − A, rounded up
+unfoldable pub formulaWeight : ℕ → ℕ → ℕ → ℕ → ℕ
+formulaWeight A D K p = roundedUp (weightNumerator A D K p) ((D - A) * 2 ^ 27)
 
 -- whether the inputs are within the limits of Formula.antt
 abbrev pub withinLimits : ℕ → ℕ → ℕ → ℕ → Bool

@@ -118,14 +118,15 @@ refusing number = record { refusal = some number; weight = none }
 abbrev pub unnumbered : RawWeightNumbers
 unnumbered = record { refusal = none; weight = none }
 
--- The numbers of each case of the enum. `NoThickness` is 13's condition where K is at least 1: "A equals D, and D is above the pool charge" (where
--- K is 0, 13 is judged on the sheet alone). 01 has no number for `OutsideLimits`, since no sheet reaches it, and none is made up here.
+-- The numbers of each case of the enum. `NoThickness` is the condition of 13, "A equals D, and D is above the pool charge", where K is at least 1 (where K
+-- is 0, 13 is judged on the sheet alone); A above D, which no sheet has, is answered alike. 13's place is one of the sheet's and is not known here. 01
+-- has no number for `OutsideLimits`, since no sheet reaches it, and none is made up here.
 abbrev pub numbersOf : RawWeight → RawWeightNumbers
 numbersOf (Weight w) = weighing w
 numbersOf NoThickness = refusing 13
 numbersOf OutsideLimits = unnumbered
 
--- n is a whole number that passes (demand 3), "and never above 125,000"
+-- n holds a raw weight, and no refusal: a whole number that passes (demand 3), "and never above 125,000"
 pub record PassingWeight (A D K p : ℕ) (n : RawWeightNumbers) : Type 0 where
   pub weight : ℕ
   pub answered : n ≡ weighing weight
@@ -133,7 +134,7 @@ pub record PassingWeight (A D K p : ℕ) (n : RawWeightNumbers) : Type 0 where
   pub at-most : weight ≤ 125000
 
 -- "the raw weight is 125,000 if D ≤ K; 0 if K = 0; else" the formula, which needs A below D: where K is at least 1, D above K and A not below D
--- (at A = D the condition of refusal 13) there is no number. Nor is there one outside the limits.
+-- there is no raw weight, and the number is 13. Outside the limits there is neither.
 pub record IsRawWeight (A D K p : ℕ) (n : RawWeightNumbers) : Type 0 where
   pub outside : (WithinLimits A D K p → ⊥) → n ≡ unnumbered
   pub within-charge : WithinLimits A D K p → D ≤ K → n ≡ weighing 125000

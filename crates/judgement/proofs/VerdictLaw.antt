@@ -1,10 +1,10 @@
--- The numbers of a verdict settle it: no two verdicts have the same numbers. And what the numbers that `judge_words` promises say of the words. No axioms.
+-- The numbers of a verdict settle it: no two verdicts have the same numbers. And those of the words' verdict mean what they should. No axioms.
 use mathlib.Core.List.{List}
 use mathlib.Core.Option.{Option, none, some}
-use mathlib.Core.Path.{_≡_, refl, ap}
+use mathlib.Core.Path.{_≡_, refl, sym, ap, _∙_}
 use Prim.Native.Nat.{ℕ}
 use Rattle.judgement.specs.Refusals.{wordsVerdict, NumberAndPlace, numbersOf}
-use Rattle.judgement.specs.Judged.{WordsGood, WordsRefusal}
+use Rattle.judgement.specs.Judged.{NumbersMean}
 use Rattle.judgement.specs.declared.Refusal.{Refusal}
 use Rattle.judgement.specs.declared.Verdict.{Verdict}
 use Rattle.judgement.specs.declared.Verdict.the-variants.{Sound, Faulty}
@@ -27,10 +27,9 @@ verdict-settled Sound (Faulty r) e = cc
 verdict-settled (Faulty q) Sound e = cc
 verdict-settled (Faulty q) (Faulty r) e = ap Faulty (refusal-settled q r e)
 
--- a number and a place: the words are refused with just these
-pub refused-with : (s : List ℕ) (r : Refusal) → numbersOf (wordsVerdict s) ≡ some (record { number = r .number; place = r .place }) → WordsRefusal s r
-refused-with s r e = words-refused s r (verdict-settled (wordsVerdict s) (Faulty r) e)
-
--- none: the words are good
-pub good-with-none : (s : List ℕ) → numbersOf (wordsVerdict s) ≡ none → WordsGood s
-good-with-none s e = words-accepted s (verdict-settled (wordsVerdict s) Sound e)
+-- whatever numbers equal those of the words' verdict mean what they should
+pub numbers-mean : (s : List ℕ) (n : Option NumberAndPlace) → n ≡ numbersOf (wordsVerdict s) → NumbersMean s n
+numbers-mean s n e = record {
+  refused-with = λ r is. words-refused s r (verdict-settled (wordsVerdict s) (Faulty r) (sym e ∙ is));
+  good-with-none = λ is. words-accepted s (verdict-settled (wordsVerdict s) Sound (sym e ∙ is));
+}

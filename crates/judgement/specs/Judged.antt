@@ -1,11 +1,12 @@
 -- 01, "Refusals, by who can cause them", in plain relations: what each refusal by the words means, and what it means that they are good. That these and the
 -- definition by steps (Refusals.antt) say the same is proved in proofs/JudgedLaws.antt. The other refusals are in Judged.antt of `deal`.
 use mathlib.Core.List.{List}
+use mathlib.Core.Option.{Option, none, some}
 use mathlib.Core.Path.{_≡_}
 use Prim.Native.Nat.{ℕ, _<_}
 use lib.ListN.{length}
 use Rattle.judgement.specs.DealSheet.{needed}
-use Rattle.judgement.specs.Refusals.{fault}
+use Rattle.judgement.specs.Refusals.{fault, NumberAndPlace}
 use Rattle.judgement.specs.declared.Refusal.{Refusal}
 
 -- ---- one word
@@ -51,3 +52,8 @@ pub record WordsFollow (s : List ℕ) (r : Refusal) : Type 0 where
 pub data WordsRefusal (s : List ℕ) (r : Refusal) : Type 0 where
   first-bad : FirstBad s r → WordsRefusal s r
   words-follow : WordsFollow s r → WordsRefusal s r
+
+-- what the numbers of a verdict on the words mean: a number and a place are those of their refusal, and where there are none the words are good
+pub record NumbersMean (s : List ℕ) (n : Option NumberAndPlace) : Type 0 where
+  pub refused-with : (r : Refusal) → n ≡ some (record { number = r .number; place = r .place }) → WordsRefusal s r
+  pub good-with-none : n ≡ none → WordsGood s

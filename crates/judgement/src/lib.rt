@@ -5,6 +5,7 @@ ghost use lib.Dec.{eqb};
 ghost use lib.ListN.{length};
 ghost use Rattle.judgement.specs.DealSheet.{poolAt, rows, rowAt, tranchesAt, trancheCount, trancheAt, class, needed};
 ghost use Rattle.judgement.specs.Refusals.{unless, within, countFault, factFault, statusAllowed, rowFault, classInOrder, trancheFault, judgeWith, judged, wordsVerdict, numbersOf};
+ghost use Rattle.judgement.specs.Judged.{NumbersMean};
 ghost use Rattle.judgement.specs.RowTest.{rowIsGood};
 ghost use Rattle.judgement.specs.declared.Verdict.the-variants.{Sound};
 
@@ -317,6 +318,7 @@ fn judge_needed(s: &[u64]) -> Verdict
 // Every word that the sheet needs, and then that none follows. Refusals 1 to 12 are decided here. `numbersOf` gives 01's number and place for each case.
 pub fn judge_words(s: &[u64]) -> Verdict
     ensures { λ r. ⌜ numbersOf r ≡ numbersOf (wordsVerdict (now (s .entry))) ⌝ }
+    ensures { λ r. ⌜ NumbersMean (now (s .entry)) (numbersOf r) ⌝ }
 {
     let words = judge_needed(s);
     let Verdict::Sound = words else {

@@ -9,7 +9,7 @@ use borrow.Author.Tests.{leb-true, ltb-true}
 use Rattle.numbers.proofs.Tests.{both-true}
 use Rattle.files.specs.FileForm.{lowestFirst, wordsTo, bytesOf, fileBytes}
 use Rattle.formula.specs.Formula.{factorial, low, lowerExponent, upperExponent, upperEnd, lowerEnd, Passes}
-use Rattle.formula.specs.FixedPoint.{entry, fineDecay, decayBelow, decayAbove, meanDecayOfLarge, meanDecayAbove, productAbove, units, formulaWeight, rawWeight}
+use Rattle.formula.specs.FixedPoint.{entry, fineDecay, decayBelow, decayAbove, meanDecayOfLarge, meanDecayAbove, productAbove, units, weightNumerator, formulaWeight, rawWeight}
 use Rattle.formula.proofs.EndLaws.{passing-close}
 use Rattle.ratings.specs.RatingTable.{exactWeight, weightByRating, weightByRatings}
 use Rattle.weights.specs.ApproachFloorCap.{formulaRawWeight, tableWeight, weight, thin}
@@ -33,7 +33,7 @@ unfolding
     fault judge firstOf wordsVerdict verdict
     sum poolSums knownCharge poolCharge seniorAmount attachmentPoint detachmentPoint
     exactWeight weightByRating weightByRatings
-    factorial low entry fineDecay decayBelow decayAbove meanDecayOfLarge meanDecayAbove productAbove units formulaWeight rawWeight
+    factorial low entry fineDecay decayBelow decayAbove meanDecayOfLarge meanDecayAbove productAbove units weightNumerator formulaWeight rawWeight
     formulaRawWeight tableWeight weight thin terms tranche line lineWords lines replyTo fileReply
     ascii digits decimal labelled spaced trancheLines dealText sheetText fileText
 checked-deals = refl

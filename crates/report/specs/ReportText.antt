@@ -67,7 +67,7 @@ resultRoom = 6 * 32
 unfoldable pub sheetText : List ℕ → List ℕ
 sheetText s = textFor s (replyTo s resultRoom)
 
--- the text of a file: that of the reply which it is due, with its words where the length is good
+-- the text of a file: that of the reply that it is due, with the lines of its words where it is accepted
 unfoldable pub fileText : List ℕ → List ℕ
 fileText file = textFor (fileWords file) (fileReply file resultRoom)
 

@@ -64,7 +64,7 @@ fn is_dash(name: &[u8]) -> bool {
 
 // Reads what is open until the buffer is full or the input ends; `name` is what a failure is said of. `io::read_full` stops at a read that fails as it does at the
 // end, and errno tells the two apart: `os::arg` has set it to 0, an open or a read that succeeds leaves it, and a read that fails sets it. Were it set with
-// nothing wrong, a good file would be refused; half a file is never taken for the whole.
+// nothing wrong, a good file would be refused; an input that fails is never taken for one that ended.
 fn read_open(fd: i32, name: &[u8], buf: &mut [u8]) -> Read
     ensures { λ r. ⌜ Counts (r .size) (now (buf .exit)) ⌝ }
 {

@@ -2,7 +2,7 @@
 use Prim.Native.Nat.{_+_, _*_, _-_, _^_, _≤_}
 use native.Mathlib.Omega.{arith}
 use borrow.Author.Needs.{needs}
-use Rattle.formula.specs.FixedPoint.{formulaWeight}
+use Rattle.formula.specs.FixedPoint.{weightNumerator, formulaWeight}
 use Rattle.formula.proofs.StepBounds.{scale-within, sum-at-most, product-above-at-most}
 use Rattle.formula.proofs.formula_weight.Statement.{statement}
 use Rattle.formula.proofs.formula_weight.Tie as tie
@@ -76,7 +76,7 @@ rounded-up-requires : tie.Need-rounded-up-requires
 rounded-up-requires c κs = search needs
 
 returns : tie.Need-returns
-unfolding formulaWeight
+unfolding weightNumerator formulaWeight
 returns c =
     let after-units = c .before .before .before .before in
     simp (

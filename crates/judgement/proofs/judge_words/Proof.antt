@@ -1,16 +1,26 @@
 -- `judge_words`: a fault of a needed word decides, and where they are sound the test of words that follow. No axioms.
+use mathlib.Core.List.{List}
+use mathlib.Core.Option.{Option}
 use mathlib.Core.Path.{_≡_, _∙_, sym, ap}
+use Prim.Native.Nat.{ℕ}
 use native.Mathlib.Omega.{arith}
 use lib.ListN.{length}
 use borrow.Author.Needs.{needs}
 use borrow.Author.Tests.{le-ltb, lt-ltb}
 use Rattle.judgement.specs.DealSheet.{needed}
-use Rattle.judgement.specs.Refusals.{judged, wordsVerdict, numbersOf}
+use Rattle.judgement.specs.Refusals.{judged, wordsVerdict, NumberAndPlace, numbersOf}
+use Rattle.judgement.specs.Judged.{NumbersMean}
 use Rattle.judgement.specs.declared.Verdict.the-variants.{Sound}
 use Rattle.judgement.proofs.SheetLimits.{pool-counted, tranches-counted}
 use Rattle.judgement.proofs.JudgeSteps.{fault-decides}
+use Rattle.judgement.proofs.VerdictLaw.{numbers-mean}
 use Rattle.judgement.proofs.judge_words.Statement.{statement}
 use Rattle.judgement.proofs.judge_words.Tie as tie
+
+-- what equals the numbers of the words' verdict also means what they mean
+kept :
+    (s : List ℕ) (n : Option NumberAndPlace) → n ≡ numbersOf (wordsVerdict s) → (n ≡ numbersOf (wordsVerdict s)) × NumbersMean s n
+kept s n e = (e, numbers-mean s n e)
 
 judge-needed-requires : tie.Need-judge-needed-requires
 judge-needed-requires c κs = search needs
@@ -23,7 +33,7 @@ enum-told-2 c = search needs
 
 returns : tie.Need-returns
 unfolding wordsVerdict
-returns c = ap numbersOf (fault-decides _ _ (c .enum-told2 .given .1) (c .before .before .judge-needed .ensures))
+returns c = kept _ _ (ap numbersOf (fault-decides _ _ (c .enum-told2 .given .1) (c .before .before .judge-needed .ensures)))
 
 -- behind the first test
 sound : (c : tie.After-enum-told) →
@@ -41,18 +51,19 @@ returns-2 : tie.Need-returns-2
 unfolding wordsVerdict
 returns-2 c =
     let s = c .before .before .before .before .before .before .before .args .s .now in
-    simp (
+    kept s _
+    (simp (
       sound (c .before .before .before),
       lt-ltb (needed s) (length s) (omega arith),
       c .before .tranche-at .ensures,
       c .before .before .tranche-count .ensures,
-    )
+    ))
 
 returns-3 : tie.Need-returns-3
 unfolding wordsVerdict
 returns-3 c =
     let s = c .before .before .before .before .before .before .before .args .s .now in
-    simp (sound (c .before .before .before), le-ltb (needed s) (length s) (omega arith))
+    kept s _ (simp (sound (c .before .before .before), le-ltb (needed s) (length s) (omega arith)))
 
 pub judge-words-spec : {M : Type 1} → statement M
 judge-words-spec =

@@ -25,7 +25,7 @@ enum-told-2 c = search needs
 
 -- the verdict on the words, which its numbers settle
 told : (c : tie.After-judge-words) → c .judge-words .result ≡ wordsVerdict (c .before .before .args .s .now)
-told c = verdict-settled (c .judge-words .result) (wordsVerdict (c .before .before .args .s .now)) (c .judge-words .ensures)
+told c = verdict-settled (c .judge-words .result) (wordsVerdict (c .before .before .args .s .now)) (c .judge-words .ensures .0)
 
 returns : tie.Need-returns
 returns c = fault-decides _ _ (c .enum-told2 .given .1) (told (c .before .before))
