@@ -88,7 +88,7 @@ module _ (A D K p : ℕ) (K-pos : 0 < K) (p-pos : 0 < p) (above : K < D) (thick 
   -- less than 2 above what the product at its lowest gives, since productDistance × 125,000 is below 2^27
   near : w * ((D - A) * 2 ^ 27) < 125000 * ((K - A) * 2 ^ 27 + v * (product - productDistance)) + 2 * ((D - A) * 2 ^ 27)
   unfolding weightNumerator
-  near = core product (product - productDistance) (D - A) (K - A) v (omega arith) (omega arith) (rounded-up .1)
+  near = core product (product - productDistance) (D - A) (K - A) v (omega arith) (omega arith) (omega (arith, rounded-up .1))
     where
       core : (P Q m t v : ℕ) → P ≤ Q + productDistance → t + v ≡ m → w * (m * 2 ^ 27) < 125000 * (t * 2 ^ 27 + v * P) + m * 2 ^ 27 →
           w * (m * 2 ^ 27) < 125000 * (t * 2 ^ 27 + v * Q) + 2 * (m * 2 ^ 27)
