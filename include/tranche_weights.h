@@ -16,7 +16,7 @@
  *   proof can see.
  *
  * Versions
- * - Within a version of the interface nothing that is declared or said here changes, and every sheet keeps its answer.
+ * - Within a version of the interface no name or sentence here changes its meaning (names may be added), and every sheet keeps its answer.
  * - A later version may add facts, sections, refusals and approaches, and words at the end of a line, and so change the limits and lengths below; it may no longer
  *   give a refusal that is listed here, and it may give a sheet another weight where the rules have changed. A refusal's number, an approach's word and the place of a
  *   word in the line keep their meaning in all versions, and a number that is no longer given is not used again. So a program that goes by the names below, and
@@ -36,26 +36,41 @@ extern "C" {
 /* The version of the interface. */
 #define TRANCHE_WEIGHTS_INTERFACE 1
 
-/* The most words that a sheet can need, with 1,000 pool rows and 32 tranches, and the most bytes of its file. */
-#define TRANCHE_WEIGHTS_SHEET_WORDS 4231
-#define TRANCHE_WEIGHTS_FILE_BYTES (8 * TRANCHE_WEIGHTS_SHEET_WORDS)
+/* The parts of a sheet: the most facts, of one word each; the most pool rows and the words of one; the most tranches and the words of one. */
+#define TRANCHE_WEIGHTS_MOST_FACTS 4
+#define TRANCHE_WEIGHTS_MOST_ROWS 1000
+#define TRANCHE_WEIGHTS_ROW_WORDS 4
+#define TRANCHE_WEIGHTS_MOST_TRANCHES 32
+#define TRANCHE_WEIGHTS_TRANCHE_WORDS 7
 
-/* The places of the words in a line, and how many there are. */
+/* The most words that a sheet can need, with each of the three sections after its count; the bytes of a word in its file, and the most bytes of the file. */
+#define TRANCHE_WEIGHTS_SHEET_WORDS                                                                                                                      \
+    (1 + TRANCHE_WEIGHTS_MOST_FACTS + 1 + TRANCHE_WEIGHTS_MOST_ROWS * TRANCHE_WEIGHTS_ROW_WORDS + 1 +                                                    \
+     TRANCHE_WEIGHTS_MOST_TRANCHES * TRANCHE_WEIGHTS_TRANCHE_WORDS)
+#define TRANCHE_WEIGHTS_BYTES_PER_WORD 8
+#define TRANCHE_WEIGHTS_FILE_BYTES (TRANCHE_WEIGHTS_BYTES_PER_WORD * TRANCHE_WEIGHTS_SHEET_WORDS)
+
+/* The places of the words in a line. */
 enum {
     TRANCHE_WEIGHTS_WORD_APPROACH = 0,             /* an approach, as listed below */
     TRANCHE_WEIGHTS_WORD_ATTACHMENT = 1,           /* the attachment point, in millionths of the pool */
     TRANCHE_WEIGHTS_WORD_DETACHMENT = 2,           /* the detachment point, in millionths of the pool */
     TRANCHE_WEIGHTS_WORD_WEIGHT = 3,               /* the risk weight, in hundredths of a percent */
     TRANCHE_WEIGHTS_WORD_RISK_WEIGHTED_AMOUNT = 4, /* in whole currency units */
-    TRANCHE_WEIGHTS_WORD_CAPITAL = 5,              /* in whole currency units */
-    TRANCHE_WEIGHTS_LINE_WORDS = 6
+    TRANCHE_WEIGHTS_WORD_CAPITAL = 5               /* in whole currency units */
 };
 
-/* Result words that are enough for every sheet. */
-#define TRANCHE_WEIGHTS_RESULT_WORDS (32 * TRANCHE_WEIGHTS_LINE_WORDS)
+/* How many words a line has, and result words that are enough for every sheet. */
+#define TRANCHE_WEIGHTS_LINE_WORDS 6
+#define TRANCHE_WEIGHTS_RESULT_WORDS (TRANCHE_WEIGHTS_MOST_TRANCHES * TRANCHE_WEIGHTS_LINE_WORDS)
 
-/* Bytes that hold every report. */
-#define TRANCHE_WEIGHTS_TEXT_BYTES 4810
+/*
+ * The most digits of a number, and bytes that hold every report: the labels "charge ", "tranches " and "total " have 7, 9 and 6, and each number has one more byte
+ * than digits, for the space or the newline after it. There are two numbers on the first line, two on the last, and on the line of a tranche its number and words.
+ */
+#define TRANCHE_WEIGHTS_NUMBER_DIGITS 20
+#define TRANCHE_WEIGHTS_TEXT_BYTES                                                                                                                       \
+    (7 + 9 + 6 + (2 + TRANCHE_WEIGHTS_MOST_TRANCHES * (1 + TRANCHE_WEIGHTS_LINE_WORDS) + 2) * (TRANCHE_WEIGHTS_NUMBER_DIGITS + 1))
 
 /* The approaches. */
 enum {
@@ -81,7 +96,7 @@ enum {
     TRANCHE_WEIGHTS_REFUSED_POOL_KIND = 12,     /* an IRB or mixed pool */
     TRANCHE_WEIGHTS_REFUSED_THIN_TRANCHE = 13,  /* a tranche too thin for the formula; the place of its amount */
     TRANCHE_WEIGHTS_REFUSED_ROOM = 14,          /* too few result words; place 0 */
-    TRANCHE_WEIGHTS_REFUSED_FILE_LENGTH = 15    /* a file's length is no multiple of 8 or above TRANCHE_WEIGHTS_FILE_BYTES; place 0 */
+    TRANCHE_WEIGHTS_REFUSED_FILE_LENGTH = 15    /* a file's length is no multiple of TRANCHE_WEIGHTS_BYTES_PER_WORD or above TRANCHE_WEIGHTS_FILE_BYTES; place 0 */
 };
 
 /* The functions as the archive names them. They take what the functions below take, and no null pointer. */
@@ -98,10 +113,10 @@ uint64_t tranche_weights_report_v1(const uint8_t *file, size_t size, uint8_t *te
  * results, room    where the lines go, and how many words may be written there
  * place, count, charge   one word each, written in every case
  *
- * Returns 0 where the sheet is accepted: *count tranches, their lines at the start of results in the sheet's order, TRANCHE_WEIGHTS_LINE_WORDS words each, later words
- * as they were; *charge is the pool charge in millionths, *place is 0.
- * Returns 1 to 14 where it is refused: the refusal's number; *place is the place of the faulty word, counted from 0 (0 for 14), *count and *charge are 0, and every word
- * of results is as it was.
+ * Returns TRANCHE_WEIGHTS_ACCEPTED where the sheet is accepted: *count tranches, their lines at the start of results in the sheet's order, TRANCHE_WEIGHTS_LINE_WORDS
+ * words each, later words as they were; *charge is the pool charge in millionths, *place is 0.
+ * Returns the refusal's number, any but TRANCHE_WEIGHTS_REFUSED_FILE_LENGTH, where it is refused: *place is the place of the faulty word, counted from 0 (0 for
+ * TRANCHE_WEIGHTS_REFUSED_ROOM), *count and *charge are 0, and every word of results is as it was.
  */
 static inline uint64_t tranche_weights_weigh(const uint64_t *sheet, size_t words, uint64_t *results, size_t room, uint64_t *place,
                                              uint64_t *count, uint64_t *charge)
@@ -115,8 +130,8 @@ static inline uint64_t tranche_weights_weigh(const uint64_t *sheet, size_t words
  *
  * file, size       the bytes of the file; any bytes are allowed
  *
- * Returns 15, with *place 0, where the length of the file is no multiple of 8 or above TRANCHE_WEIGHTS_FILE_BYTES, whatever else may be wrong; else what
- * tranche_weights_weigh returns for its words. The other parameters are as there.
+ * Returns TRANCHE_WEIGHTS_REFUSED_FILE_LENGTH, with *place 0, where the length of the file is no multiple of TRANCHE_WEIGHTS_BYTES_PER_WORD or above
+ * TRANCHE_WEIGHTS_FILE_BYTES, whatever else may be wrong; else what tranche_weights_weigh returns for its words. The other parameters are as there.
  */
 static inline uint64_t tranche_weights_weigh_file(const uint8_t *file, size_t size, uint64_t *results, size_t room, uint64_t *place,
                                                   uint64_t *count, uint64_t *charge)

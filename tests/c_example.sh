@@ -31,8 +31,9 @@ for name in ordinary resecuritisation refused; do
 done
 cp crates/tranche_report/data/deal "$room/checked"
 printf 'half' > "$room/half"
-dd if=/dev/zero of="$room/longest" bs=33848 count=1 2> "$room/dd.log"
-dd if=/dev/zero of="$room/longer" bs=33849 count=1 2>> "$room/dd.log"
+longest=$(($(echo TRANCHE_WEIGHTS_FILE_BYTES | cc -E -P -xc -Iinclude -include tranche_weights.h - | tail -n 1)))
+dd if=/dev/zero of="$room/longest" bs="$longest" count=1 2> "$room/dd.log"
+dd if=/dev/zero of="$room/longer" bs="$((longest + 1))" count=1 2>> "$room/dd.log"
 
 held "01's checked deal" "$room/checked" 0 "tranche 1: SEC-ERBA from 20.0000%% to 100.0000%%, weight 20.00%%, risk-weighted amount 160, capital 13
 tranche 2: SEC-ERBA from 5.0000%% to 20.0000%%, weight 263.50%%, risk-weighted amount 264, capital 22

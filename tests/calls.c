@@ -14,9 +14,21 @@
 #define FILE_STACK 65536
 #define WEIGH_STACK 16384
 
+/* What each lent word and byte holds before a call. */
+#define WORD_BEFORE 7
+#define BYTE_BEFORE 0xA5
+
 /* A sheet that is accepted, its line, and the word after it as it was. */
 static const uint64_t sheet[] = {4, 0, 0, 1, 1, 1, 100, 100, 100, 0, 1, 80, 1, 60, 80, 1, 0, 0};
-static const uint64_t lines[] = {TRANCHE_WEIGHTS_BY_SEC_ERBA, 200000, 1000000, 1900, 16, 2, 7};
+static const uint64_t lines[TRANCHE_WEIGHTS_LINE_WORDS + 1] = {
+    [TRANCHE_WEIGHTS_WORD_APPROACH] = TRANCHE_WEIGHTS_BY_SEC_ERBA,
+    [TRANCHE_WEIGHTS_WORD_ATTACHMENT] = 200000,
+    [TRANCHE_WEIGHTS_WORD_DETACHMENT] = 1000000,
+    [TRANCHE_WEIGHTS_WORD_WEIGHT] = 1900,
+    [TRANCHE_WEIGHTS_WORD_RISK_WEIGHTED_AMOUNT] = 16,
+    [TRANCHE_WEIGHTS_WORD_CAPITAL] = 2,
+    [TRANCHE_WEIGHTS_LINE_WORDS] = WORD_BEFORE,
+};
 #define WORDS (sizeof sheet / sizeof *sheet)
 
 static unsigned char file[TRANCHE_WEIGHTS_FILE_BYTES + 1];
@@ -36,7 +48,7 @@ static void due(int holds, const char *what)
 static int untouched(size_t from, size_t to)
 {
     for (size_t i = from; i < to; i++)
-        if (text[i] != 0xA5)
+        if (text[i] != BYTE_BEFORE)
             return 0;
     return 1;
 }
@@ -44,7 +56,7 @@ static int untouched(size_t from, size_t to)
 /* One call of the report with so much room, over bytes that hold a pattern. */
 static uint64_t report(size_t room)
 {
-    memset(text, 0xA5, sizeof text);
+    memset(text, BYTE_BEFORE, sizeof text);
     return tranche_weights_report(file, size, text, room);
 }
 
@@ -60,12 +72,13 @@ static void *try_report(void *unused)
     return unused;
 }
 
-/* What a call gave, with results that held 7 in every word. */
+/* What a call gave. */
 struct given {
     uint64_t results[TRANCHE_WEIGHTS_LINE_WORDS + 1], number, place, count, charge;
 };
 
-static const struct given before = {{7, 7, 7, 7, 7, 7, 7}, 9, 9, 9, 9};
+/* What is there before a call; main fills in the results. */
+static struct given before = {.number = 9, .place = 9, .count = 9, .charge = 9};
 
 /* One call on so many words of the sheet, with so much room. */
 static struct given weigh(size_t words, size_t room)
@@ -109,16 +122,18 @@ static void *try_weigh(void *unused)
 /* The same of its file; and a bad length, which comes before too little room. */
 static void *try_weigh_file(void *unused)
 {
-    accepted(weigh_file(8 * WORDS, TRANCHE_WEIGHTS_LINE_WORDS), "an accepted file");
-    refused(weigh_file(8 * WORDS, TRANCHE_WEIGHTS_LINE_WORDS - 1), TRANCHE_WEIGHTS_REFUSED_ROOM, 0, "a file with too little room");
-    refused(weigh_file(8 * WORDS - 8, TRANCHE_WEIGHTS_LINE_WORDS), TRANCHE_WEIGHTS_REFUSED_MISSING_WORD, WORDS - 1, "a file with a word missing");
-    refused(weigh_file(8 * WORDS - 1, 0), TRANCHE_WEIGHTS_REFUSED_FILE_LENGTH, 0, "a file of a bad length");
+    const size_t whole = TRANCHE_WEIGHTS_BYTES_PER_WORD * WORDS, less = whole - TRANCHE_WEIGHTS_BYTES_PER_WORD;
+    accepted(weigh_file(whole, TRANCHE_WEIGHTS_LINE_WORDS), "an accepted file");
+    refused(weigh_file(whole, TRANCHE_WEIGHTS_LINE_WORDS - 1), TRANCHE_WEIGHTS_REFUSED_ROOM, 0, "a file with too little room");
+    refused(weigh_file(less, TRANCHE_WEIGHTS_LINE_WORDS), TRANCHE_WEIGHTS_REFUSED_MISSING_WORD, WORDS - 1, "a file with a word missing");
+    refused(weigh_file(whole - 1, 0), TRANCHE_WEIGHTS_REFUSED_FILE_LENGTH, 0, "a file of a bad length");
     return unused;
 }
 
 /* A null pointer for each list, where its length is 0. */
 static void *try_null(void *unused)
 {
+    static const char no_file[] = "refused 1 at 0\n";
     struct given g = before;
     g.number = tranche_weights_weigh(NULL, 0, g.results, TRANCHE_WEIGHTS_LINE_WORDS, &g.place, &g.count, &g.charge);
     refused(g, TRANCHE_WEIGHTS_REFUSED_MISSING_WORD, 0, "no sheet");
@@ -129,9 +144,10 @@ static void *try_null(void *unused)
     g.number = tranche_weights_weigh_file(NULL, 0, g.results, TRANCHE_WEIGHTS_LINE_WORDS, &g.place, &g.count, &g.charge);
     refused(g, TRANCHE_WEIGHTS_REFUSED_MISSING_WORD, 0, "no file");
     g = before;
-    g.number = tranche_weights_weigh_file((const uint8_t *)sheet, 8 * WORDS, NULL, 0, &g.place, &g.count, &g.charge);
+    g.number = tranche_weights_weigh_file((const uint8_t *)sheet, sizeof sheet, NULL, 0, &g.place, &g.count, &g.charge);
     refused(g, TRANCHE_WEIGHTS_REFUSED_ROOM, 0, "no results for a file");
-    due(tranche_weights_report(NULL, 0, text, sizeof text) == 15 && memcmp(text, "refused 1 at 0\n", 15) == 0, "the report on no file");
+    due(tranche_weights_report(NULL, 0, text, sizeof text) == sizeof no_file - 1 && memcmp(text, no_file, sizeof no_file - 1) == 0,
+        "the report on no file");
     due(tranche_weights_report(file, size, NULL, 0) == report(sizeof text), "no room for the report");
     return unused;
 }
@@ -151,6 +167,8 @@ int main(int argc, char **argv)
     due(from != NULL, "the file to report on");
     size = fread(file, 1, sizeof file, from);
     fclose(from);
+    for (size_t i = 0; i <= TRANCHE_WEIGHTS_LINE_WORDS; i++)
+        before.results[i] = WORD_BEFORE;
     on_stack(WEIGH_STACK, try_weigh);
     on_stack(FILE_STACK, try_weigh_file);
     on_stack(FILE_STACK, try_null);

@@ -1,7 +1,7 @@
 #!/bin/sh
-# The version of the interface: the archive has just the header's functions, by the header's version, the header has the README's refusals, and neither the C
-# example nor the Rust crate links with an archive of another version. Such an archive is made of the real one by renaming. Last, the header alone, and the Rust
-# crate with no archive. The static library is built first: rt staticlib tranche_weights.
+# The version of the interface: the archive has just the header's functions, by the header's version, the header has the README's refusals and the Rust crate's
+# sizes, and neither the C example nor the Rust crate links with an archive of another version. Such an archive is made of the real one by renaming. Last, the header
+# alone, and the Rust crate with no archive. The static library is built first: rt staticlib tranche_weights.
 set -eu
 cd "$(dirname "$0")/.."
 room=$(mktemp -d)
@@ -24,6 +24,32 @@ echo "functions of the archive: ok"
 sed -n '/TRANCHE_WEIGHTS_ACCEPTED = 0/,/^}/s/.* = \([0-9]*\).*/\1/p' include/tranche_weights.h > "$room/named"
 { echo 0; sed -n '/^## Refusals/,/^## From C/s/^| \([0-9]*\) |.*/\1/p' README.md; } | cmp - "$room/named"
 echo "refusals of the header: ok"
+
+# The header's sizes are the Rust crate's: each name that the header defines with a value, but the version, is a constant of the crate with the same value. One of them
+# has another name there. The preprocessor makes sums and products of the header's names, which the shell works out; a Rust program prints the constants.
+sizes=$(sed -n 's/^#define TRANCHE_WEIGHTS_\([A-Z_]*\) .*/\1/p' include/tranche_weights.h | grep -v '^INTERFACE$')
+for name in $sizes; do
+    echo "$name $(($(echo "TRANCHE_WEIGHTS_$name" | cc -E -P -xc -Iinclude -include tranche_weights.h - | tail -n 1)))"
+done > "$room/sizes"
+mkdir -p "$room/sizes_in_rust/src"
+cat > "$room/sizes_in_rust/Cargo.toml" << END
+[package]
+name = "sizes"
+edition = "2021"
+[dependencies]
+tranche_weights = { path = "$PWD/rust/tranche_weights" }
+END
+{
+    echo "use tranche_weights::{TEXT_ROOM as TEXT_BYTES, *};"
+    echo "fn main() {"
+    for name in $sizes; do
+        echo "    println!(\"$name {}\", $name);"
+    done
+    echo "}"
+} > "$room/sizes_in_rust/src/main.rs"
+[ -s "$room/sizes" ]
+CARGO_TARGET_DIR="$room/rust" cargo run --offline --quiet --manifest-path "$room/sizes_in_rust/Cargo.toml" | cmp "$room/sizes" -
+echo "sizes of the header and of the Rust crate: ok"
 
 # The archive of another version.
 mkdir "$room/other"
@@ -54,7 +80,7 @@ must_not_link "Rust and another version" env TRANCHE_WEIGHTS_LIB="$room/other" C
 # The header stands alone, in C99 and in C++: the report on no file is "refused 1 at 0" and a newline.
 cat > "$room/alone.c" << 'END'
 #include "tranche_weights.h"
-int main(void) { return tranche_weights_report(NULL, 0, NULL, 0) == 15 ? 0 : 1; }
+int main(void) { return tranche_weights_report(NULL, 0, NULL, 0) == sizeof "refused 1 at 0\n" - 1 ? 0 : 1; }
 END
 cp "$room/alone.c" "$room/alone.cc"
 cc -std=c99 -Wall -Wextra -Wpedantic -Werror -Iinclude "$room/alone.c" "$archive" -o "$room/alone"

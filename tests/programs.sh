@@ -6,6 +6,7 @@ set -u
 
 root=$(cd "$(dirname "$0")/.." && pwd) || exit 1
 bin=$root/target/bin
+. "$root/tests/limits.sh"
 room=$(mktemp -d) || exit 1
 trap 'rm -rf "$room"' EXIT
 cd "$room" || exit 1
@@ -126,17 +127,17 @@ due 'refused 15 at 0\n' ''
 bytes 7 a > file
 run tranche_report file
 held 'tranche_report: 7 bytes'
-bytes 33849 a > file
+bytes $((sheet_bytes_most + 1)) a > file
 run tranche_report file
 held 'tranche_report: one byte more than a sheet has'
-bytes 33856 a > file
+bytes $((sheet_bytes_most + 8)) a > file
 run tranche_report file
 held 'tranche_report: one word more than a sheet has'
 bytes 1000000 a | run tranche_report -
 held 'tranche_report: a long file from a pipe'
 
 due 'refused 2 at 0\n' ''
-dd if=/dev/zero of=file bs=33848 count=1 2> dd.log
+dd if=/dev/zero of=file bs=$sheet_bytes_most count=1 2> dd.log
 run tranche_report file
 held 'tranche_report: as many bytes as a sheet has'
 
@@ -208,17 +209,17 @@ run sheet_words text
 held 'sheet_words: a number of 1000 digits'
 
 due '' ''
-dd if=/dev/zero of=due.out bs=33848 count=1 2> dd.log
-words 4231 > text
+dd if=/dev/zero of=due.out bs=$sheet_bytes_most count=1 2> dd.log
+words $sheet_words_most > text
 run sheet_words text
 held 'sheet_words: as many words as a sheet has'
 
-due '' '4232 words, and a sheet has at most 4231\n'
-words 4232 > text
+due '' "$((sheet_words_most + 1)) words, and a sheet has at most $sheet_words_most\n"
+words $((sheet_words_most + 1)) > text
 run sheet_words text
 held 'sheet_words: one word more than a sheet has'
 
-due '' '5000 words, and a sheet has at most 4231\n'
+due '' "5000 words, and a sheet has at most $sheet_words_most\n"
 words 5000 > text
 run sheet_words text
 held 'sheet_words: 5000 words'

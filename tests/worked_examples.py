@@ -15,6 +15,13 @@ getcontext().Emin = -999999999
 MILLION = 10**6
 TOP = 125_000
 FALLBACK, ERBA, SA = 0, 1, 2
+
+# "Facts, count 4", "Pool, count 1 to 1,000", "Tranches, count 1 to 32"; the words of a pool row, of a tranche and of a line.
+FACTS, ROWS, TRANCHES = 4, 1000, 32
+ROW_SIZE, TRANCHE_SIZE, LINE_SIZE = 4, 7, 6
+# The bytes of the longest sheet: three counts, facts, rows and tranches, eight bytes each.
+MOST_BYTES = 8 * (3 + FACTS + ROW_SIZE * ROWS + TRANCHE_SIZE * TRANCHES)
+
 SHORT_TERM = {21: 15, 22: 50, 23: 100, 24: 1250}
 
 # Senior 1 year, senior 5 years, non-senior 1 year, non-senior 5 years, in percent.
@@ -55,15 +62,15 @@ def judged(words):
     def within(least, most, number):
         return lambda w: 0 if least <= w <= most else number
 
-    take(within(4, 4, 2))
+    take(within(FACTS, FACTS, 2))
     take(lambda w: 4 if w > 2 else 12 if w else 0)
     resecuritised, diligence, composition = (take(within(0, 1, 4)) for _ in range(3))
     rows, tranches, last = [], [], 0
-    for _ in range(take(within(1, 1000, 2))):
+    for _ in range(take(within(1, ROWS, 2))):
         exposure, nominal = take(within(1, 10**10, 5)), take(within(1, 10**10, 5))
         weight = take(within(0, 1250, 6))
         rows.append((exposure, nominal, weight, take(within(3, 3, 7) if resecuritised else within(0, 2, 7))))
-    for _ in range(take(within(1, 32, 2))):
+    for _ in range(take(within(1, TRANCHES, 2))):
         at = place
         amount = take(within(1, 10**13, 8))
         last = take(within(max(last, 1), last + 1, 9))
@@ -205,14 +212,14 @@ def print_figures():
 
 def print_limits():
     """14 before 13, files of zeros, and the largest deals: 1,000 rows of 10^10, 32 tranches of a 32nd of the pool."""
-    print("thin tranche, results of 17 words: refused 14 at 0")
-    print("thin tranche, results of 18 words: " + report(THIN))
-    for length in (0, 7, 33847, 33848, 33849, 33856):
-        text = "refused 15 at 0" if length % 8 or length > 33848 else report([0] * (length // 8))
+    print("thin tranche, results of %d words: refused 14 at 0" % (3 * LINE_SIZE - 1))
+    print("thin tranche, results of %d words: %s" % (3 * LINE_SIZE, report(THIN)))
+    for length in (0, 7, MOST_BYTES - 1, MOST_BYTES, MOST_BYTES + 1, MOST_BYTES + 8):
+        text = "refused 15 at 0" if length % 8 or length > MOST_BYTES else report([0] * (length // 8))
         print("file of zeros, bytes %d: %s" % (length, text))
     for weight in (1250, 100):
-        sheet = [4, 0, 0, 1, 1, 1000] + [10**10, 10**10, weight, 0] * 1000 + [32]
-        for rank in range(1, 33):
+        sheet = [FACTS, 0, 0, 1, 1, ROWS] + [10**10, 10**10, weight, 0] * ROWS + [TRANCHES]
+        for rank in range(1, TRANCHES + 1):
             sheet += [312500000000, rank, 1200, 312500000000, 0, 0, 0]
         print("largest deal, risk weight %d\n%s" % (weight, report(sheet)))
 

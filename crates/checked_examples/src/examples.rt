@@ -1,7 +1,7 @@
 // The examples that are written as sheets: each argument names one.
 use crate::reading;
-use files::BYTE_LIMIT;
 use libc::STDOUT_FILENO;
+use limits::BYTE_LIMIT;
 use report::TEXT_ROOM;
 use report::Written;
 use sheet_text::Made;

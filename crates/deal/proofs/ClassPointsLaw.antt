@@ -12,13 +12,14 @@ use lib.ListN.{length, getD, set, replicate, length-set, length-replicate, getD-
 use lib.Seq.{getD-set-same, getD-set-other}
 use borrow.Author.Tests.{lt-ltb, le-ltb}
 use Rattle.judgement.specs.DealSheet.{trancheCount, amount, class, needed}
-use Rattle.deal.specs.Sum.{sum, whereCounted}
-use Rattle.deal.specs.PointsAndCharge.{poolSums, point, seniorAmount}
+use Rattle.numbers.specs.Sum.{sum, whereCounted}
+use Rattle.numbers.proofs.SumLaws.{sum-next, sum-same, sum-at-most}
+use Rattle.pool.specs.PoolSums.{poolSums}
+use Rattle.deal.specs.Points.{point, seniorAmount}
 use Rattle.deal.specs.ClassPoints.{ClassPoints}
 use Rattle.judgement.specs.Refusals.{judged}
 use Rattle.judgement.specs.declared.Verdict.the-variants.{Sound}
 use Rattle.judgement.proofs.SheetLimits.{first-class, next-class-within, class-within, tranches-counted, tranches-within, good-tranche}
-use Rattle.deal.proofs.SumLaws.{sum-next, sum-same, sum-at-most}
 
 -- the amounts of the first n tranches, and of those among them of a class below c
 abbrev pub amountTo : List ℕ → ℕ → ℕ

@@ -1,6 +1,6 @@
 -- Demand 3 of the line of every accepted SEC-SA tranche with K at least 1 and D above K, and the weight in the cases that 01 gives in closed form. No
 -- accepted tranche is too thin for the formula, and its inputs are within the limits for which the formula is computed. No axioms.
-use mathlib.Core.Bool.{Bool, true, false}
+use mathlib.Core.Bool.{true}
 use mathlib.Core.List.{List}
 use mathlib.Core.Logic.{⊎-elim}
 use mathlib.Core.Path.{_≡_, sym, _∙_, ap, subst}
@@ -8,12 +8,13 @@ use Prim.Native.Nat.{ℕ, _-_, _≤_, _<_}
 use native.Mathlib.Nat.{eq-zero-or-pos}
 use native.Mathlib.Omega.{arith}
 use lib.ListN.{length}
-use Rattle.formula.specs.Formula.{Passes, WithinLimits, RawWeightNumbers, weighing, PassingWeight, IsRawWeight}
+use Rattle.series.specs.Ends.{Passes}
+use Rattle.formula.specs.Formula.{WithinLimits, RawWeightNumbers, weighing, PassingWeight, IsRawWeight}
 use Rattle.formula.specs.FixedPoint.{rawWeight}
 use Rattle.formula.proofs.RawWeightLaw.{raw-weight-is}
-use Rattle.judgement.specs.DealSheet.{resecuritisation, trancheCount, needed}
-use Rattle.deal.specs.PointsAndCharge.{attachmentPoint, detachmentPoint}
-use Rattle.weights.specs.ApproachFloorCap.{approach, parameter, afterFloorAndCap, weightOrHighest, formulaRawWeight, weight}
+use Rattle.judgement.specs.DealSheet.{trancheCount, needed}
+use Rattle.deal.specs.Points.{attachmentPoint, detachmentPoint}
+use Rattle.weights.specs.ApproachFloorCap.{byFormula, parameter, afterFloorAndCap, weightOrHighest, formulaRawWeight, weight}
 use Rattle.deal.specs.Lines.{terms, tranche, line, lineWords}
 use Rattle.deal.specs.DemandThree.{AboveCharge, rawWeightOf, DemandThree, KeepsDemandThree}
 use Rattle.judgement.specs.Refusals.{judged}
@@ -21,16 +22,16 @@ use Rattle.deal.specs.Refusals.{verdict}
 use Rattle.deal.specs.Results.{resultsAfter}
 use Rattle.judgement.specs.declared.Verdict.the-variants.{Sound}
 use Rattle.deal.proofs.PointLaws.{attachment-at-most-detachment, detachment-at-most-million}
-use Rattle.deal.proofs.PoolLaws.{charge-at-most-million}
+use Rattle.deal.proofs.TermsLaws.{charge-at-most-million}
 use Rattle.deal.proofs.JudgedLaws.{accepted-means, accepted-judged}
 use Rattle.deal.proofs.LineLaws.{results-line}
-use Rattle.weights.proofs.WeightLaws.{formula-weight, thick-where}
+use Rattle.weights.proofs.WeightLaws.{formula-weight, thick-where, parameter-within}
 
 -- ---- no accepted tranche is too thin
 
 -- where SEC-SA applies and D is above the pool charge, A is below D
 pub attachment-below-detachment :
-    (s : List ℕ) (room i : ℕ) → verdict s room ≡ Sound → i < trancheCount s → approach (tranche s i) (terms s) ≡ 2 →
+    (s : List ℕ) (room i : ℕ) → verdict s room ≡ Sound → i < trancheCount s → byFormula (tranche s i) (terms s) ≡ true →
     terms s .charge < detachmentPoint s i → attachmentPoint s i < detachmentPoint s i
 unfolding tranche
 attachment-below-detachment s room i accepted row by above =
@@ -44,24 +45,20 @@ attachment-below-detachment s room i accepted row by above =
 
 -- ---- the raw weight of an accepted tranche
 
-parameter-within : (resecuritised : Bool) → (300000 ≤ parameter resecuritised) × (parameter resecuritised < 5000000)
-parameter-within true = (omega arith, omega arith)
-parameter-within false = (omega arith, omega arith)
-
 pub within-limits :
     (s : List ℕ) (i : ℕ) → judged s (needed s) ≡ Sound →
-    WithinLimits (attachmentPoint s i) (detachmentPoint s i) (terms s .charge) (parameter (resecuritisation s))
+    WithinLimits (attachmentPoint s i) (detachmentPoint s i) (terms s .charge) (parameter (tranche s i) (terms s))
 within-limits s i e = record {
   attachment = omega (arith, attachment-at-most-detachment s i, detachment-at-most-million s i);
   detachment = detachment-at-most-million s i;
   charge = charge-at-most-million s e;
-  parameter-least = parameter-within (resecuritisation s) .0;
-  parameter-most = parameter-within (resecuritisation s) .1;
+  parameter-least = parameter-within (tranche s i) (terms s) .0;
+  parameter-most = parameter-within (tranche s i) (terms s) .1;
 }
 
 -- the formula's answer for a tranche of the sheet
 abbrev pub formulaAnswer : List ℕ → ℕ → RawWeightNumbers
-formulaAnswer s i = rawWeight (attachmentPoint s i) (detachmentPoint s i) (terms s .charge) (parameter (resecuritisation s))
+formulaAnswer s i = rawWeight (attachmentPoint s i) (detachmentPoint s i) (terms s .charge) (parameter (tranche s i) (terms s))
 
 raw-weight-number : (s : List ℕ) (i w : ℕ) → formulaAnswer s i ≡ weighing w → rawWeightOf s i ≡ w
 unfolding formulaRawWeight tranche terms
@@ -69,7 +66,7 @@ raw-weight-number s i w e = ap weightOrHighest e
 
 -- where SEC-SA applies and the raw weight is a number, the weight is that number after floor and cap
 weighs-raw :
-    (s : List ℕ) (i w : ℕ) → approach (tranche s i) (terms s) ≡ 2 → formulaAnswer s i ≡ weighing w →
+    (s : List ℕ) (i w : ℕ) → byFormula (tranche s i) (terms s) ≡ true → formulaAnswer s i ≡ weighing w →
     weight (tranche s i) (terms s) ≡ afterFloorAndCap (tranche s i) (terms s) w
 weighs-raw s i w by e =
     formula-weight (tranche s i) (terms s) by ∙
@@ -78,28 +75,28 @@ weighs-raw s i w by e =
 -- ---- an accepted SEC-SA tranche
 
 module _ (s : List ℕ) (room i : ℕ) (accepted : verdict s room ≡ Sound) where
-  limits : WithinLimits (attachmentPoint s i) (detachmentPoint s i) (terms s .charge) (parameter (resecuritisation s))
+  limits : WithinLimits (attachmentPoint s i) (detachmentPoint s i) (terms s .charge) (parameter (tranche s i) (terms s))
   limits = within-limits s i (accepted-judged s room accepted)
 
-  is-raw-weight : IsRawWeight (attachmentPoint s i) (detachmentPoint s i) (terms s .charge) (parameter (resecuritisation s)) (formulaAnswer s i)
-  is-raw-weight = raw-weight-is (attachmentPoint s i) (detachmentPoint s i) (terms s .charge) (parameter (resecuritisation s))
+  is-raw-weight : IsRawWeight (attachmentPoint s i) (detachmentPoint s i) (terms s .charge) (parameter (tranche s i) (terms s)) (formulaAnswer s i)
+  is-raw-weight = raw-weight-is (attachmentPoint s i) (detachmentPoint s i) (terms s .charge) (parameter (tranche s i) (terms s))
 
   -- "the raw weight is 125,000 if D ≤ K"
   pub within-charge :
-      approach (tranche s i) (terms s) ≡ 2 → detachmentPoint s i ≤ terms s .charge →
+      byFormula (tranche s i) (terms s) ≡ true → detachmentPoint s i ≤ terms s .charge →
       weight (tranche s i) (terms s) ≡ afterFloorAndCap (tranche s i) (terms s) 125000
   within-charge by h = weighs-raw s i 125000 by (is-raw-weight .within-charge limits h)
 
   -- "0 if K = 0"
   pub charge-zero :
-      approach (tranche s i) (terms s) ≡ 2 → terms s .charge ≡ 0 → 0 < detachmentPoint s i →
+      byFormula (tranche s i) (terms s) ≡ true → terms s .charge ≡ 0 → 0 < detachmentPoint s i →
       weight (tranche s i) (terms s) ≡ afterFloorAndCap (tranche s i) (terms s) 0
   charge-zero by none h = weighs-raw s i 0 by (is-raw-weight .charge-zero limits (omega arith) none)
 
-module _ (s : List ℕ) (room i : ℕ) (accepted : verdict s room ≡ Sound) (row : i < trancheCount s) (by : approach (tranche s i) (terms s) ≡ 2) where
+module _ (s : List ℕ) (room i : ℕ) (accepted : verdict s room ≡ Sound) (row : i < trancheCount s) (by : byFormula (tranche s i) (terms s) ≡ true) where
   passing :
       1 ≤ terms s .charge → terms s .charge < detachmentPoint s i →
-      PassingWeight (attachmentPoint s i) (detachmentPoint s i) (terms s .charge) (parameter (resecuritisation s)) (formulaAnswer s i)
+      PassingWeight (attachmentPoint s i) (detachmentPoint s i) (terms s .charge) (parameter (tranche s i) (terms s)) (formulaAnswer s i)
   passing one above =
       is-raw-weight s room i accepted .formula (limits s room i accepted) above one
       (attachment-below-detachment s room i accepted row by above)
@@ -120,13 +117,13 @@ module _ (s : List ℕ) (room i : ℕ) (accepted : verdict s room ≡ Sound) (ro
 pub demand-three : (s old : List ℕ) (i : ℕ) → AboveCharge s (length old) i → DemandThree s (resultsAfter s old) i
 unfolding lineWords line
 demand-three s old i t =
-    let w = passing s (length old) i (t .accepted) (t .among) (t .sec-sa) (t .charge-least) (t .above) in
+    let w = passing s (length old) i (t .accepted) (t .among) (t .by-formula) (t .charge-least) (t .above) in
     let number = raw-weight-number s i (w .weight) (w .answered) in
     record {
-      line-weight = results-line s old i 3 (t .accepted) (t .among) (omega arith) ∙ formula-weight (tranche s i) (terms s) (t .sec-sa);
+      line-weight = results-line s old i 3 (t .accepted) (t .among) (omega arith) ∙ formula-weight (tranche s i) (terms s) (t .by-formula);
       passes =
           subst
-          (λ (x : ℕ). Passes (attachmentPoint s i) (detachmentPoint s i) (terms s .charge) (parameter (resecuritisation s)) x)
+          (λ (x : ℕ). Passes (attachmentPoint s i) (detachmentPoint s i) (terms s .charge) (parameter (tranche s i) (terms s)) x)
           (sym number) (w .passes);
       at-most = subst (λ (x : ℕ). x ≤ 125000) (sym number) (w .at-most);
     }

@@ -5,19 +5,22 @@ use Prim.Native.Nat.{ℕ, _+_, _*_, _≤_, _<_}
 use native.Mathlib.Nat.{le-refl}
 use native.Mathlib.Omega.{arith}
 use lib.ListN.{length, getD}
+use Rattle.limits.specs.SheetSize.{lineSize}
 use Rattle.judgement.specs.DealSheet.{word, rowAt, tranchesAt, trancheCount, trancheAt, needed}
-use Rattle.deal.specs.PointsAndCharge.{poolSums}
+use Rattle.pool.specs.PoolSums.{poolSums}
+use Rattle.pool.proofs.SameSums.{same-sums}
 use Rattle.deal.specs.Lines.{terms, tranche, lineWords}
 use Rattle.judgement.specs.Refusals.{judged}
 use Rattle.deal.specs.Refusals.{verdict}
 use Rattle.deal.specs.Results.{resultsAfter}
 use Rattle.deal.specs.OtherRatings.{SameButOtherRatings}
 use Rattle.judgement.specs.declared.Verdict.the-variants.{Sound}
-use Rattle.judgement.proofs.Judgement.{tranches-at-past-rows}
-use Rattle.judgement.proofs.SheetLimits.{accepted-to, pool-at-five}
+use Rattle.judgement.proofs.NeededLaws.{tranches-at-past-rows}
+use Rattle.judgement.proofs.SameLayout.{SameCounts, same-counts, same-layout}
+use Rattle.judgement.proofs.SheetLimits.{facts-counted, pool-at-within}
 use Rattle.deal.proofs.JudgedLaws.{accepted-judged}
 use Rattle.deal.proofs.LineLaws.{results-line}
-use Rattle.deal.proofs.SameTerms.{SameCounts, same-counts, same-sums, same-terms, same-tranche}
+use Rattle.deal.proofs.SameTerms.{same-terms, same-tranche}
 
 -- no rating stands before the tranches, or in the first four columns of a tranche, and none of another tranche stands in tranche i
 module _ (s s′ : List ℕ) (i : ℕ) (same : SameButOtherRatings s s′ i) where
@@ -48,11 +51,9 @@ module _ (s s′ : List ℕ) (i : ℕ) (same : SameButOtherRatings s s′ i) whe
 
   pub ratings-terms : judged s (needed s) ≡ Sound → terms s′ ≡ terms s
   ratings-terms e =
-      let five = pool-at-five s (accepted-to s 1 (omega arith) e) in
-      same-terms s s′ ratings-sums
-      (same-head 2 (omega (arith, tranches-at-past-rows s)))
-      (same-head 3 (omega (arith, tranches-at-past-rows s)))
-      (same-head 4 (omega (arith, tranches-at-past-rows s)))
+      same-terms s s′
+      (same-layout s s′ ratings-counts (λ p h. same-head p (omega (arith, tranches-at-past-rows s))) (pool-at-within s (facts-counted s e) .0))
+      ratings-sums
 
   pub ratings-tranche : i < trancheCount s → tranche s′ i ≡ tranche s i
   ratings-tranche l = same-tranche s s′ i ratings-counts ratings-sums l (λ j c row column. same-plain j c column) same-own
@@ -63,8 +64,8 @@ pub record SameLine (s s′ : List ℕ) (i room : ℕ) : Type 0 where
   pub same-count : trancheCount s′ ≡ trancheCount s
   pub same-terms : terms s′ ≡ terms s
   pub same-line : lineWords (tranche s′ i) (terms s′) ≡ lineWords (tranche s i) (terms s)
-  pub same-results : (old : List ℕ) → length old ≡ room → (c : ℕ) → c < 6 →
-      getD (resultsAfter s′ old) (6 * i + c) 0 ≡ getD (resultsAfter s old) (6 * i + c) 0
+  pub same-results : (old : List ℕ) → length old ≡ room → (c : ℕ) → c < lineSize →
+      getD (resultsAfter s′ old) (lineSize * i + c) 0 ≡ getD (resultsAfter s old) (lineSize * i + c) 0
 
 pub line-apart-from-other-ratings :
     (s s′ : List ℕ) (i room : ℕ) → verdict s room ≡ Sound → verdict s′ room ≡ Sound → SameButOtherRatings s s′ i → i < trancheCount s →

@@ -1,35 +1,35 @@
--- Refusals by steps and in plain relations say the same, for the whole verdict on a sheet; and the numbers that a refusal may have. What the words decide is
--- in JudgedLaws.antt of `judgement`. No axioms.
+-- Refusals by steps and in plain relations say the same, for the whole verdict on a sheet; a refusal's number is never 0, nor 14 but for want of room. What the words
+-- decide is in JudgedLaws.antt of `judgement`. No axioms.
 use mathlib.Core.Bool.{false}
 use mathlib.Core.List.{List}
 use mathlib.Core.Logic.{⊎-elim}
 use mathlib.Core.Path.{_≡_}
-use Prim.Native.Nat.{ℕ, _*_, _≤_}
-use native.Mathlib.Nat.{eq-zero-or-pos}
+use Prim.Native.Nat.{ℕ, _*_, _≤_, _<_}
 use native.Mathlib.Omega.{arith}
 use lib.Dec.{ltb}
 use borrow.Author.Tests.{ltb-true, ltb-false, lt-ltb, le-ltb}
+use Rattle.limits.specs.SheetSize.{lineSize}
 use Rattle.judgement.specs.DealSheet.{trancheCount, trancheAt, needed}
 use Rattle.weights.specs.ApproachFloorCap.{thin}
 use Rattle.deal.specs.Lines.{terms, tranche}
 use Rattle.judgement.specs.Refusals.{orElse, firstOf, judged, wordsVerdict}
 use Rattle.deal.specs.Refusals.{roomVerdict, thinVerdict, verdict}
 use Rattle.judgement.specs.Judged.{BadHere, bad, missing, WordsGood, first-bad, words-follow}
-use Rattle.deal.specs.Judged.{TrancheThin, Why, by-words, by-room, by-thinness, Accepted}
+use Rattle.deal.specs.Judged.{RoomShort, TrancheThin, Why, by-words, by-room, by-thinness, Accepted}
 use Rattle.judgement.specs.declared.Refusal.{Refusal}
 use Rattle.judgement.specs.declared.Verdict.the-variants.{Sound, Faulty}
 use Rattle.judgement.proofs.FirstFault.{or-else-sound, or-else-faulty, FirstFault, first-of-sound, first-of-all, first-of-faulty, faulty-first-of}
-use Rattle.judgement.proofs.JudgedLaws.{states, faulty-when, sound-when, good-judged, words-refused, refused-words, words-accepted, accepted-words, fault-at-most}
+use Rattle.judgement.proofs.JudgedLaws.{states, faulty-when, sound-when, good-judged, words-refused, refused-words, words-accepted, accepted-words, words-number}
 
 thin-sound : (s : List ℕ) (i : ℕ) → thinVerdict s i ≡ Sound → thin (tranche s i) (terms s) ≡ false
 thin-sound s i = sound-when (thin (tranche s i) (terms s)) (record { number = 13; place = trancheAt s i })
 
-pub room-sound : (s : List ℕ) (room : ℕ) → roomVerdict s room ≡ Sound → 6 * trancheCount s ≤ room
+pub room-sound : (s : List ℕ) (room : ℕ) → roomVerdict s room ≡ Sound → lineSize * trancheCount s ≤ room
 room-sound s room e =
-    ltb-false room (6 * trancheCount s) (sound-when (ltb room (6 * trancheCount s)) (record { number = 14; place = 0 }) e)
+    ltb-false room (lineSize * trancheCount s) (sound-when (ltb room (lineSize * trancheCount s)) (record { number = 14; place = 0 }) e)
 
 thin-tranche-of-fault :
-    (s : List ℕ) (room : ℕ) (r : Refusal) → WordsGood s → 6 * trancheCount s ≤ room →
+    (s : List ℕ) (room : ℕ) (r : Refusal) → WordsGood s → lineSize * trancheCount s ≤ room →
     FirstFault (λ i. thinVerdict s i) (trancheCount s) r → TrancheThin s room r
 thin-tranche-of-fault s room r words enough first =
     let here = faulty-when (thin (tranche s (first .at)) (terms s)) 13 (trancheAt s (first .at)) r (first .faulty) in
@@ -48,11 +48,11 @@ pub refused-when : (s : List ℕ) (room : ℕ) (r : Refusal) → Why s room r �
 unfolding verdict
 refused-when s room r (by-words w) = simp (refused-words s r w)
 refused-when s room r (by-room w) =
-    simp (accepted-words s (w .words), lt-ltb room (6 * trancheCount s) (w .short)) (states 14 0 r (w .number-is) (w .place-is))
+    simp (accepted-words s (w .words), lt-ltb room (lineSize * trancheCount s) (w .short)) (states 14 0 r (w .number-is) (w .place-is))
 refused-when s room r (by-thinness w) =
     simp (
       accepted-words s (w .words),
-      le-ltb room (6 * trancheCount s) (w .enough),
+      le-ltb room (lineSize * trancheCount s) (w .enough),
       faulty-first-of (λ i. thinVerdict s i) (trancheCount s) r (record {
         at = w .i;
         below = w .among;
@@ -70,10 +70,10 @@ refused-means s room r e =
     let words = words-accepted s (rest .0) in
     ⊎-elim
     (λ by.
-    let short = faulty-when (ltb room (6 * trancheCount s)) 14 0 r by in
+    let short = faulty-when (ltb room (lineSize * trancheCount s)) 14 0 r by in
     by-room (record {
       words = words;
-      short = ltb-true room (6 * trancheCount s) (short .0);
+      short = ltb-true room (lineSize * trancheCount s) (short .0);
       number-is = short .1 .0;
       place-is = short .1 .1;
     }))
@@ -103,25 +103,28 @@ unfolding verdict
 accepted-when s room a =
     simp (
       accepted-words s (a .words),
-      le-ltb room (6 * trancheCount s) (a .enough),
+      le-ltb room (lineSize * trancheCount s) (a .enough),
       first-of-all (λ i. thinVerdict s i) (trancheCount s) (λ i h. simp (a .none-thin i h)),
     )
 
-pub refusal-number-listed :
-    (s : List ℕ) (room : ℕ) (r : Refusal) → verdict s room ≡ Faulty r → (1 ≤ r .number) × (r .number ≤ 14)
-refusal-number-listed s room r e = why (refused-means s room r e)
+-- a refusal's number is not 0, and is 14 only for want of room
+pub refusal-numbers : (s : List ℕ) (room : ℕ) (r : Refusal) → verdict s room ≡ Faulty r → r .number ≡ 0 → ⊥
+refusal-numbers s room r e z = why (refused-means s room r e)
   where
-    why : Why s room r → (1 ≤ r .number) × (r .number ≤ 14)
+    why : Why s room r → ⊥
     why (by-words (first-bad b)) = at-place (b .here)
       where
-        at-place : BadHere s r → (1 ≤ r .number) × (r .number ≤ 14)
-        at-place (bad w) =
-            ⊎-elim (λ z. absurd (w .not-zero z)) (λ pos. (pos, omega (arith, fault-at-most s (r .place), w .fault-is)))
-            (eq-zero-or-pos (r .number))
-        at-place (missing number place) = (omega arith, omega arith)
-    why (by-words (words-follow w)) = (omega (arith, w .number-is), omega (arith, w .number-is))
-    why (by-room w) = (omega (arith, w .number-is), omega (arith, w .number-is))
-    why (by-thinness w) = (omega (arith, w .number-is), omega (arith, w .number-is))
+        at-place : BadHere s r → ⊥
+        at-place (bad w) = w .not-zero z
+        at-place (missing number place) = omega arith
+    why (by-words (words-follow w)) = omega (arith, w .number-is)
+    why (by-room w) = omega (arith, w .number-is)
+    why (by-thinness w) = omega (arith, w .number-is)
 
-pub refusal-numbers : (s : List ℕ) (room : ℕ) (r : Refusal) → verdict s room ≡ Faulty r → r .number ≡ 0 → ⊥
-refusal-numbers s room r e z = omega (arith, refusal-number-listed s room r e)
+pub by-room-alone : (s : List ℕ) (room : ℕ) (r : Refusal) → verdict s room ≡ Faulty r → r .number ≡ 14 → RoomShort s room r
+by-room-alone s room r e z = why (refused-means s room r e)
+  where
+    why : Why s room r → RoomShort s room r
+    why (by-words w) = absurd (words-number s r w .not-room z)
+    why (by-room w) = w
+    why (by-thinness w) = absurd (omega (arith, w .number-is))

@@ -1,12 +1,7 @@
 pub mod JudgedLaws
-pub mod PlacesLaws
-pub mod SumLaws
-pub mod SumPermuted
-pub mod TotalsLaws
-pub mod PoolLaws
-pub mod ChargeLaws
 pub mod PointLaws
 pub mod ClassPointsLaw
+pub mod TermsLaws
 pub mod LineLaws
 pub mod DemandThreeLaw
 pub mod SameTerms

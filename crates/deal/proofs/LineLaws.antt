@@ -8,6 +8,7 @@ use native.Mathlib.Nat.{eq-or-lt-of-le, le-of-suc-le-suc, le-step, lt-suc-self, 
 use native.Mathlib.Omega.{arith}
 use lib.ListN.{length, getD, drop, length-append, length-drop, List·getD-append}
 use lib.Seq.{getD-append-add, getD-drop}
+use Rattle.limits.specs.SheetSize.{lineSize}
 use Rattle.judgement.specs.DealSheet.{trancheCount}
 use Rattle.deal.specs.Lines.{terms, tranche, lineWords}
 use Rattle.deal.specs.Refusals.{verdict}
@@ -19,11 +20,11 @@ use Rattle.judgement.specs.declared.Verdict.{Verdict}
 use Rattle.judgement.specs.declared.Verdict.the-variants.{Sound, Faulty}
 use Rattle.deal.proofs.JudgedLaws.{accepted-means}
 
-pub length-line : (t : Tranche) (d : Terms) → length (lineWords t d) ≡ 6
+pub length-line : (t : Tranche) (d : Terms) → length (lineWords t d) ≡ lineSize
 unfolding lineWords
 length-line t d = refl
 
-pub length-lines : (s : List ℕ) (n : ℕ) → length (lines s n) ≡ 6 * n
+pub length-lines : (s : List ℕ) (n : ℕ) → length (lines s n) ≡ lineSize * n
 unfolding lines
 length-lines s zero = refl
 length-lines s (suc n) =
@@ -40,18 +41,18 @@ lines-same s s′ (suc n) shared alike =
 getD-after : (xs ys : List ℕ) (p n : ℕ) → p ≡ length xs + n → getD (xs ++ ys) p 0 ≡ getD ys n 0
 getD-after xs ys p n e = rw e (getD-append-add xs ys n 0)
 
-pub line-at : (s : List ℕ) (n i c : ℕ) → i < n → c < 6 → getD (lines s n) (6 * i + c) 0 ≡ getD (lineWords (tranche s i) (terms s)) c 0
+pub line-at : (s : List ℕ) (n i c : ℕ) → i < n → c < lineSize → getD (lines s n) (lineSize * i + c) 0 ≡ getD (lineWords (tranche s i) (terms s)) c 0
 unfolding lines
 line-at s zero i c l h = absurd (not-suc-le-zero l)
 line-at s (suc n) i c l h =
     ⊎-elim
-    (λ e. rw e (getD-after (lines s n) (lineWords (tranche s n) (terms s)) (6 * n + c) c (omega (arith, length-lines s n))))
+    (λ e. rw e (getD-after (lines s n) (lineWords (tranche s n) (terms s)) (lineSize * n + c) c (omega (arith, length-lines s n))))
     (λ below.
-    List·getD-append (lines s n) (lineWords (tranche s n) (terms s)) 0 (6 * i + c) (omega (arith, length-lines s n)) ∙
+    List·getD-append (lines s n) (lineWords (tranche s n) (terms s)) 0 (lineSize * i + c) (omega (arith, length-lines s n)) ∙
     line-at s n i c below h)
     (eq-or-lt-of-le (le-of-suc-le-suc l))
 
-pub results-accepted : (s old : List ℕ) → verdict s (length old) ≡ Sound → resultsAfter s old ≡ lines s (trancheCount s) ++ drop (6 * trancheCount s) old
+pub results-accepted : (s old : List ℕ) → verdict s (length old) ≡ Sound → resultsAfter s old ≡ lines s (trancheCount s) ++ drop (lineSize * trancheCount s) old
 unfolding resultsAfter
 results-accepted s old e = rw e
 
@@ -60,17 +61,17 @@ unfolding resultsAfter
 results-refused s old r e = rw e
 
 pub results-line :
-    (s old : List ℕ) (i c : ℕ) → verdict s (length old) ≡ Sound → i < trancheCount s → c < 6 →
-    getD (resultsAfter s old) (6 * i + c) 0 ≡ getD (lineWords (tranche s i) (terms s)) c 0
+    (s old : List ℕ) (i c : ℕ) → verdict s (length old) ≡ Sound → i < trancheCount s → c < lineSize →
+    getD (resultsAfter s old) (lineSize * i + c) 0 ≡ getD (lineWords (tranche s i) (terms s)) c 0
 results-line s old i c e l h =
     rw (results-accepted s old e)
-    (List·getD-append (lines s (trancheCount s)) (drop (6 * trancheCount s) old) 0 (6 * i + c) (omega (arith, length-lines s (trancheCount s))) ∙
+    (List·getD-append (lines s (trancheCount s)) (drop (lineSize * trancheCount s) old) 0 (lineSize * i + c) (omega (arith, length-lines s (trancheCount s))) ∙
     line-at s (trancheCount s) i c l h)
 
 pub results-rest :
-    (s old : List ℕ) (p : ℕ) → verdict s (length old) ≡ Sound → 6 * trancheCount s ≤ p → getD (resultsAfter s old) p 0 ≡ getD old p 0
+    (s old : List ℕ) (p : ℕ) → verdict s (length old) ≡ Sound → lineSize * trancheCount s ≤ p → getD (resultsAfter s old) p 0 ≡ getD old p 0
 results-rest s old p e l =
-    let n = 6 * trancheCount s in
+    let n = lineSize * trancheCount s in
     let back : n + (p - n) ≡ p = omega arith in
     rw (results-accepted s old e)
     (getD-after (lines s (trancheCount s)) (drop n old) p (p - n) (omega (arith, length-lines s (trancheCount s))) ∙
@@ -78,14 +79,14 @@ results-rest s old p e l =
     ap (λ (k : ℕ). getD old k 0) back)
 
 length-results-for :
-    (s old : List ℕ) (v : Verdict) → (v ≡ Sound → 6 * trancheCount s ≤ length old) → length (resultsFor s old v) ≡ length old
+    (s old : List ℕ) (v : Verdict) → (v ≡ Sound → lineSize * trancheCount s ≤ length old) → length (resultsFor s old v) ≡ length old
 length-results-for s old Sound room =
     let enough = room refl in
     omega (
       arith,
-      length-append (lines s (trancheCount s)) (drop (6 * trancheCount s) old),
+      length-append (lines s (trancheCount s)) (drop (lineSize * trancheCount s) old),
       length-lines s (trancheCount s),
-      length-drop (6 * trancheCount s) old,
+      length-drop (lineSize * trancheCount s) old,
     )
 length-results-for s old (Faulty r) room = refl
 

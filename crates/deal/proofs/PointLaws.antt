@@ -10,9 +10,10 @@ use lib.Dec.{ltb}
 use borrow.Author.Tests.{lt-ltb, ltb-true}
 use Rattle.numbers.proofs.Tests.{at-cond}
 use Rattle.judgement.specs.DealSheet.{trancheCount, amount, class}
-use Rattle.deal.specs.Sum.{whereCounted}
-use Rattle.deal.specs.PointsAndCharge.{poolSums, seniorAmount, point, attachmentPoint, detachmentPoint}
-use Rattle.deal.proofs.SumLaws.{sum-ordered}
+use Rattle.numbers.specs.Sum.{whereCounted}
+use Rattle.numbers.proofs.SumLaws.{sum-ordered}
+use Rattle.pool.specs.PoolSums.{poolSums}
+use Rattle.deal.specs.Points.{seniorAmount, point, attachmentPoint, detachmentPoint}
 
 pub point-at-most : (N x : ℕ) → point N x ≤ 1000000
 point-at-most N x = div-le-of-le-mul N (omega arith)

@@ -10,9 +10,8 @@ use lib.ListN.{length, getD, drop}
 use Rattle.numbers.proofs.RoundingLaws.{rounded-up-at-most}
 use Rattle.weights.specs.ApproachFloorCap.{weight}
 use Rattle.weights.proofs.WeightLaws.{weight-at-most}
+use Rattle.limits.specs.SheetSize.{tranchesMost, lineSize, resultRoom}
 use Rattle.judgement.specs.DealSheet.{trancheCount, held, needed}
-use Rattle.judgement.specs.Judged.{BadHere, bad, missing, WordsRefusal, first-bad, words-follow}
-use Rattle.deal.specs.Judged.{Why, by-words, by-room, by-thinness}
 use Rattle.deal.specs.Lines.{terms, tranche, riskWeightedAmount, capital, line, lineWords}
 use Rattle.deal.specs.Refusals.{verdict}
 use Rattle.deal.specs.Results.{Reply, replyOf, replyFor, replyTo, lines, resultsAfter}
@@ -20,8 +19,8 @@ use Rattle.deal.specs.declared.Answer.the-variants.{Refused}
 use Rattle.judgement.specs.declared.Refusal.{Refusal}
 use Rattle.judgement.specs.declared.Verdict.{Verdict}
 use Rattle.judgement.specs.declared.Verdict.the-variants.{Sound, Faulty}
-use Rattle.judgement.proofs.JudgedLaws.{good-judged, fault-at-most}
-use Rattle.deal.proofs.JudgedLaws.{refused-means, accepted-judged, refusal-numbers}
+use Rattle.judgement.proofs.JudgedLaws.{good-judged}
+use Rattle.deal.proofs.JudgedLaws.{accepted-judged, refusal-numbers, by-room-alone}
 use Rattle.deal.proofs.LineLaws.{results-accepted, results-line}
 use Rattle.judgement.proofs.SheetLimits.{tranches-counted, tranches-within, good-tranche}
 
@@ -39,7 +38,7 @@ reply-count : (s : List ℕ) (room : ℕ) → replyTo s room .number ≡ 0 → r
 unfolding replyTo
 reply-count s room z = ap (λ (v : Verdict). replyFor s v .count) (number-zero-sound s room z)
 
-pub reply-count-within : (s : List ℕ) (room : ℕ) → replyTo s room .number ≡ 0 → (1 ≤ replyTo s room .count) × (replyTo s room .count ≤ 32)
+pub reply-count-within : (s : List ℕ) (room : ℕ) → replyTo s room .number ≡ 0 → (1 ≤ replyTo s room .count) × (replyTo s room .count ≤ tranchesMost)
 reply-count-within s room z =
     let within = tranches-within s (tranches-counted s (accepted-judged s room (number-zero-sound s room z))) in
     (omega (arith, reply-count s room z), omega (arith, reply-count s room z))
@@ -51,33 +50,22 @@ refused-number s room r same z =
     let count = ap (λ (a : Reply). a .count) same in
     omega (arith, reply-count-within s room (sym number ∙ z))
 
--- results with room for 32 lines are never too short: no 14
-pub room-enough : (s : List ℕ) (room : ℕ) → 192 ≤ room → replyTo s room .number ≡ 14 → ⊥
+-- results with room for the most lines are never too short: no 14
+pub room-enough : (s : List ℕ) (room : ℕ) → resultRoom ≤ room → replyTo s room .number ≡ 14 → ⊥
 unfolding replyTo
 room-enough s room enough fourteen = by-cases (verdict s room) refl fourteen
   where
-    of-words : (r : Refusal) → WordsRefusal s r → r .number ≡ 14 → ⊥
-    of-words r (first-bad b) z = at-place (b .here)
-      where
-        at-place : BadHere s r → ⊥
-        at-place (bad w) = omega (arith, fault-at-most s (r .place), w .fault-is)
-        at-place (missing number place) = omega arith
-    of-words r (words-follow w) z = omega (arith, w .number-is)
-
-    why : (r : Refusal) → Why s room r → r .number ≡ 14 → ⊥
-    why r (by-words w) z = of-words r w z
-    why r (by-room w) z = omega (arith, w .short, tranches-within s (tranches-counted s (good-judged s (needed s) (w .words .good))))
-    why r (by-thinness w) z = omega (arith, w .number-is)
-
     by-cases : (v : Verdict) → verdict s room ≡ v → replyFor s v .number ≡ 14 → ⊥
     by-cases Sound e z = omega arith
-    by-cases (Faulty r) e z = why r (refused-means s room r e) z
+    by-cases (Faulty r) e z =
+        let w = by-room-alone s room r e z in
+        omega (arith, w .short, tranches-within s (tranches-counted s (good-judged s (needed s) (w .words .good))))
 
 -- ---- the results
 
 pub reply-results :
     (s old : List ℕ) → replyTo s (length old) .number ≡ 0 →
-    resultsAfter s old ≡ lines s (replyTo s (length old) .count) ++ drop (6 * replyTo s (length old) .count) old
+    resultsAfter s old ≡ lines s (replyTo s (length old) .count) ++ drop (lineSize * replyTo s (length old) .count) old
 reply-results s old z = rw (reply-count s (length old) z) (results-accepted s old (number-zero-sound s (length old) z))
 
 -- 10^13 × 125,000 / 10,000 and 10^13 × 125,000 × 8 / 10^6
@@ -105,7 +93,7 @@ line-amounts s room i z l =
 
 pub reply-amounts :
     (s old : List ℕ) (i c : ℕ) → replyTo s (length old) .number ≡ 0 → i < replyTo s (length old) .count → 4 ≤ c → c < 6 →
-    getD (resultsAfter s old) (6 * i + c) 0 ≤ 125000000000000
+    getD (resultsAfter s old) (lineSize * i + c) 0 ≤ 125000000000000
 reply-amounts s old i c z l least most =
     let amounts = line-amounts s (length old) i z l in
     rw (results-line s old i c (number-zero-sound s (length old) z) (omega (arith, reply-count s (length old) z)) most)

@@ -8,22 +8,26 @@ use native.Mathlib.Nat.{eq-zero-or-pos, le-refl}
 use native.Mathlib.Omega.{arith}
 use lib.ListN.{length}
 use borrow.Author.Tests.{lt-ltb}
+use Rattle.limits.specs.SheetSize.{factsLeast}
 use Rattle.judgement.specs.DealSheet.{word, resecuritisation, poolAt, rows, rowAt, tranchesAt, trancheCount, trancheAt, needed}
-use Rattle.deal.specs.PointsAndCharge.{poolSums}
+use Rattle.pool.specs.PoolSums.{poolSums}
+use Rattle.pool.specs.OrderOfRows.{Reordered}
+use Rattle.pool.proofs.SameSums.{same-sums}
 use Rattle.deal.specs.Lines.{terms, tranche}
 use Rattle.judgement.specs.Refusals.{rowOf, fault, judge, judged}
 use Rattle.deal.specs.Refusals.{verdict}
 use Rattle.deal.specs.Results.{replyTo, resultsAfter}
 use Rattle.deal.specs.Judged.{Accepted}
-use Rattle.deal.specs.OrderOfRows.{Reordered}
 use Rattle.judgement.specs.declared.Verdict.the-variants.{Sound}
 use Rattle.judgement.proofs.FirstFault.{first-of-all}
-use Rattle.judgement.proofs.Judgement.{good-word, tranches-at-past-rows, fault-of-row, InSection, in-section}
-use Rattle.judgement.proofs.SheetLimits.{accepted-to, pool-at-five}
+use Rattle.judgement.proofs.NeededLaws.{tranches-at-past-rows, row-word-needed}
+use Rattle.judgement.proofs.Judgement.{good-word, fault-of-row, InSection, in-section}
+use Rattle.judgement.proofs.SameLayout.{SameCounts, same-counts, same-needed, same-layout}
+use Rattle.judgement.proofs.SheetLimits.{facts-counted, pool-at-within}
 use Rattle.judgement.proofs.JudgedLaws.{judged-good}
 use Rattle.deal.proofs.JudgedLaws.{accepted-means, accepted-judged, accepted-when}
 use Rattle.deal.proofs.LineLaws.{lines-same, results-accepted}
-use Rattle.deal.proofs.SameTerms.{SameCounts, same-counts, same-sums, same-terms, same-tranche}
+use Rattle.deal.proofs.SameTerms.{same-terms, same-tranche}
 
 module _ (s s′ : List ℕ) (π σ : ℕ → ℕ) (r : Reordered s s′ π σ) where
   -- ---- what the order does not touch
@@ -32,7 +36,7 @@ module _ (s s′ : List ℕ) (π σ : ℕ → ℕ) (r : Reordered s s′ π σ) 
   order-counts = same-counts s s′ (λ p h. r .same-before p (omega arith)) (r .same-after (tranchesAt s) (le-refl _))
 
   order-needed : needed s′ ≡ needed s
-  order-needed = omega (arith, order-counts .tranches-at, order-counts .tranche-count)
+  order-needed = same-needed s s′ order-counts
 
   order-sums : poolSums s′ ≡ poolSums s
   order-sums = same-sums s s′ π σ order-counts (r .permutation) (r .row-moved)
@@ -45,13 +49,9 @@ module _ (s s′ : List ℕ) (π σ : ℕ → ℕ) (r : Reordered s s′ π σ) 
 
   -- ---- where the first word is good, the facts are the same
 
-  module _ (five : poolAt s ≡ 5) where
+  module _ (facts : factsLeast < poolAt s) where
     order-terms : terms s′ ≡ terms s
-    order-terms =
-        same-terms s s′ order-sums
-        (r .same-before 2 (omega arith))
-        (r .same-before 3 (omega arith))
-        (r .same-before 4 (omega arith))
+    order-terms = same-terms s s′ (same-layout s s′ order-counts (λ p h. r .same-before p (omega arith)) facts) order-sums
 
     order-resecuritisation : resecuritisation s′ ≡ resecuritisation s
     order-resecuritisation = rw (r .same-before 2 (omega arith))
@@ -83,8 +83,8 @@ module _ (s s′ : List ℕ) (π σ : ℕ → ℕ) (r : Reordered s s′ π σ) 
   -- ---- the judgement
 
   module _ (good : judged s (needed s) ≡ Sound) where
-    at-five : poolAt s ≡ 5
-    at-five = pool-at-five s (accepted-to s 1 (omega arith) good)
+    facts-before : factsLeast < poolAt s
+    facts-before = pool-at-within s (facts-counted s good) .0
 
     no-fault : (p : ℕ) → p < needed s → fault s′ p ≡ 0
     no-fault p l =
@@ -98,14 +98,14 @@ module _ (s s′ : List ℕ) (π σ : ℕ → ℕ) (r : Reordered s s′ π σ) 
         (eq-zero-or-pos (rowAt s 0 - p))
       where
         in-place : word s′ p ≡ word s p → fault s′ p ≡ 0
-        in-place same = fault-in-place at-five p same ∙ good-word s (needed s) p good l .1
+        in-place same = fault-in-place facts-before p same ∙ good-word s (needed s) p good l .1
 
         in-row : InSection 4 (poolAt s) (rows s) p → fault s′ p ≡ 0
         in-row at =
             let from = r .permutation .forth (at .i) (at .row) in
             ap (fault s′) (at .place) ∙
-            fault-moved at-five (at .i) (at .c) (at .row) (at .column) ∙
-            good-word s (needed s) (rowAt s (π (at .i)) + at .c) good (omega (arith, tranches-at-past-rows s)) .1
+            fault-moved facts-before (at .i) (at .c) (at .row) (at .column) ∙
+            good-word s (needed s) (rowAt s (π (at .i)) + at .c) good (row-word-needed s (π (at .i)) (at .c) from (at .column)) .1
 
     order-words : judged s′ (needed s′) ≡ Sound
     unfolding judge
@@ -145,7 +145,7 @@ order-of-rows s s′ π σ room e r =
     count = order-counts s s′ π σ r .tranche-count
 
     shared : terms s′ ≡ terms s
-    shared = order-terms s s′ π σ r (at-five s s′ π σ r sound)
+    shared = order-terms s s′ π σ r (facts-before s s′ π σ r sound)
 
     e′ : verdict s′ room ≡ Sound
     e′ =

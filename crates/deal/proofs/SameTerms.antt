@@ -1,86 +1,23 @@
--- Two sheets of the same counts and facts whose pool rows are the same, in whatever order, have the same sums and terms, and their tranches with the
--- same words the same points. No axioms.
-use mathlib.Core.Bool.{not}
+-- Two sheets of the same layout and pool sums have the same terms, and their tranches with the same words the same points. No axioms.
 use mathlib.Core.List.{List}
 use mathlib.Core.Path.{_≡_, ap, _∙_}
-use Prim.Native.Nat.{ℕ, _+_, _*_, _≤_, _<_}
-use native.Mathlib.Nat.{add-zero, le-refl}
+use Prim.Native.Nat.{ℕ, _+_, _<_}
+use native.Mathlib.Nat.{add-zero}
 use native.Mathlib.Omega.{arith}
-use lib.Dec.{ltb, eqb}
-use Rattle.judgement.specs.DealSheet.{word, poolAt, rows, rowAt, exposure, nominal, riskWeight, status, tranchesAt, trancheCount, trancheAt, amount, class}
-use Rattle.deal.specs.Sum.{sum, whereCounted}
-use Rattle.deal.specs.PointsAndCharge.{poolSums, seniorAmount, attachmentPoint, detachmentPoint}
+use lib.Dec.{ltb}
+use Rattle.numbers.specs.Sum.{sum, whereCounted}
+use Rattle.numbers.proofs.SumLaws.{sum-same}
+use Rattle.judgement.specs.DealSheet.{word, trancheCount, trancheAt, amount, class, layout}
+use Rattle.judgement.proofs.SameLayout.{SameCounts}
+use Rattle.pool.specs.PoolSums.{poolSums}
+use Rattle.deal.specs.Points.{seniorAmount, attachmentPoint, detachmentPoint}
 use Rattle.deal.specs.Lines.{terms, tranche}
-use Rattle.deal.specs.OrderOfRows.{Permutation}
-use Rattle.deal.proofs.SumLaws.{sum-same}
-use Rattle.deal.proofs.SumPermuted.{sum-permuted}
-
--- ---- the counts
-
-pub record SameCounts (s s′ : List ℕ) : Type 0 where
-  pub pool-at : poolAt s′ ≡ poolAt s
-  pub row-count : rows s′ ≡ rows s
-  pub tranches-at : tranchesAt s′ ≡ tranchesAt s
-  pub tranche-count : trancheCount s′ ≡ trancheCount s
-
-pub same-counts :
-    (s s′ : List ℕ) → ((p : ℕ) → p ≤ poolAt s → word s′ p ≡ word s p) → word s′ (tranchesAt s) ≡ word s (tranchesAt s) → SameCounts s s′
-unfolding poolAt rows tranchesAt trancheCount
-same-counts s s′ before count =
-    let pool : poolAt s′ ≡ poolAt s = ap (λ (w : ℕ). 1 + w) (before 0 (omega arith)) in
-    let many : rows s′ ≡ rows s = ap (word s′) pool ∙ before (poolAt s) (le-refl _) in
-    let place : tranchesAt s′ ≡ tranchesAt s = omega arith in
-    record {
-      pool-at = pool;
-      row-count = many;
-      tranches-at = place;
-      tranche-count = ap (word s′) place ∙ count;
-    }
-
--- ---- the pool
-
-module _ (s s′ : List ℕ) (π σ : ℕ → ℕ) (counts : SameCounts s s′) (order : Permutation (rows s) π σ)
-    (moved : (i c : ℕ) → i < rows s → c < 4 → word s′ (rowAt s i + c) ≡ word s (rowAt s (π i) + c)) where
-  at-row : (i c : ℕ) → i < rows s → c < 4 → word s′ (rowAt s′ i + c) ≡ word s (rowAt s (π i) + c)
-  at-row i c row column = rw (counts .pool-at) (moved i c row column)
-
-  exposure-moved : (i : ℕ) → i < rows s → exposure s′ i ≡ exposure s (π i)
-  exposure-moved i row = simp add-zero at (at-row i 0 row (omega arith))
-
-  -- the sum of any number f that a row's four words decide
-  sum-moved :
-      (f : ℕ → ℕ → ℕ → ℕ → ℕ) →
-      sum (λ i. f (exposure s′ i) (nominal s′ i) (riskWeight s′ i) (status s′ i)) (rows s′) ≡
-      sum (λ i. f (exposure s i) (nominal s i) (riskWeight s i) (status s i)) (rows s)
-  sum-moved f =
-      ap (sum (λ i. f (exposure s′ i) (nominal s′ i) (riskWeight s′ i) (status s′ i))) (counts .row-count) ∙
-      sum-same
-      (λ i. f (exposure s′ i) (nominal s′ i) (riskWeight s′ i) (status s′ i))
-      (λ i. f (exposure s (π i)) (nominal s (π i)) (riskWeight s (π i)) (status s (π i)))
-      (rows s)
-      (λ i row.
-      rw (exposure-moved i row, at-row i 1 row (omega arith), at-row i 2 row (omega arith), at-row i 3 row (omega arith))) ∙
-      sum-permuted (λ i. f (exposure s i) (nominal s i) (riskWeight s i) (status s i)) (rows s) π σ order
-
-  pub same-sums : poolSums s′ ≡ poolSums s
-  unfolding poolSums
-  same-sums =
-      rw (
-        sum-moved (λ e n w t. e),
-        sum-moved (λ e n w t. n),
-        sum-moved (λ e n w t. e * w),
-        sum-moved (λ e n w t. whereCounted (not (eqb t 2)) e),
-        sum-moved (λ e n w t. whereCounted (not (eqb t 2)) n),
-        sum-moved (λ e n w t. whereCounted (not (eqb t 2)) (e * w)),
-        sum-moved (λ e n w t. whereCounted (eqb t 1) n),
-      )
 
 -- ---- what the tranches share
 
-pub same-terms :
-    (s s′ : List ℕ) → poolSums s′ ≡ poolSums s → word s′ 2 ≡ word s 2 → word s′ 3 ≡ word s 3 → word s′ 4 ≡ word s 4 → terms s′ ≡ terms s
+pub same-terms : (s s′ : List ℕ) → layout s′ ≡ layout s → poolSums s′ ≡ poolSums s → terms s′ ≡ terms s
 unfolding terms
-same-terms s s′ sums two three four = rw (sums, two, three, four)
+same-terms s s′ facts sums = rw (facts, sums)
 
 -- ---- a tranche
 

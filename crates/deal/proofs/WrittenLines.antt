@@ -6,6 +6,7 @@ use native.Mathlib.Numerals.{add-one}
 use native.Mathlib.Omega.{arith}
 use lib.ListN.{length, drop, length-append, length-drop}
 use lib.Seq.{sets, sets-eq, take-at, drop-append-add, drop-drop}
+use Rattle.limits.specs.SheetSize.{lineSize}
 use Rattle.deal.specs.Lines.{terms, tranche, line, wordsOf, lineWords}
 use Rattle.deal.specs.Results.{lines}
 use Rattle.deal.specs.declared.Line.{Line}
@@ -25,30 +26,30 @@ unfolding lines
 lines-none s old = refl
 
 -- the results keep their length
-pub length-so-far : (s old : List ℕ) (i : ℕ) → 6 * i ≤ length old → length (lines s i ++ drop (6 * i) old) ≡ length old
-length-so-far s old i h = omega (arith, length-append (lines s i) (drop (6 * i) old), length-lines s i, length-drop (6 * i) old)
+pub length-so-far : (s old : List ℕ) (i : ℕ) → lineSize * i ≤ length old → length (lines s i ++ drop (lineSize * i) old) ≡ length old
+length-so-far s old i h = omega (arith, length-append (lines s i) (drop (lineSize * i) old), length-lines s i, length-drop (lineSize * i) old)
 
 lines-next : (s : List ℕ) (i : ℕ) → lines s (i + 1) ≡ lines s i ++ lineWords (tranche s i) (terms s)
 unfolding lines
 lines-next s i = rw add-one
 
 line-written :
-    (s old : List ℕ) (i : ℕ) → 6 * i + 6 ≤ length old →
-    sets (lines s i ++ drop (6 * i) old) (6 * i) (lineWords (tranche s i) (terms s)) ≡ lines s (i + 1) ++ drop (6 * (i + 1)) old
+    (s old : List ℕ) (i : ℕ) → lineSize * i + lineSize ≤ length old →
+    sets (lines s i ++ drop (lineSize * i) old) (lineSize * i) (lineWords (tranche s i) (terms s)) ≡ lines s (i + 1) ++ drop (lineSize * (i + 1)) old
 line-written s old i h =
-    let past : 6 * i + 6 ≡ 6 * (i + 1) = omega arith in
-    stored-behind (lines s i) (drop (6 * i) old) (lineWords (tranche s i) (terms s)) (6 * i) 6 (length-lines s i)
-    (length-line (tranche s i) (terms s)) (omega (arith, length-drop (6 * i) old)) ∙
-    ap (λ (l : List ℕ). (lines s i ++ lineWords (tranche s i) (terms s)) ++ l) (drop-drop 6 (6 * i) old ∙ ap (λ (k : ℕ). drop k old) past) ∙
-    ap (λ (l : List ℕ). l ++ drop (6 * (i + 1)) old) (sym (lines-next s i))
+    let past : lineSize * i + lineSize ≡ lineSize * (i + 1) = omega arith in
+    stored-behind (lines s i) (drop (lineSize * i) old) (lineWords (tranche s i) (terms s)) (lineSize * i) lineSize (length-lines s i)
+    (length-line (tranche s i) (terms s)) (omega (arith, length-drop (lineSize * i) old)) ∙
+    ap (λ (l : List ℕ). (lines s i ++ lineWords (tranche s i) (terms s)) ++ l) (drop-drop lineSize (lineSize * i) old ∙ ap (λ (k : ℕ). drop k old) past) ∙
+    ap (λ (l : List ℕ). l ++ drop (lineSize * (i + 1)) old) (sym (lines-next s i))
 
 -- the same of results and a line that are known by their equations
 pub line-put :
-    (s old : List ℕ) (i : ℕ) {before after : List ℕ} {l : Line} → 6 * i + 6 ≤ length old → before ≡ lines s i ++ drop (6 * i) old →
-    l ≡ line (tranche s i) (terms s) → after ≡ sets before (6 * i) (wordsOf l) → after ≡ lines s (i + 1) ++ drop (6 * (i + 1)) old
+    (s old : List ℕ) (i : ℕ) {before after : List ℕ} {l : Line} → lineSize * i + lineSize ≤ length old → before ≡ lines s i ++ drop (lineSize * i) old →
+    l ≡ line (tranche s i) (terms s) → after ≡ sets before (lineSize * i) (wordsOf l) → after ≡ lines s (i + 1) ++ drop (lineSize * (i + 1)) old
 unfolding lineWords
 line-put s old i {before} h was is stored =
     stored ∙
-    ap (λ (k : Line). sets before (6 * i) (wordsOf k)) is ∙
-    ap (λ (r : List ℕ). sets r (6 * i) (wordsOf (line (tranche s i) (terms s)))) was ∙
+    ap (λ (k : Line). sets before (lineSize * i) (wordsOf k)) is ∙
+    ap (λ (r : List ℕ). sets r (lineSize * i) (wordsOf (line (tranche s i) (terms s)))) was ∙
     line-written s old i h

@@ -5,7 +5,8 @@ use mathlib.Core.Path.{_≡_}
 use Prim.Native.Nat.{ℕ, _+_, _≤_, _<_}
 use lib.ListN.{getD}
 use Rattle.judgement.specs.DealSheet.{trancheCount, class}
-use Rattle.deal.specs.PointsAndCharge.{poolSums, point, seniorAmount}
+use Rattle.pool.specs.PoolSums.{poolSums}
+use Rattle.deal.specs.Points.{point, seniorAmount}
 
 -- at each c up to one more than the class of some tranche stands the point beneath the amounts senior to c
 pub record ClassPoints (s points : List ℕ) : Type 0 where

@@ -1,13 +1,15 @@
 -- 01, "The formula and its series", demand 3: what the results hold for every accepted SEC-SA tranche with K at least 1 and D above K, where the rules
 -- leave the raw weight open.
+use mathlib.Core.Bool.{true}
 use mathlib.Core.List.{List}
 use mathlib.Core.Path.{_≡_}
 use Prim.Native.Nat.{ℕ, _+_, _*_, _≤_, _<_}
 use lib.ListN.{getD}
-use Rattle.formula.specs.Formula.{Passes}
-use Rattle.judgement.specs.DealSheet.{resecuritisation, trancheCount}
-use Rattle.deal.specs.PointsAndCharge.{attachmentPoint, detachmentPoint}
-use Rattle.weights.specs.ApproachFloorCap.{approach, parameter, afterFloorAndCap, formulaRawWeight}
+use Rattle.series.specs.Ends.{Passes}
+use Rattle.limits.specs.SheetSize.{lineSize}
+use Rattle.judgement.specs.DealSheet.{trancheCount}
+use Rattle.deal.specs.Points.{attachmentPoint, detachmentPoint}
+use Rattle.weights.specs.ApproachFloorCap.{byFormula, parameter, afterFloorAndCap, formulaRawWeight}
 use Rattle.deal.specs.Lines.{terms, tranche}
 use Rattle.deal.specs.Refusals.{verdict}
 use Rattle.judgement.specs.declared.Verdict.the-variants.{Sound}
@@ -16,7 +18,7 @@ use Rattle.judgement.specs.declared.Verdict.the-variants.{Sound}
 pub record AboveCharge (s : List ℕ) (room i : ℕ) : Type 0 where
   pub accepted : verdict s room ≡ Sound
   pub among : i < trancheCount s
-  pub sec-sa : approach (tranche s i) (terms s) ≡ 2
+  pub by-formula : byFormula (tranche s i) (terms s) ≡ true
   pub charge-least : 1 ≤ terms s .charge
   pub above : terms s .charge < detachmentPoint s i
 
@@ -27,8 +29,8 @@ rawWeightOf s i = formulaRawWeight (tranche s i) (terms s)
 -- "the line's weight is the raw weight the tranche gets, after floor and cap, and some k has its upper end at most that raw weight and its lower
 -- end more than that raw weight minus 2"; "A raw weight is a whole number and never above 125,000." The weight is the fourth word of the line.
 pub record DemandThree (s results : List ℕ) (i : ℕ) : Type 0 where
-  pub line-weight : getD results (6 * i + 3) 0 ≡ afterFloorAndCap (tranche s i) (terms s) (rawWeightOf s i)
-  pub passes : Passes (attachmentPoint s i) (detachmentPoint s i) (terms s .charge) (parameter (resecuritisation s)) (rawWeightOf s i)
+  pub line-weight : getD results (lineSize * i + 3) 0 ≡ afterFloorAndCap (tranche s i) (terms s) (rawWeightOf s i)
+  pub passes : Passes (attachmentPoint s i) (detachmentPoint s i) (terms s .charge) (parameter (tranche s i) (terms s)) (rawWeightOf s i)
   pub at-most : rawWeightOf s i ≤ 125000
 
 -- what results of that many words hold of all such tranches

@@ -4,6 +4,7 @@ use mathlib.Core.Bool.{true, false}
 use mathlib.Core.List.{List}
 use mathlib.Core.Path.{_≡_}
 use Prim.Native.Nat.{ℕ, _*_, _≤_, _<_}
+use Rattle.limits.specs.SheetSize.{lineSize}
 use Rattle.judgement.specs.DealSheet.{trancheCount, trancheAt}
 use Rattle.weights.specs.ApproachFloorCap.{thin}
 use Rattle.deal.specs.Lines.{terms, tranche}
@@ -13,14 +14,14 @@ use Rattle.judgement.specs.Judged.{WordsGood, WordsRefusal}
 -- "14: results shorter than six words per tranche; place 0."
 pub record RoomShort (s : List ℕ) (room : ℕ) (r : Refusal) : Type 0 where
   pub words : WordsGood s
-  pub short : room < 6 * trancheCount s
+  pub short : room < lineSize * trancheCount s
   pub number-is : r .number ≡ 14
   pub place-is : r .place ≡ 0
 
 -- "13: SEC-SA applies, A equals D, and D is above the pool charge; place of the tranche amount.", at the first such tranche
 pub record TrancheThin (s : List ℕ) (room : ℕ) (r : Refusal) : Type 0 where
   pub words : WordsGood s
-  pub enough : 6 * trancheCount s ≤ room
+  pub enough : lineSize * trancheCount s ≤ room
   pub i : ℕ
   pub among : i < trancheCount s
   pub is-thin : thin (tranche s i) (terms s) ≡ true
@@ -37,5 +38,5 @@ pub data Why (s : List ℕ) (room : ℕ) (r : Refusal) : Type 0 where
 -- a sheet that is accepted: every word good, none more, room for the results, and no tranche too thin for the formula
 pub record Accepted (s : List ℕ) (room : ℕ) : Type 0 where
   pub words : WordsGood s
-  pub enough : 6 * trancheCount s ≤ room
+  pub enough : lineSize * trancheCount s ≤ room
   pub none-thin : (i : ℕ) → i < trancheCount s → thin (tranche s i) (terms s) ≡ false

@@ -1,13 +1,8 @@
-pub mod SheetPlaces
-pub mod Refusals
-pub mod Judged
-pub mod Sum
-pub mod PointsAndCharge
-pub mod RowTotals
-pub mod SumLimits
+pub mod Points
 pub mod ClassPoints
 pub mod Lines
+pub mod Refusals
+pub mod Judged
 pub mod Results
 pub mod DemandThree
 pub mod OtherRatings
-pub mod OrderOfRows

@@ -7,27 +7,29 @@ use Rattle.numbers.specs.Rounding.{roundedUp}
 use Rattle.weights.specs.ApproachFloorCap.{approach, weight}
 use Rattle.weights.specs.declared.Terms.{Terms}
 use Rattle.weights.specs.declared.Tranche.{Tranche}
-use Rattle.judgement.specs.DealSheet.{resecuritisation, dueDiligence, compositionKnown, class, months, held, firstRating, secondRating, thirdRating}
-use Rattle.deal.specs.PointsAndCharge.{poolSums, mostlyKnown, poolCharge, attachmentPoint, detachmentPoint}
+use Rattle.charge.specs.PoolCharge.{mostlyKnown, poolCharge, poolAverage}
+use Rattle.charge.specs.declared.Sums.{Sums}
+use Rattle.judgement.specs.DealSheet.{class, months, held, firstRating, secondRating, thirdRating, layout}
+use Rattle.judgement.specs.declared.Layout.{Layout}
+use Rattle.pool.specs.PoolSums.{poolSums}
+use Rattle.deal.specs.Points.{attachmentPoint, detachmentPoint}
 use Rattle.deal.specs.declared.Line.{Line}
-use Rattle.deal.specs.declared.Sums.{Sums}
 
 -- ---- what the tranches share, and what is a tranche's own
 
--- the cap: "100 × (sum of exposure × risk weight) / (sum of exposure) over all rows, rounded up"
-abbrev pub poolAverage : Sums → ℕ
-poolAverage q = roundedUp (100 * q .all .weighted) (q .all .exposure)
-
--- what the tranches of a deal share
-unfoldable pub terms : List ℕ → Terms
-terms s = record {
-  diligence = dueDiligence s;
-  resecuritisation = resecuritisation s;
-  composition = compositionKnown s;
-  known = mostlyKnown (poolSums s);
-  charge = poolCharge (poolSums s);
-  average = poolAverage (poolSums s);
+-- what the tranches of a deal share, from the sheet's facts and its pool's sums
+abbrev pub termsFor : Layout → Sums → Terms
+termsFor l q = record {
+  diligence = l .diligence;
+  resecuritisation = l .resecuritisation;
+  composition = l .composition;
+  known = mostlyKnown q;
+  charge = poolCharge q;
+  average = poolAverage q;
 }
+
+unfoldable pub terms : List ℕ → Terms
+terms s = termsFor (layout s) (poolSums s)
 
 -- what is a tranche's own: "Class 1 is the senior class."
 unfoldable pub tranche : List ℕ → ℕ → Tranche

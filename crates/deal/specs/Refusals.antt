@@ -3,6 +3,7 @@ use mathlib.Core.Bool.{cond}
 use mathlib.Core.List.{List}
 use Prim.Native.Nat.{ℕ, _*_}
 use lib.Dec.{ltb}
+use Rattle.limits.specs.SheetSize.{lineSize}
 use Rattle.judgement.specs.DealSheet.{trancheCount, trancheAt}
 use Rattle.weights.specs.ApproachFloorCap.{thin}
 use Rattle.deal.specs.Lines.{terms, tranche}
@@ -12,7 +13,7 @@ use Rattle.judgement.specs.Refusals.{refused, orElse, firstOf, wordsVerdict}
 
 -- "14: results shorter than six words per tranche; place 0."
 abbrev pub roomVerdict : List ℕ → ℕ → Verdict
-roomVerdict s room = cond (ltb room (6 * trancheCount s)) (refused 14 0) Sound
+roomVerdict s room = cond (ltb room (lineSize * trancheCount s)) (refused 14 0) Sound
 
 -- "13: SEC-SA applies, A equals D, and D is above the pool charge; place of the tranche amount."
 abbrev pub thinVerdict : List ℕ → ℕ → Verdict

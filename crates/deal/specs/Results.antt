@@ -2,6 +2,7 @@
 use mathlib.Core.List.{List, [], _++_}
 use Prim.Native.Nat.{ℕ, zero, suc, _*_}
 use lib.ListN.{length, drop}
+use Rattle.limits.specs.SheetSize.{lineSize}
 use Rattle.judgement.specs.DealSheet.{trancheCount}
 use Rattle.deal.specs.Lines.{terms, tranche, lineWords}
 use Rattle.deal.specs.Refusals.{verdict}
@@ -41,7 +42,7 @@ lines s zero = []
 lines s (suc n) = lines s n ++ lineWords (tranche s n) (terms s)
 
 abbrev pub resultsFor : List ℕ → List ℕ → Verdict → List ℕ
-resultsFor s old Sound = lines s (trancheCount s) ++ drop (6 * trancheCount s) old
+resultsFor s old Sound = lines s (trancheCount s) ++ drop (lineSize * trancheCount s) old
 resultsFor s old (Faulty r) = old
 
 unfoldable pub resultsAfter : List ℕ → List ℕ → List ℕ

@@ -4,25 +4,26 @@ ghost use mathlib.Core.List.{_++_};
 ghost use Prim.Native.Nat.{_+_, _*_, _≤_, _<_};
 ghost use lib.ListN.{length, drop};
 ghost use lib.Seq.{sets};
-ghost use Rattle.judgement.specs.DealSheet.{trancheCount, needed};
-ghost use Rattle.deal.specs.SheetPlaces.{places};
+ghost use Rattle.limits.specs.SheetSize.{lineSize};
+ghost use Rattle.judgement.specs.DealSheet.{trancheCount};
+ghost use Rattle.judgement.specs.LaidOut.{LaidOut};
 ghost use Rattle.deal.specs.Lines.{terms, tranche, line, wordsOf};
 ghost use Rattle.deal.specs.ClassPoints.{ClassPoints};
-ghost use Rattle.judgement.specs.Refusals.{judged};
 ghost use Rattle.deal.specs.Results.{lines};
-ghost use Rattle.judgement.specs.declared.Verdict.the-variants.{Sound};
 use crate::Line;
-use crate::Places;
+use crate::tranches::POINTS;
 use crate::tranches::capital;
 use crate::tranches::risk_weighted_amount;
 use crate::tranches::tranche_of;
+use judgement::Layout;
+use limits::LINE_SIZE;
 use weights::Terms;
 use weights::approach;
 use weights::weight;
 
 // Writes the six words of a line from a place on.
 fn put_line(line: Line, at: usize, results: &mut [u64])
-    requires { ⌜ at + 6 ≤ length (now results) ⌝ }
+    requires { ⌜ at + lineSize ≤ length (now results) ⌝ }
     ensures { λ r. ⌜ now (results .exit) ≡ sets (now (results .entry)) at (wordsOf line) ⌝ }
 {
     results[at] = line.approach;
@@ -34,11 +35,11 @@ fn put_line(line: Line, at: usize, results: &mut [u64])
 }
 
 // The line of tranche i.
-fn line_of(s: &[u64], p: Places, d: Terms, points: &[u64; 34], i: u64) -> Line
-    requires { ⌜ (judged (now s) (needed (now s)) ≡ Sound) × (p ≡ places (now s)) × (d ≡ terms (now s)) × ClassPoints (now s) (now points) × (i < trancheCount (now s)) ⌝ }
+fn line_of(s: &[u64], l: Layout, d: Terms, points: &[u64; POINTS], i: u64) -> Line
+    requires { ⌜ LaidOut (now s) l × (d ≡ terms (now s)) × ClassPoints (now s) (now points) × (i < trancheCount (now s)) ⌝ }
     ensures { λ r. ⌜ r ≡ line (tranche (now (s .entry)) i) (terms (now (s .entry))) ⌝ }
 {
-    let t = tranche_of(s, p, points, i);
+    let t = tranche_of(s, l, points, i);
     let w = weight(t, d);
     Line {
         approach: approach(t, d),
@@ -51,15 +52,21 @@ fn line_of(s: &[u64], p: Places, d: Terms, points: &[u64; 34], i: u64) -> Line
 }
 
 // Writes the line of every tranche, in order.
-pub(crate) fn write_lines(s: &[u64], p: Places, d: Terms, points: &[u64; 34], results: &mut [u64])
-    requires { ⌜ (judged (now s) (needed (now s)) ≡ Sound) × (p ≡ places (now s)) × (d ≡ terms (now s)) × ClassPoints (now s) (now points) × (6 * trancheCount (now s) ≤ length (now results)) ⌝ }
-    ensures { λ r. ⌜ now (results .exit) ≡ lines (now (s .entry)) (trancheCount (now (s .entry))) ++ drop (6 * trancheCount (now (s .entry))) (now (results .entry)) ⌝ }
+pub(crate) fn write_lines(
+    s: &[u64],
+    l: Layout,
+    d: Terms,
+    points: &[u64; POINTS],
+    results: &mut [u64],
+)
+    requires { ⌜ LaidOut (now s) l × (d ≡ terms (now s)) × ClassPoints (now s) (now points) × (lineSize * trancheCount (now s) ≤ length (now results)) ⌝ }
+    ensures { λ r. ⌜ now (results .exit) ≡ lines (now (s .entry)) (trancheCount (now (s .entry))) ++ drop (lineSize * trancheCount (now (s .entry))) (now (results .entry)) ⌝ }
 {
-    let tranches = p.count;
+    let tranches = l.tranches;
     let mut i = 0;
     while i < tranches {
-        let line = line_of(s, p, d, points, i);
-        put_line(line, (6 * i) as usize, &mut *results);
+        let line = line_of(s, l, d, points, i);
+        put_line(line, LINE_SIZE * i as usize, &mut *results);
         i += 1;
     }
 }

@@ -1,23 +1,37 @@
 // What is each tranche's own, the amounts for what is held, and refusal 13.
 ghost use mathlib.Core.Path.{_≡_};
-ghost use Prim.Native.Nat.{_≤_, _<_};
-ghost use Rattle.judgement.specs.DealSheet.{trancheCount, needed};
-ghost use Rattle.deal.specs.SheetPlaces.{places};
-ghost use Rattle.deal.specs.PointsAndCharge.{point, poolSums};
+ghost use Prim.Native.Nat.{_+_, _≤_, _<_};
+ghost use Rattle.limits.specs.SheetSize.{trancheSize};
+ghost use Rattle.judgement.specs.DealSheet.{word, trancheCount, trancheAt};
+ghost use Rattle.judgement.specs.LaidOut.{LaidOut};
+ghost use Rattle.pool.specs.PoolSums.{poolSums};
+ghost use Rattle.deal.specs.Points.{point};
 ghost use Rattle.deal.specs.Lines.{terms, tranche, riskWeightedAmount, capital};
 ghost use Rattle.deal.specs.ClassPoints.{ClassPoints};
-ghost use Rattle.judgement.specs.Refusals.{judged, firstOf};
+ghost use Rattle.judgement.specs.Refusals.{firstOf};
 ghost use Rattle.deal.specs.Refusals.{thinVerdict};
-ghost use Rattle.judgement.specs.declared.Verdict.the-variants.{Sound};
-use crate::Places;
-use crate::words::tranche_word;
+use judgement::Layout;
 use judgement::Refusal;
 use judgement::Verdict;
+use limits::TRANCHE_SIZE;
+use limits::TRANCHES_MOST;
 use numbers::excess;
 use numbers::rounded_up;
 use weights::Terms;
 use weights::Tranche;
 use weights::is_thin;
+
+// The places of the table of points: each tranche may have a class of its own, classes count from 1, and the table goes one past the last.
+pub(crate) const POINTS: usize = TRANCHES_MOST + 2;
+
+// A word of tranche i, by its column from 0.
+fn tranche_word(s: &[u64], l: Layout, i: u64, column: usize) -> u64
+    requires { ⌜ LaidOut (now s) l × (i < trancheCount (now s)) × (column < trancheSize) ⌝ }
+    ensures { λ r. ⌜ r ≡ word (now (s .entry)) (trancheAt (now (s .entry)) i + column) ⌝ }
+{
+    let at = l.first_tranche + TRANCHE_SIZE * i as usize + column;
+    s[at]
+}
 
 // What is left of the pool's nominal beneath an amount of more senior tranches, as a share of it in millionths, rounded down.
 fn point(nominal: u64, amount: u64) -> u64
@@ -28,19 +42,18 @@ fn point(nominal: u64, amount: u64) -> u64
 }
 
 // The points between classes: at c, what is left of the pool beneath the tranches of a class below c, for c up to one more than the last class. So the
-// tranches of class c attach at c + 1 and detach at c. Classes rise by at most one from row to row, so one pass in the rows' order fills every place. There are
-// at most 32 classes.
-pub(crate) fn class_points(s: &[u64], p: Places, nominal: u64) -> [u64; 34]
-    requires { ⌜ (judged (now s) (needed (now s)) ≡ Sound) × (p ≡ places (now s)) × (nominal ≡ poolSums (now s) .all .nominal) ⌝ }
+// tranches of class c attach at c + 1 and detach at c. Classes rise by at most one from row to row, so one pass in the rows' order fills every place.
+pub(crate) fn class_points(s: &[u64], l: Layout, nominal: u64) -> [u64; POINTS]
+    requires { ⌜ LaidOut (now s) l × (nominal ≡ poolSums (now s) .all .nominal) ⌝ }
     ensures { λ r. ⌜ ClassPoints (now (s .entry)) r ⌝ }
 {
-    let tranches = p.count;
-    let mut points = [1000000u64; 34];
+    let tranches = l.tranches;
+    let mut points = [1000000u64; POINTS];
     let mut sum = 0;
     let mut j = 0;
     while j < tranches {
-        let class = tranche_word(s, p, j, 1);
-        sum += tranche_word(s, p, j, 0);
+        let class = tranche_word(s, l, j, 1);
+        sum += tranche_word(s, l, j, 0);
         points[(class + 1) as usize] = point(nominal, sum);
         j += 1;
     }
@@ -48,20 +61,20 @@ pub(crate) fn class_points(s: &[u64], p: Places, nominal: u64) -> [u64; 34]
 }
 
 // What is tranche i's own.
-pub(crate) fn tranche_of(s: &[u64], p: Places, points: &[u64; 34], i: u64) -> Tranche
-    requires { ⌜ (judged (now s) (needed (now s)) ≡ Sound) × (p ≡ places (now s)) × ClassPoints (now s) (now points) × (i < trancheCount (now s)) ⌝ }
+pub(crate) fn tranche_of(s: &[u64], l: Layout, points: &[u64; POINTS], i: u64) -> Tranche
+    requires { ⌜ LaidOut (now s) l × ClassPoints (now s) (now points) × (i < trancheCount (now s)) ⌝ }
     ensures { λ r. ⌜ r ≡ tranche (now (s .entry)) i ⌝ }
 {
-    let class = tranche_word(s, p, i, 1);
+    let class = tranche_word(s, l, i, 1);
     Tranche {
         attachment: points[(class + 1) as usize],
         detachment: points[class as usize],
         senior: class == 1,
-        months: tranche_word(s, p, i, 2),
-        held: tranche_word(s, p, i, 3),
-        first: tranche_word(s, p, i, 4),
-        second: tranche_word(s, p, i, 5),
-        third: tranche_word(s, p, i, 6),
+        months: tranche_word(s, l, i, 2),
+        held: tranche_word(s, l, i, 3),
+        first: tranche_word(s, l, i, 4),
+        second: tranche_word(s, l, i, 5),
+        third: tranche_word(s, l, i, 6),
     }
 }
 
@@ -82,17 +95,17 @@ pub(crate) fn capital(held: u64, w: u64) -> u64
 }
 
 // The first tranche that is too thin for the formula.
-pub(crate) fn judge_thickness(s: &[u64], p: Places, d: Terms, points: &[u64; 34]) -> Verdict
-    requires { ⌜ (judged (now s) (needed (now s)) ≡ Sound) × (p ≡ places (now s)) × (d ≡ terms (now s)) × ClassPoints (now s) (now points) ⌝ }
+pub(crate) fn judge_thickness(s: &[u64], l: Layout, d: Terms, points: &[u64; POINTS]) -> Verdict
+    requires { ⌜ LaidOut (now s) l × (d ≡ terms (now s)) × ClassPoints (now s) (now points) ⌝ }
     ensures { λ r. ⌜ r ≡ firstOf (λ i. thinVerdict (now (s .entry)) i) (trancheCount (now (s .entry))) ⌝ }
 {
-    let tranches = p.count;
+    let tranches = l.tranches;
     let mut i = 0;
     while i < tranches {
-        if is_thin(tranche_of(s, p, points, i), d) {
+        if is_thin(tranche_of(s, l, points, i), d) {
             return Verdict::Faulty(Refusal {
                 number: 13,
-                place: p.tranches as u64 + 7 * i,
+                place: l.first_tranche as u64 + TRANCHE_SIZE as u64 * i,
             });
         }
         i += 1;

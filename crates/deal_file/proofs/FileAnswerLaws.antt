@@ -5,6 +5,7 @@ use mathlib.Core.Path.{_≡_, refl, sym, ap, _∙_}
 use Prim.Native.Nat.{ℕ, _/_, _≤_}
 use native.Mathlib.Omega.{arith}
 use lib.ListN.{length, take, drop, length-append}
+use Rattle.limits.specs.SheetSize.{wordLimit}
 use Rattle.files.specs.FileForm.{goodLength, fileWords, wordsAfter}
 use Rattle.files.proofs.FileLaws.{length-words-to, load-accepts, load-takes}
 use Rattle.deal.specs.DemandThree.{KeepsDemandThree}
@@ -48,7 +49,7 @@ module _ (file : List ℕ) where
 
 -- the words of a file of good length fit the words lent for them
 pub file-words-fit :
-    (file old : List ℕ) {after : List ℕ} → length old ≡ 4231 → goodLength file ≡ true → after ≡ wordsAfter file old → length file / 8 ≤ length after
+    (file old : List ℕ) {after : List ℕ} → length old ≡ wordLimit → goodLength file ≡ true → after ≡ wordsAfter file old → length file / 8 ≤ length after
 file-words-fit file old room good is =
     omega (
       arith,

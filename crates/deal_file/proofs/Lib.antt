@@ -1,1 +1,2 @@
 pub mod FileAnswerLaws
+pub mod SheetFileLaw

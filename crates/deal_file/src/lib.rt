@@ -4,8 +4,8 @@ ghost use lib.ListN.{length};
 ghost use Rattle.deal.specs.Results.{replyOf};
 ghost use Rattle.deal_file.specs.FileAnswer.{fileReply, fileResults, FileKeepsDemandThree};
 use deal::Answer;
-use files::WORD_LIMIT;
 use judgement::Refusal;
+use limits::WORD_LIMIT;
 
 // Weighs every tranche of the sheet that a file's bytes hold, as deal::weigh does for words. A length that no sheet has is refused before all, with the
 // results as they were.

@@ -10,7 +10,7 @@ use native.Mathlib.Omega.{arith}
 use borrow.Author.Tests.{lt-ltb, le-ltb, le-leb}
 use lib.Dec.{ltb}
 use lib.ListN.{length, getD, length-append}
-use Rattle.files.specs.Decimal.{digit, allDigits, digits, decimal, valueFrom}
+use Rattle.files.specs.Decimal.{digit, allDigits, digits, digitsMost, decimal, valueFrom}
 
 -- ---- one digit after another
 
@@ -62,11 +62,11 @@ digits-last : (k n : ℕ) → digits (suc k) n ≡ cond (ltb n 10) [] (digits k 
 unfolding digits
 digits-last k n = refl
 
-pub decimal-last : (n : ℕ) → n < 10 ^ 20 → decimal n ≡ leading n ++ (48 + n % 10) ∷ []
+pub decimal-last : (n : ℕ) → n < 10 ^ digitsMost → decimal n ≡ leading n ++ (48 + n % 10) ∷ []
 unfolding decimal leading
 decimal-last n h = digits-last 19 n ∙ rw (digits-enough 18 (n / 10) (tenth-below 19 n h))
 
-pub decimal-more : (n : ℕ) → 10 ≤ n → n < 10 ^ 20 → decimal n ≡ decimal (n / 10) ++ (48 + n % 10) ∷ []
+pub decimal-more : (n : ℕ) → 10 ≤ n → n < 10 ^ digitsMost → decimal n ≡ decimal (n / 10) ++ (48 + n % 10) ∷ []
 decimal-more n l h = decimal-last n h ∙ rw (leading-some n l)
 
 -- ---- how many digits
@@ -79,9 +79,9 @@ length-digits (suc k) n =
     (λ l. omega arith)
     (λ l. omega (arith, length-append (digits k (n / 10)) ((48 + n % 10) ∷ []), length-digits k (n / 10)))
 
-pub length-decimal : (n : ℕ) → length (decimal n) ≤ 20
+pub length-decimal : (n : ℕ) → length (decimal n) ≤ digitsMost
 unfolding decimal
-length-decimal n = length-digits 20 n
+length-decimal n = length-digits digitsMost n
 
 -- ---- which bytes
 
@@ -103,7 +103,7 @@ digits-digits (suc k) n =
 
 pub decimal-digits : (n : ℕ) → allDigits (decimal n) ≡ true
 unfolding decimal
-decimal-digits n = digits-digits 20 n
+decimal-digits n = digits-digits digitsMost n
 
 -- a first digit above 0 is the first too where more digits follow
 first-of : (ds es : List ℕ) → 49 ≤ getD ds 0 0 → 49 ≤ getD (ds ++ es) 0 0
@@ -118,9 +118,9 @@ digits-first (suc k) n pos l =
     (λ more. first-of (digits k (n / 10)) ((48 + n % 10) ∷ []) (digits-first k (n / 10) (omega arith) (tenth-below k n l)))
 
 -- no 0 stands before the other digits
-pub decimal-first : (n : ℕ) → 1 ≤ n → n < 10 ^ 20 → 49 ≤ getD (decimal n) 0 0
+pub decimal-first : (n : ℕ) → 1 ≤ n → n < 10 ^ digitsMost → 49 ≤ getD (decimal n) 0 0
 unfolding decimal
-decimal-first n pos l = digits-first 20 n pos l
+decimal-first n pos l = digits-first digitsMost n pos l
 
 -- ---- the number that they say
 
@@ -137,6 +137,6 @@ digits-value (suc k) n l =
     (λ one. omega arith)
     (λ more. rw (value-longer 0 (digits k (n / 10)) (48 + n % 10), digits-value k (n / 10) (tenth-below k n l)) (omega arith))
 
-pub decimal-value : (n : ℕ) → n < 10 ^ 20 → valueFrom 0 (decimal n) ≡ n
+pub decimal-value : (n : ℕ) → n < 10 ^ digitsMost → valueFrom 0 (decimal n) ≡ n
 unfolding decimal
-decimal-value n l = digits-value 20 n l
+decimal-value n l = digits-value digitsMost n l

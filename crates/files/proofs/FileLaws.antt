@@ -11,7 +11,8 @@ use borrow.Author.Tests.{le-leb, lt-leb, eq-eqb, ne-eqb}
 use lib.Dec.{eqb}
 use lib.ListN.{length, take, drop, getD, length-append, List·getD-append}
 use lib.Seq.{take-at, drop-at, drop-drop, getD-at, length-take-le, ext-getD}
-use Rattle.files.specs.FileForm.{byteLimit, goodLength, lowestFirst, wordAt, wordsTo, fileWords, wordsAfter, bytesOf, fileBytes, bytesFit, bytesAfter}
+use Rattle.limits.specs.SheetSize.{byteLimit}
+use Rattle.files.specs.FileForm.{goodLength, lowestFirst, wordAt, wordsTo, fileWords, wordsAfter, bytesOf, fileBytes, bytesFit, bytesAfter}
 
 -- ---- lengths
 

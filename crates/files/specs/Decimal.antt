@@ -23,9 +23,13 @@ unfoldable pub digits : ℕ → ℕ → List ℕ
 digits zero n = []
 digits (suc k) n = cond (ltb n 10) [] (digits k (n / 10)) ++ (48 + n % 10) ∷ []
 
--- a word in decimal: a number of 64 bits has at most 20 digits
+-- the most digits of a number of 64 bits
+abbrev pub digitsMost : ℕ
+digitsMost = 20
+
+-- a word in decimal
 unfoldable pub decimal : ℕ → List ℕ
-decimal n = digits 20 n
+decimal n = digits digitsMost n
 
 -- the number that digits make after a number v
 unfoldable pub valueFrom : ℕ → List ℕ → ℕ

@@ -5,14 +5,11 @@ use mathlib.Core.List.{List, [], _∷_, _++_}
 use Prim.Native.Nat.{ℕ, zero, suc, _+_, _*_, _/_, _%_}
 use lib.Dec.{leb, eqb}
 use lib.ListN.{length, take, drop}
+use Rattle.limits.specs.SheetSize.{byteLimit}
 
 -- ---- the length of a file
 
--- the bytes of the longest sheet: 4,231 words, which are four facts, 1,000 pool rows, 32 tranches and three counts
-abbrev pub byteLimit : ℕ
-byteLimit = 33848
-
--- a length that gets no 15
+-- a length that gets no 15: 33,848 is `byteLimit`
 abbrev pub goodLength : List ℕ → Bool
 goodLength file = eqb (length file % 8) 0 && leb (length file) byteLimit
 

@@ -5,12 +5,8 @@ ghost use Prim.Native.Nat.{_+_, _/_, _≤_, _<_};
 ghost use lib.ListN.{length, take, drop};
 ghost use lib.Seq.{sets};
 ghost use Rattle.files.specs.FileForm.{goodLength, lowestFirst, fileWords, wordsAfter, bytesOf, bytesFit, bytesAfter};
-
-// The most words that a sheet has: three counts, four facts, 1,000 pool rows of four words and 32 tranches of seven.
-pub const WORD_LIMIT: usize = 4231;
-
-// The most bytes that a sheet's file has.
-pub const BYTE_LIMIT: usize = 33848;
+use limits::BYTE_LIMIT;
+use limits::WORD_LIMIT;
 
 // A byte as a word.
 fn wide(b: u8) -> u64

@@ -3,12 +3,14 @@ use mathlib.Core.Path.{_≡_, ap}
 use Prim.Native.Nat.{ℕ, suc, _+_, _*_, _-_, _^_, _/_, _%_, _≤_, _<_}
 use native.Mathlib.Nat.{mul-le-mul, mul-le-mul-left, mul-le-mul-right}
 use native.Mathlib.Omega.{arith}
-use Rattle.formula.specs.Fraction.{Fraction, over}
-use Rattle.formula.specs.FixedPoint.{decayDistance, entry, coarseDecay, fineDecay, decayBelow}
-use Rattle.formula.proofs.DecayBounds.{NotAbove, NotBelow, not-above-weaker, not-below-weaker, not-above-smaller, not-below-larger, not-above-product, not-below-product}
-use Rattle.formula.proofs.Rest.{second-equation, second-not-below, third, third-equation, third-not-above}
-use Rattle.formula.proofs.Entries.{entry-not-below, whole-entry-not-above, sixteenth-entry-not-above, fine-entry-not-above}
-use Rattle.formula.proofs.StepBounds.{entry-at-most, coarse-decay-at-most, fine-entry-at-least, square-at-most, fine-fall-at-most}
+use Rattle.series.specs.Fraction.{Fraction, over}
+use Rattle.series.specs.TableEntry.{entry}
+use Rattle.formula.specs.FixedPoint.{decayDistance, coarseDecay, fineDecay, decayBelow}
+use Rattle.series.proofs.DecayBounds.{NotAbove, NotBelow, not-above-weaker, not-below-weaker, not-above-smaller, not-below-larger, not-above-product, not-below-product}
+use Rattle.series.proofs.Rest.{second-equation, second-not-below, third, third-equation, third-not-above}
+use Rattle.series.proofs.Entries.{entry-not-below, whole-entry-not-above, sixteenth-entry-not-above, fine-entry-not-above}
+use Rattle.series.proofs.EntryBounds.{entry-at-most, fine-entry-at-least}
+use Rattle.formula.proofs.StepBounds.{coarse-decay-at-most, square-at-most, fine-fall-at-most}
 
 -- the same bound over a scale that is t times smaller
 module _ {c : ℕ} {q : Fraction} (c′ s t : ℕ) (pos : 0 < s * t) where

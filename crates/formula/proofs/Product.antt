@@ -5,11 +5,11 @@ use mathlib.Core.Path.{_≡_, ap}
 use Prim.Native.Nat.{ℕ, suc, _+_, _*_, _-_, _^_, _≤_}
 use native.Mathlib.Nat.{mul-le-mul-left, mul-le-mul-right, min-le-left}
 use native.Mathlib.Omega.{arith}
-use Rattle.formula.specs.Fraction.{Fraction, over}
+use Rattle.series.specs.Fraction.{Fraction, over}
 use Rattle.formula.specs.FixedPoint.{decayDistance, meanDecayDistance, productDistance, decayBelow, decayAbove, meanDecayAbove, productAbove}
-use Rattle.formula.proofs.Numbers.{le-or-lt, at-min, at-difference}
-use Rattle.formula.proofs.SeriesLaws.{low-at-least-one}
-use Rattle.formula.proofs.DecayBounds.{NotBelow}
+use Rattle.series.proofs.Numbers.{le-or-lt, at-min, at-difference}
+use Rattle.series.proofs.SeriesLaws.{low-at-least-one}
+use Rattle.series.proofs.DecayBounds.{NotBelow}
 use Rattle.formula.proofs.StepBounds.{decay-below-at-most, mean-decay-above-at-most, product-above-at-most}
 use Rattle.formula.proofs.DecaySteps.{decay-not-below}
 

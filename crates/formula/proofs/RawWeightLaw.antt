@@ -7,16 +7,18 @@ use native.Mathlib.Nat.{mul-pos, mul-le-mul-left, div-mul-le-self, lt-div-mul-ad
 use native.Mathlib.Omega.{arith}
 use borrow.Author.Tests.{le-leb, lt-leb, eq-eqb, ne-eqb}
 use Rattle.numbers.proofs.RoundingLaws.{rounded-up-between}
-use Rattle.formula.specs.Fraction.{Fraction, over}
-use Rattle.formula.specs.Formula.{low, up, Passes, WithinLimits, weighing, refusing, unnumbered, IsRawWeight}
+use Rattle.series.specs.Fraction.{Fraction, over}
+use Rattle.series.specs.Series.{low, up}
+use Rattle.series.specs.Ends.{Passes}
+use Rattle.formula.specs.Formula.{WithinLimits, weighing, refusing, unnumbered, IsRawWeight}
 use Rattle.formula.specs.FixedPoint.{productDistance, productAbove, units, weightNumerator, formulaWeight, withinLimits, rawWeight}
 use Rattle.formula.proofs.Limits.{limits-of-test, test-of-limits}
-use Rattle.formula.proofs.SeriesLaws.{low-top-pos, up-top-pos}
-use Rattle.formula.proofs.DecayBounds.{not-above-smaller, not-below-larger}
+use Rattle.series.proofs.SeriesLaws.{low-top-pos, up-top-pos}
+use Rattle.series.proofs.DecayBounds.{not-above-smaller, not-below-larger}
 use Rattle.formula.proofs.DecaySteps.{decay-not-above}
 use Rattle.formula.proofs.MeanDecay.{mean-decay-high, mean-decay-low}
-use Rattle.formula.proofs.Gap.{Gap, gap-at-some-k}
-use Rattle.formula.proofs.GapToEnds.{end-at-most, end-above}
+use Rattle.series.proofs.Gap.{Gap, gap-at-some-k}
+use Rattle.series.proofs.GapToEnds.{end-at-most, end-above}
 use Rattle.formula.proofs.Product.{decay-above-not-below, product-high, product-low}
 use Rattle.formula.proofs.StepBounds.{product-above-at-most}
 

@@ -5,8 +5,8 @@ use mathlib.Core.Bool.{Bool, cond, _&&_}
 use Prim.Native.Nat.{ℕ, _+_, _*_, _-_, _/_, _%_, _^_, min, max}
 use lib.Dec.{leb, ltb, eqb}
 use Rattle.numbers.specs.Rounding.{roundedUp}
-use Rattle.formula.specs.Fraction.{over}
-use Rattle.formula.specs.Formula.{low, RawWeightNumbers, weighing, refusing, unnumbered}
+use Rattle.series.specs.TableEntry.{entry}
+use Rattle.formula.specs.Formula.{RawWeightNumbers, weighing, refusing, unnumbered}
 
 -- How far each number may lie from the exact one: a decay in units of 2^−32, a mean decay and the product in units of 2^−27. By the last the
 -- weight before rounding up is at most 125,000 × 243 / 2^27, about 0.23, above the exact one.
@@ -18,10 +18,6 @@ meanDecayDistance = 241
 
 abbrev pub productDistance : ℕ
 productDistance = 243
-
--- the whole part of 2^32 / Low(43) of n / d: an entry of the decay table (d = 16), of whole exponents (d = 1), of 1024ths (d = 1024)
-unfoldable pub entry : ℕ → ℕ → ℕ
-entry n d = 2 ^ 32 * low (over n d) 43 .bottom / low (over n d) 43 .top
 
 -- at most 2^32 × e^(−n / 16), and at most 3 below it: the entry of the whole exponent times that of the sixteenths
 abbrev pub coarseDecay : ℕ → ℕ

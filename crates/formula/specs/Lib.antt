@@ -1,3 +1,2 @@
-pub mod Fraction
 pub mod Formula
 pub mod FixedPoint

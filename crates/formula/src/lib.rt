@@ -1,7 +1,9 @@
 ghost use mathlib.Core.Path.{_≡_};
 ghost use Prim.Native.Nat.{_+_, _^_, _≤_, _<_};
-ghost use Rattle.formula.specs.Formula.{DecayEntry, numbersOf, IsRawWeight};
-ghost use Rattle.formula.specs.FixedPoint.{entry, coarseDecay, fineDecay, decayBelow, decayAbove, meanDecayAbove, productAbove, units, formulaWeight, withinLimits, rawWeight};
+ghost use Rattle.series.specs.DecayTable.{DecayEntry};
+ghost use Rattle.formula.specs.Formula.{numbersOf, IsRawWeight};
+ghost use Rattle.series.specs.TableEntry.{entry};
+ghost use Rattle.formula.specs.FixedPoint.{coarseDecay, fineDecay, decayBelow, decayAbove, meanDecayAbove, productAbove, units, formulaWeight, withinLimits, rawWeight};
 
 mod tables;
 

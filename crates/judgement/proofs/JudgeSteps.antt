@@ -1,4 +1,4 @@
--- Steps of the judgement: no word judged is sound, the next word's verdict is the verdict so far, and a fault stays the verdict on all that
+-- Steps of the judgement: the verdict on no words is sound, the next word's verdict is the verdict so far, and a fault stays the verdict on all that
 -- follows. No axioms.
 use mathlib.Core.List.{List}
 use mathlib.Core.Path.{_≡_, refl, _∙_, sym, ap}

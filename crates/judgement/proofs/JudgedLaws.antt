@@ -1,5 +1,5 @@
--- The judgement by steps (Refusals) and in plain relations (Judged) say the same: of each refusal, of acceptance, and that no refusal is numbered 0.
--- No axioms.
+-- The judgement by steps (Refusals) and in plain relations (Judged) say the same: of each refusal, of acceptance, and which numbers
+-- no refusal by the words has. No axioms.
 use mathlib.Core.Bool.{Bool, true, false, cond}
 use mathlib.Core.List.{List}
 use mathlib.Core.Logic.{_⊎_, inl, inr, ⊎-elim}
@@ -7,18 +7,19 @@ use mathlib.Core.Path.{_≡_, refl, sym, ap, _∙_}
 use Prim.Native.Nat.{ℕ, _-_, _≤_, _<_}
 use native.Mathlib.Nat.{eq-or-lt-of-le, lt-irrefl}
 use native.Mathlib.Omega.{arith}
-use lib.Dec.{leb, ltb, eqb}
+use lib.Dec.{ltb, eqb}
 use lib.ListN.{length}
 use borrow.Author.Tests.{ltb-true, ltb-false, eqb-false, lt-ltb, le-ltb, eq-eqb, ne-eqb}
-use Rattle.numbers.proofs.Tests.{at-cond}
-use Rattle.ratings.specs.RatingTable.{listed}
+use Rattle.limits.specs.SheetSize.{factsLeast, factsMost, rowsMost, rowSize, tranchesMost, trancheSize, wordLimit}
+use Rattle.faults.proofs.FaultNumbers.{WordNumber, picked, count-number, fact-number, row-number, tranche-number}
 use Rattle.judgement.specs.DealSheet.{word, resecuritisation, poolAt, tranchesAt, amount, class, needed}
-use Rattle.judgement.specs.Refusals.{unless, within, factFault, statusAllowed, rowFault, classInOrder, heldInLimits, trancheFault, rowOf, columnOf, fault, refused, judgeWith, judge, judged, wordsFollow, wordsVerdict}
+use Rattle.judgement.specs.Refusals.{rowOf, columnOf, fault, refused, judgeWith, judge, judged, wordsFollow, wordsVerdict}
 use Rattle.judgement.specs.Judged.{GoodWord, GoodBelow, BadHere, bad, missing, FirstBad, WordsGood, WordsRefusal, first-bad, words-follow}
 use Rattle.judgement.specs.declared.Refusal.{Refusal}
 use Rattle.judgement.specs.declared.Verdict.the-variants.{Sound, Faulty}
 use Rattle.judgement.proofs.FirstFault.{or-else-sound, or-else-faulty, FirstFault, first-of-sound, first-of-all, first-of-faulty, faulty-first-of}
 use Rattle.judgement.proofs.Judgement.{judge-with-sound}
+use Rattle.judgement.proofs.SheetLimits.{needed-at-most}
 
 -- ---- verdicts
 
@@ -185,44 +186,30 @@ unfolding wordsVerdict
 accepted-words s g =
     simp (good-judged s (needed s) (g .good), le-ltb (needed s) (length s) (omega (arith, g .none-follows)))
 
--- ---- the whole verdict
+-- ---- a sheet whose words are good keeps the limit of words
 
--- ---- the numbers: a word's fault is at most 12, so a refusal's number is one of 1 to 14
+pub sheet-within : (s : List ℕ) → WordsGood s → length s ≤ wordLimit
+sheet-within s g = omega (arith, g .none-follows, needed-at-most s (good-judged s (needed s) (g .good)))
 
-picked-at-most : (m : ℕ) (b : Bool) (x y : ℕ) → x ≤ m → y ≤ m → cond b x y ≤ m
-picked-at-most m b x y p q = at-cond (λ (n : ℕ). n ≤ m) b x y (λ e. p) (λ e. q)
+-- ---- the numbers: no word's fault has the number 13 or 14, and so no refusal by the words has
 
-unless-at-most : (m number : ℕ) (good : Bool) → number ≤ m → unless number good ≤ m
-unless-at-most m number good h = picked-at-most m good 0 number (omega arith) h
-
-fact-fault-at-most : (p w : ℕ) → factFault p w ≤ 12
-fact-fault-at-most p w =
-    picked-at-most 12 (eqb p 1) _ _
-    (picked-at-most 12 (eqb w 0) _ _ (omega arith) (picked-at-most 12 (leb w 2) _ _ (omega arith) (omega arith)))
-    (unless-at-most 12 4 (leb w 1) (omega arith))
-
-row-fault-at-most : (resecuritised : Bool) (column w : ℕ) → rowFault resecuritised column w ≤ 12
-row-fault-at-most resecuritised column w =
-    picked-at-most 12 (ltb column 2) _ _ (unless-at-most 12 5 (within 1 10000000000 w) (omega arith))
-    (picked-at-most 12 (eqb column 2) _ _ (unless-at-most 12 6 (leb w 1250) (omega arith))
-    (unless-at-most 12 7 (statusAllowed resecuritised w) (omega arith)))
-
-tranche-fault-at-most : (i before whole column w : ℕ) → trancheFault i before whole column w ≤ 12
-tranche-fault-at-most i before whole column w =
-    picked-at-most 12 (eqb column 0) _ _ (unless-at-most 12 8 (within 1 10000000000000 w) (omega arith))
-    (picked-at-most 12 (eqb column 1) _ _ (unless-at-most 12 9 (classInOrder i before w) (omega arith))
-    (picked-at-most 12 (eqb column 2) _ _ (unless-at-most 12 10 (within 1 1200 w) (omega arith))
-    (picked-at-most 12 (eqb column 3) _ _ (unless-at-most 12 8 (heldInLimits whole w) (omega arith))
-    (unless-at-most 12 11 (listed w) (omega arith)))))
-
-pub fault-at-most : (s : List ℕ) (p : ℕ) → fault s p ≤ 12
+pub fault-number : (s : List ℕ) (p : ℕ) → WordNumber (fault s p)
 unfolding fault
-fault-at-most s p =
-    picked-at-most 12 (eqb p 0) _ _ (unless-at-most 12 2 (within 4 4 (word s p)) (omega arith))
-    (picked-at-most 12 (ltb p (poolAt s)) _ _ (fact-fault-at-most p (word s p))
-    (picked-at-most 12 (eqb p (poolAt s)) _ _ (unless-at-most 12 2 (within 1 1000 (word s p)) (omega arith))
-    (picked-at-most 12 (ltb p (tranchesAt s)) _ _
-    (row-fault-at-most (resecuritisation s) (columnOf 4 (poolAt s) p) (word s p))
-    (picked-at-most 12 (eqb p (tranchesAt s)) _ _ (unless-at-most 12 2 (within 1 32 (word s p)) (omega arith))
-    (let i = rowOf 7 (tranchesAt s) p in
-    tranche-fault-at-most i (class s (i - 1)) (amount s i) (columnOf 7 (tranchesAt s) p) (word s p))))))
+fault-number s p =
+    picked (eqb p 0) _ _ (count-number factsLeast factsMost (word s p))
+    (picked (ltb p (poolAt s)) _ _ (fact-number p (word s p))
+    (picked (eqb p (poolAt s)) _ _ (count-number 1 rowsMost (word s p))
+    (picked (ltb p (tranchesAt s)) _ _
+    (row-number (resecuritisation s) (columnOf rowSize (poolAt s) p) (word s p))
+    (picked (eqb p (tranchesAt s)) _ _ (count-number 1 tranchesMost (word s p))
+    (let i = rowOf trancheSize (tranchesAt s) p in
+    tranche-number i (class s (i - 1)) (amount s i) (columnOf trancheSize (tranchesAt s) p) (word s p))))))
+
+pub words-number : (s : List ℕ) (r : Refusal) → WordsRefusal s r → WordNumber (r .number)
+words-number s r (first-bad b) = at-place (b .here)
+  where
+    at-place : BadHere s r → WordNumber (r .number)
+    at-place (bad w) = rw (← (w .fault-is)) (fault-number s (r .place))
+    at-place (missing number place) = record { not-thin = λ e. omega arith; not-room = λ e. omega arith }
+words-number s r (words-follow w) =
+    record { not-thin = λ e. omega (arith, w .number-is); not-room = λ e. omega (arith, w .number-is) }

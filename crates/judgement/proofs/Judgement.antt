@@ -10,11 +10,14 @@ use lib.Dec.{ltb, eqb}
 use lib.ListN.{length}
 use borrow.Author.Tests.{ltb-true, eqb-true, lt-ltb, le-ltb, eq-eqb, ne-eqb}
 use Rattle.judgement.specs.DealSheet.{word, resecuritisation, poolAt, rows, rowAt, tranchesAt, trancheCount, trancheAt, amount, class}
-use Rattle.judgement.specs.Refusals.{countFault, factFault, rowFault, trancheFault, rowOf, columnOf, fault, refused, judgeWith, judge, judged}
+use Rattle.limits.specs.SheetSize.{factsLeast, factsMost, rowsMost, tranchesMost}
+use Rattle.faults.specs.WordFaults.{countFault, factFault, rowFault, trancheFault}
+use Rattle.judgement.specs.Refusals.{rowOf, columnOf, fault, refused, judgeWith, judge, judged}
 use Rattle.judgement.specs.declared.Refusal.{Refusal}
 use Rattle.judgement.specs.declared.Verdict.{Verdict}
 use Rattle.judgement.specs.declared.Verdict.the-variants.{Sound, Faulty}
 use Rattle.judgement.proofs.FirstFault.{first-of-sound, first-of-next}
+use Rattle.judgement.proofs.NeededLaws.{pool-at-least, tranches-at-past-rows}
 
 -- ---- one word
 
@@ -38,7 +41,7 @@ judged-next s k e = first-of-next (judge s) k e
 
 -- ---- the fault of a word, by its section
 
-pub fault-of-fact-count : (s : List ℕ) → fault s 0 ≡ countFault 4 4 (word s 0)
+pub fault-of-fact-count : (s : List ℕ) → fault s 0 ≡ countFault factsLeast factsMost (word s 0)
 unfolding fault
 fault-of-fact-count s = refl
 
@@ -46,15 +49,7 @@ pub fault-of-fact : (s : List ℕ) (p : ℕ) → 1 ≤ p → p < poolAt s → fa
 unfolding fault
 fault-of-fact s p least before = simp (ne-eqb p 0 (λ e. omega arith), lt-ltb p (poolAt s) before)
 
-pool-at-least : (s : List ℕ) → 1 ≤ poolAt s
-unfolding poolAt
-pool-at-least s = omega arith
-
-pub tranches-at-past-rows : (s : List ℕ) → tranchesAt s ≡ poolAt s + 1 + 4 * rows s
-unfolding tranchesAt
-tranches-at-past-rows s = refl
-
-pub fault-of-pool-count : (s : List ℕ) → fault s (poolAt s) ≡ countFault 1 1000 (rows s)
+pub fault-of-pool-count : (s : List ℕ) → fault s (poolAt s) ≡ countFault 1 rowsMost (rows s)
 unfolding fault rows
 fault-of-pool-count s =
     simp (
@@ -83,7 +78,7 @@ fault-of-row s i c row column =
     ap (λ (k : ℕ). rowFault (resecuritisation s) k (word s (rowAt s i + c)))
     (let is : columnOf 4 (poolAt s) (rowAt s i + c) ≡ c = omega arith in is)
 
-pub fault-of-tranche-count : (s : List ℕ) → fault s (tranchesAt s) ≡ countFault 1 32 (trancheCount s)
+pub fault-of-tranche-count : (s : List ℕ) → fault s (tranchesAt s) ≡ countFault 1 tranchesMost (trancheCount s)
 unfolding fault trancheCount
 fault-of-tranche-count s =
     let after : poolAt s < tranchesAt s = omega (arith, tranches-at-past-rows s) in

@@ -1,8 +1,12 @@
 pub mod FirstFault
+pub mod OutcomeLaws
+pub mod NeededLaws
 pub mod Judgement
 pub mod SheetLimits
+pub mod LayoutLaws
+pub mod SameLayout
 pub mod JudgeSteps
 pub mod JudgedLaws
 pub mod GoodSheetLaw
 pub mod GoodRowLaw
-pub mod VerdictLaw
+pub mod WordsLaw

@@ -5,6 +5,8 @@ use mathlib.Core.List.{List}
 use Prim.Native.Nat.{ℕ, _+_, _*_}
 use lib.Dec.{eqb}
 use lib.ListN.{getD}
+use Rattle.limits.specs.SheetSize.{rowSize, trancheSize}
+use Rattle.judgement.specs.declared.Layout.{Layout}
 
 -- the word at a place (0 past the end)
 abbrev pub word : List ℕ → ℕ → ℕ
@@ -33,7 +35,7 @@ rows s = word s (poolAt s)
 
 -- the place of row i, from 0
 abbrev pub rowAt : List ℕ → ℕ → ℕ
-rowAt s i = poolAt s + 1 + 4 * i
+rowAt s i = poolAt s + 1 + rowSize * i
 
 abbrev pub exposure : List ℕ → ℕ → ℕ
 exposure s i = word s (rowAt s i)
@@ -59,7 +61,7 @@ trancheCount s = word s (tranchesAt s)
 
 -- the place of tranche i, from 0
 abbrev pub trancheAt : List ℕ → ℕ → ℕ
-trancheAt s i = tranchesAt s + 1 + 7 * i
+trancheAt s i = tranchesAt s + 1 + trancheSize * i
 
 abbrev pub amount : List ℕ → ℕ → ℕ
 amount s i = word s (trancheAt s i)
@@ -83,7 +85,20 @@ secondRating s i = word s (trancheAt s i + 5)
 abbrev pub thirdRating : List ℕ → ℕ → ℕ
 thirdRating s i = word s (trancheAt s i + 6)
 
--- ---- how many words the sheet needs by its counts
+-- ---- how many words the sheet needs by its counts: all up to the end of its last section. Proofs go by the order of the sections in it (NeededLaws.antt).
 
-abbrev pub needed : List ℕ → ℕ
+unfoldable pub needed : List ℕ → ℕ
 needed s = trancheAt s (trancheCount s)
+
+-- ---- what is read of a sheet whose words are good: its facts, the places of its first pool row and of its first tranche, and how many there are of each
+
+unfoldable pub layout : List ℕ → Layout
+layout s = record {
+  resecuritisation = resecuritisation s;
+  diligence = dueDiligence s;
+  composition = compositionKnown s;
+  «first_row» = poolAt s + 1;
+  rows = rows s;
+  «first_tranche» = tranchesAt s + 1;
+  tranches = trancheCount s;
+}

@@ -1,58 +1,30 @@
--- 01, "The deal sheet", in plain relations: the limits that every word of a good sheet keeps. That a sheet keeps them just when each word it needs
--- is there and has no fault, and none follows (`WordsGood`, Judged.antt), is proved in proofs/GoodSheetLaw.antt.
-use mathlib.Core.Bool.{true, false}
+-- 01, "The deal sheet", in plain relations: the limits that every word of a good sheet keeps; those of a fact, a row and a tranche are in GoodWords.antt of
+-- `faults`. That a sheet keeps them just when each word it needs is there and has no fault, and none follows (`WordsGood`, Judged.antt), is proved in
+-- proofs/GoodSheetLaw.antt.
 use mathlib.Core.List.{List}
-use mathlib.Core.Logic.{_⊎_}
 use mathlib.Core.Path.{_≡_}
-use Prim.Native.Nat.{ℕ, _+_, _≤_, _<_}
+use Prim.Native.Nat.{ℕ, _-_, _≤_, _<_}
 use lib.ListN.{length}
-use Rattle.ratings.specs.RatingTable.{listed}
-use Rattle.judgement.specs.DealSheet.{word, resecuritisation, rows, exposure, nominal, riskWeight, status, trancheCount, amount, class, months, held, firstRating, secondRating, thirdRating, needed}
+use Rattle.limits.specs.SheetSize.{factsLeast, factsMost, rowsMost, tranchesMost}
+use Rattle.faults.specs.GoodWords.{GoodFact, GoodRow, GoodTranche, GoodClass}
+use Rattle.judgement.specs.DealSheet.{word, resecuritisation, poolAt, rows, exposure, nominal, riskWeight, status, trancheCount, amount, class, months, held, firstRating, secondRating, thirdRating, needed}
 
--- "Facts, count 4: pool kind (0 SA, 1 IRB, 2 mixed); re-securitisation; due diligence held; pool composition known. The last three are 0 no,
--- 1 yes." Of the kinds, "12: pool kind 1 or 2" leaves SA.
-pub record GoodFacts (s : List ℕ) : Type 0 where
-  pub count : word s 0 ≡ 4
-  pub pool-kind : word s 1 ≡ 0
-  pub resecuritisation-code : word s 2 ≤ 1
-  pub diligence-code : word s 3 ≤ 1
-  pub composition-code : word s 4 ≤ 1
+abbrev pub GoodRowOf : List ℕ → ℕ → Type 0
+GoodRowOf s i = GoodRow (resecuritisation s) (exposure s i) (nominal s i) (riskWeight s i) (status s i)
 
--- "A row: exposure amount and nominal amount, each 1 to 10^10; risk weight in whole percent, 0 to 1250; status (0 paying, 1 delinquent, 2 not known,
--- 3 securitisation tranche).": a 3 in a re-securitisation and nowhere else
-pub record GoodRow (s : List ℕ) (i : ℕ) : Type 0 where
-  pub exposure-least : 1 ≤ exposure s i
-  pub exposure-most : exposure s i ≤ 10000000000
-  pub nominal-least : 1 ≤ nominal s i
-  pub nominal-most : nominal s i ≤ 10000000000
-  pub weight-most : riskWeight s i ≤ 1250
-  pub status-ordinary : resecuritisation s ≡ false → status s i ≤ 2
-  pub status-resecuritised : resecuritisation s ≡ true → status s i ≡ 3
+abbrev pub GoodTrancheOf : List ℕ → ℕ → Type 0
+GoodTrancheOf s i = GoodTranche (amount s i) (months s i) (held s i) (firstRating s i) (secondRating s i) (thirdRating s i)
 
--- "A row: amount, 1 to 10^13; class; final legal maturity in months, 1 to 1200; amount held, 0 to the tranche amount; three rating words."
-pub record GoodTranche (s : List ℕ) (i : ℕ) : Type 0 where
-  pub amount-least : 1 ≤ amount s i
-  pub amount-most : amount s i ≤ 10000000000000
-  pub months-least : 1 ≤ months s i
-  pub months-most : months s i ≤ 1200
-  pub held-most : held s i ≤ amount s i
-  pub first-listed : listed (firstRating s i) ≡ true
-  pub second-listed : listed (secondRating s i) ≡ true
-  pub third-listed : listed (thirdRating s i) ≡ true
-
--- "each next row has the class before it or one more"
-abbrev pub NextClass : ℕ → ℕ → Type 0
-NextClass before w = (w ≡ before) ⊎ (w ≡ before + 1)
-
--- "Pool, count 1 to 1,000." "Tranches, count 1 to 32." "The first row has class 1"
+-- "Facts, count 4", "Pool, count 1 to 1,000.", "Tranches, count 1 to 32.": the limits of the counts are those of SheetSize.antt of `limits`
 pub record GoodSheet (s : List ℕ) : Type 0 where
-  pub facts : GoodFacts s
+  pub facts-least : factsLeast ≤ word s 0
+  pub facts-most : word s 0 ≤ factsMost
+  pub each-fact : (p : ℕ) → 1 ≤ p → p < poolAt s → GoodFact p (word s p)
   pub rows-least : 1 ≤ rows s
-  pub rows-most : rows s ≤ 1000
-  pub each-row : (i : ℕ) → i < rows s → GoodRow s i
+  pub rows-most : rows s ≤ rowsMost
+  pub each-row : (i : ℕ) → i < rows s → GoodRowOf s i
   pub tranches-least : 1 ≤ trancheCount s
-  pub tranches-most : trancheCount s ≤ 32
-  pub each-tranche : (i : ℕ) → i < trancheCount s → GoodTranche s i
-  pub class-of-first : class s 0 ≡ 1
-  pub class-of-next : (i : ℕ) → i + 1 < trancheCount s → NextClass (class s i) (class s (i + 1))
+  pub tranches-most : trancheCount s ≤ tranchesMost
+  pub each-tranche : (i : ℕ) → i < trancheCount s → GoodTrancheOf s i
+  pub each-class : (i : ℕ) → i < trancheCount s → GoodClass i (class s (i - 1)) (class s i)
   pub length-is : length s ≡ needed s

@@ -1,12 +1,13 @@
 -- 01, "Refusals, by who can cause them", in plain relations: what each refusal by the words means, and what it means that they are good. That these and the
 -- definition by steps (Refusals.antt) say the same is proved in proofs/JudgedLaws.antt. The other refusals are in Judged.antt of `deal`.
 use mathlib.Core.List.{List}
-use mathlib.Core.Option.{Option, none, some}
 use mathlib.Core.Path.{_≡_}
 use Prim.Native.Nat.{ℕ, _<_}
 use lib.ListN.{length}
-use Rattle.judgement.specs.DealSheet.{needed}
-use Rattle.judgement.specs.Refusals.{fault, NumberAndPlace}
+use Rattle.judgement.specs.DealSheet.{needed, layout}
+use Rattle.judgement.specs.Outcome.{Outcome, refusedWith, found}
+use Rattle.judgement.specs.Refusals.{fault}
+use Rattle.judgement.specs.declared.Layout.{Layout}
 use Rattle.judgement.specs.declared.Refusal.{Refusal}
 
 -- ---- one word
@@ -53,7 +54,8 @@ pub data WordsRefusal (s : List ℕ) (r : Refusal) : Type 0 where
   first-bad : FirstBad s r → WordsRefusal s r
   words-follow : WordsFollow s r → WordsRefusal s r
 
--- what the numbers of a verdict on the words mean: a number and a place are those of their refusal, and where there are none the words are good
-pub record NumbersMean (s : List ℕ) (n : Option NumberAndPlace) : Type 0 where
-  pub refused-with : (r : Refusal) → n ≡ some (record { number = r .number; place = r .place }) → WordsRefusal s r
-  pub good-with-none : n ≡ none → WordsGood s
+-- what the numbers of the words mean: a number and a place are those of their refusal, and where there are none the words are good and the facts and places
+-- are the sheet's
+pub record NumbersMean (s : List ℕ) (n : Outcome Layout) : Type 0 where
+  pub refused-with : (r : Refusal) → n ≡ refusedWith (r .number) (r .place) → WordsRefusal s r
+  pub good-with : (l : Layout) → n ≡ found l → WordsGood s × (l ≡ layout s)

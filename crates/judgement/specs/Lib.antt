@@ -1,5 +1,6 @@
 pub mod DealSheet
+pub mod Outcome
 pub mod Refusals
-pub mod RowTest
 pub mod Judged
 pub mod GoodSheet
+pub mod LaidOut

@@ -1,9 +1,12 @@
 // Where the words of a sheet stand. A place is worked out only once the counts before it are good.
 ghost use mathlib.Core.Path.{_≡_};
 ghost use Prim.Native.Nat.{_+_, _≤_};
-ghost use Rattle.judgement.specs.DealSheet.{word, poolAt, rows, rowAt, tranchesAt, trancheCount, trancheAt};
+ghost use Rattle.judgement.specs.DealSheet.{word, poolAt, rows, rowAt, tranchesAt, trancheCount, trancheAt, needed, layout};
 ghost use Rattle.judgement.specs.Refusals.{judged};
 ghost use Rattle.judgement.specs.declared.Verdict.the-variants.{Sound};
+use crate::Layout;
+use limits::ROW_SIZE;
+use limits::TRANCHE_SIZE;
 
 // The word at a place; 0 past the end.
 pub(crate) fn word_at(s: &[u64], p: u64) -> u64
@@ -25,7 +28,7 @@ pub(crate) fn row_at(s: &[u64], i: u64) -> u64
     requires { ⌜ (judged (now s) (poolAt (now s) + 1) ≡ Sound) × (i ≤ rows (now s)) ⌝ }
     ensures { λ r. ⌜ r ≡ rowAt (now (s .entry)) i ⌝ }
 {
-    pool_at(s) + 1 + 4 * i
+    pool_at(s) + 1 + ROW_SIZE as u64 * i
 }
 
 // The number of pool rows.
@@ -57,5 +60,24 @@ pub(crate) fn tranche_at(s: &[u64], i: u64) -> u64
     requires { ⌜ (judged (now s) (tranchesAt (now s) + 1) ≡ Sound) × (i ≤ trancheCount (now s)) ⌝ }
     ensures { λ r. ⌜ r ≡ trancheAt (now (s .entry)) i ⌝ }
 {
-    tranches_at(s) + 1 + 7 * i
+    tranches_at(s) + 1 + TRANCHE_SIZE as u64 * i
+}
+
+// What is read of a sheet whose words are good. Each word is there, so it is read where it stands.
+pub(crate) fn layout_of(s: &[u64]) -> Layout
+    requires { ⌜ judged (now s) (needed (now s)) ≡ Sound ⌝ }
+    ensures { λ r. ⌜ r ≡ layout (now (s .entry)) ⌝ }
+{
+    let pool = (1 + s[0]) as usize;
+    let rows = s[pool];
+    let tranches = pool + 1 + ROW_SIZE * rows as usize;
+    Layout {
+        resecuritisation: s[2] == 1,
+        diligence: s[3] == 1,
+        composition: s[4] == 1,
+        first_row: pool + 1,
+        rows,
+        first_tranche: tranches + 1,
+        tranches: s[tranches],
+    }
 }

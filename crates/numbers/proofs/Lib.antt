@@ -1,3 +1,5 @@
 pub mod RoundingLaws
 pub mod Tests
 pub mod Table
+pub mod SumLaws
+pub mod SumPermuted

@@ -6,7 +6,7 @@ use Prim.Native.Nat.{ℕ, _-_, _≤_, _<_}
 use native.Mathlib.Nat.{eq-zero-or-pos, lt-of-not-le, not-le-of-lt}
 use native.Mathlib.Omega.{arith}
 use lib.Dec.{T, leb}
-use borrow.Author.Tests.{le-leb, lt-leb}
+use borrow.Author.Tests.{leb-true, le-leb, lt-leb}
 
 pub and-both : (a b : Bool) → T (a && b) → T a × T b
 and-both true b t = (tt, t)
@@ -16,6 +16,12 @@ pub both-true : (a b : Bool) → a && b ≡ true → (a ≡ true) × (b ≡ true
 both-true true b e = (refl, e)
 both-true false true e = (e, refl)
 both-true false false e = (e, e)
+
+-- a number that is tested between two others lies between them
+pub between-true : (least most n : ℕ) → leb least n && leb n most ≡ true → (least ≤ n) × (n ≤ most)
+between-true least most n e =
+    let both = both-true (leb least n) (leb n most) e in
+    (leb-true least n (both .0), leb-true n most (both .1))
 
 pub neither-true : (a b : Bool) → a || b ≡ false → (a ≡ false) × (b ≡ false)
 neither-true true true e = (e, e)

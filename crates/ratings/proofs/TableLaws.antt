@@ -9,11 +9,13 @@ use native.Mathlib.Nat.{eq-zero-or-pos, le-refl, mul-le-mul, mul-le-mul-right}
 use native.Mathlib.Omega.{arith}
 use lib.Dec.{T, leb, leb→le}
 use lib.ListN.{getD}
-use borrow.Author.Tests.{le-leb, leb-true}
+use borrow.Author.Tests.{le-leb}
 use Rattle.numbers.proofs.RoundingLaws.{rounded-up-at-most, rounded-up-monotone, rounded-up-exact}
 use Rattle.numbers.proofs.Table.{allBelow, at-each}
-use Rattle.numbers.proofs.Tests.{at-cond, cond-le, both-true, neither-true}
-use Rattle.ratings.specs.RatingTable.{ratingTable, figure, shortTermFigures, longTerm, shortTerm, present, maturityFifths, linear, longTermExact, exactParts, exactWeight, weightByRating, pick, weightByRatings}
+use Rattle.numbers.proofs.Tests.{at-cond, cond-le, neither-true}
+use Rattle.rating_codes.specs.RatingCodes.{longTerm, shortTerm, present}
+use Rattle.rating_codes.proofs.CodeLaws.{long-term-within, short-term-within}
+use Rattle.ratings.specs.RatingTable.{ratingTable, figure, shortTermFigures, maturityFifths, linear, longTermExact, exactParts, exactWeight, weightByRating, pick, weightByRatings}
 
 -- ---- the figures
 
@@ -42,18 +44,6 @@ pub short-term-figure-at-most : (code : ℕ) → code ≤ 24 → getD shortTermF
 short-term-figure-at-most code most =
     leb→le (getD shortTermFigures (code - 21) 0) 1250
     (at-each (λ i. leb (getD shortTermFigures i 0) 1250) 4 tt (code - 21) (omega arith))
-
--- ---- the codes
-
-pub long-term-within : (code : ℕ) → longTerm code ≡ true → (1 ≤ code) × (code ≤ 18)
-long-term-within code e =
-    let both = both-true (leb 1 code) (leb code 18) e in
-    (leb-true 1 code (both .0), leb-true code 18 (both .1))
-
-pub short-term-within : (code : ℕ) → shortTerm code ≡ true → (21 ≤ code) × (code ≤ 24)
-short-term-within code e =
-    let both = both-true (leb 21 code) (leb code 24) e in
-    (leb-true 21 code (both .0), leb-true code 24 (both .1))
 
 -- ---- the maturity
 

@@ -1,12 +1,12 @@
 -- 01, "The rating table" (source document 001: CRE42.2 for short-term grades, CRE42.4 for the table, CRE42.5 for maturity and thickness, CRE42.7 for
 -- the comparison with the senior figure, CRE42.8 for several ratings; CRE40.22 and CRE40.23 for the tranche maturity). Figures are in percent, a
 -- weight in hundredths of a percent, a thickness in millionths; months are those of the final legal maturity.
-use mathlib.Core.Bool.{Bool, cond, _&&_, _||_}
+use mathlib.Core.Bool.{Bool, cond}
 use mathlib.Core.List.{List, [], _∷_}
 use Prim.Native.Nat.{ℕ, _+_, _*_, _-_, min, max}
-use lib.Dec.{leb, eqb}
 use lib.ListN.{getD}
 use Rattle.numbers.specs.Rounding.{roundedUp}
+use Rattle.rating_codes.specs.RatingCodes.{longTerm, shortTerm}
 
 -- ---- the table: a row for each long-term grade, four figures to a row
 
@@ -39,20 +39,6 @@ figure table grade column = getD (getD table (grade - 1) []) column 0
 -- "Short-term 21 to 24: 15, 50, 100, 1250"
 abbrev pub shortTermFigures : List ℕ
 shortTermFigures = 15 ∷ 50 ∷ 100 ∷ 1250 ∷ []
-
--- ---- "Rating codes: 0 none; 1 to 18 the rows of the rating table; 21 to 24 the short-term grades."
-
-abbrev pub longTerm : ℕ → Bool
-longTerm code = leb 1 code && leb code 18
-
-abbrev pub shortTerm : ℕ → Bool
-shortTerm code = leb 21 code && leb code 24
-
-abbrev pub present : ℕ → Bool
-present code = longTerm code || shortTerm code
-
-abbrev pub listed : ℕ → Bool
-listed code = eqb code 0 || present code
 
 -- ---- "Tranche maturity in fifths of a month is 4 × months + 12, held within 60 and 300 (80% rule of CRE40)."
 

@@ -1,14 +1,17 @@
+// The weight by ratings: the rating table, the tranche maturity, the thickness, and the highest of three ratings.
 ghost use mathlib.Core.Path.{_≡_};
 ghost use mathlib.Core.List.{[]};
 ghost use Prim.Native.Nat.{_-_, _≤_, _<_};
 ghost use lib.ListN.{getD};
-ghost use Rattle.ratings.specs.RatingTable.{ratingTable, longTerm, shortTerm, present, listed, maturityFifths, linear, longTermExact, shortTermExact, exactWeight, weightByRating, weightByRatings};
+ghost use Rattle.ratings.specs.RatingTable.{ratingTable, maturityFifths, linear, longTermExact, shortTermExact, exactWeight, weightByRating, weightByRatings};
 
 mod table;
 
 use numbers::larger;
 use numbers::rounded_up;
 use numbers::smaller;
+use rating_codes::long_term;
+use rating_codes::short_term;
 use table::FIGURES;
 use table::SHORT_TERM;
 
@@ -20,46 +23,6 @@ const HALF: u64 = 500000;
 
 // The divisor of exact weights: 240 fifths of a month times a million.
 const EXACT_PARTS: u64 = 240000000;
-
-// Whether a code is a row of the rating table.
-fn long_term(code: u64) -> bool
-    ensures { λ r. ⌜ r ≡ longTerm code ⌝ }
-{
-    if code < 1 {
-        return false;
-    }
-    code <= 18
-}
-
-// Whether a code is a short-term grade.
-fn short_term(code: u64) -> bool
-    ensures { λ r. ⌜ r ≡ shortTerm code ⌝ }
-{
-    if code < 21 {
-        return false;
-    }
-    code <= 24
-}
-
-// Whether a code is a rating, long-term or short-term.
-pub fn is_present(code: u64) -> bool
-    ensures { λ r. ⌜ r ≡ present code ⌝ }
-{
-    if long_term(code) {
-        return true;
-    }
-    short_term(code)
-}
-
-// Whether a code is listed: none, or a rating.
-pub fn is_listed(code: u64) -> bool
-    ensures { λ r. ⌜ r ≡ listed code ⌝ }
-{
-    if code == 0 {
-        return true;
-    }
-    is_present(code)
-}
 
 // Tranche maturity in fifths of a month: the 80% rule first, then at least one year and at most five. 72 months reach the most, so that larger
 // numbers of months need no product.

@@ -8,14 +8,18 @@ use native.Mathlib.Omega.{arith}
 use borrow.Author.Tests.{leb-true, ltb-true}
 use Rattle.numbers.proofs.Tests.{both-true}
 use Rattle.files.specs.FileForm.{lowestFirst, wordsTo, bytesOf, fileBytes}
-use Rattle.formula.specs.Formula.{factorial, low, lowerExponent, upperExponent, upperEnd, lowerEnd, Passes}
-use Rattle.formula.specs.FixedPoint.{entry, fineDecay, decayBelow, decayAbove, meanDecayOfLarge, meanDecayAbove, productAbove, units, weightNumerator, formulaWeight, rawWeight}
-use Rattle.formula.proofs.EndLaws.{passing-close}
+use Rattle.series.specs.Series.{factorial, low}
+use Rattle.series.specs.Ends.{lowerExponent, upperExponent, upperEnd, lowerEnd, Passes}
+use Rattle.series.specs.TableEntry.{entry}
+use Rattle.formula.specs.FixedPoint.{fineDecay, decayBelow, decayAbove, meanDecayOfLarge, meanDecayAbove, productAbove, units, weightNumerator, formulaWeight, rawWeight}
+use Rattle.series.proofs.EndLaws.{passing-close}
 use Rattle.ratings.specs.RatingTable.{exactWeight, weightByRating, weightByRatings}
 use Rattle.weights.specs.ApproachFloorCap.{formulaRawWeight, tableWeight, weight, thin}
-use Rattle.judgement.specs.DealSheet.{poolAt, rows, tranchesAt, trancheCount}
-use Rattle.deal.specs.Sum.{sum}
-use Rattle.deal.specs.PointsAndCharge.{poolSums, knownCharge, poolCharge, seniorAmount, attachmentPoint, detachmentPoint}
+use Rattle.judgement.specs.DealSheet.{poolAt, rows, tranchesAt, trancheCount, needed, layout}
+use Rattle.numbers.specs.Sum.{sum}
+use Rattle.charge.specs.PoolCharge.{knownCharge, poolCharge}
+use Rattle.pool.specs.PoolSums.{poolSums}
+use Rattle.deal.specs.Points.{seniorAmount, attachmentPoint, detachmentPoint}
 use Rattle.deal.specs.Lines.{terms, tranche, line, lineWords}
 use Rattle.judgement.specs.Refusals.{fault, judge, firstOf, wordsVerdict}
 use Rattle.deal.specs.Refusals.{verdict}
@@ -29,7 +33,7 @@ pub checked-deals : allHold checks ≡ true
 unfolding
     checks
     lowestFirst wordsTo bytesOf fileBytes
-    poolAt rows tranchesAt trancheCount
+    poolAt rows tranchesAt trancheCount needed layout
     fault judge firstOf wordsVerdict verdict
     sum poolSums knownCharge poolCharge seniorAmount attachmentPoint detachmentPoint
     exactWeight weightByRating weightByRatings

@@ -6,16 +6,17 @@ use native.Mathlib.Numerals.{add-one}
 use native.Mathlib.Omega.{arith}
 use lib.ListN.{length, getD, take, drop, length-append}
 use lib.Seq.{sets, length-sets, drop-cons, drop-length, append-snoc}
+use Rattle.limits.specs.SheetSize.{lineSize}
 use Rattle.files.specs.Decimal.{decimal, space, newline}
 use Rattle.files.proofs.DecimalLaws.{length-decimal}
 use Rattle.files.proofs.Pieces.{sets-sets}
-use Rattle.report.specs.ReportText.{spaced, trancheLine}
+use Rattle.report.specs.ReportText.{spaced, trancheLine, spacedRoom}
 
 -- The line of n and ws is to stand from `at` on. Of it `next` and the words from i on are still to be written, from `end` on, and there is room for them.
 pub record StillToPut (old : List ℕ) (at n : ℕ) (ws new : List ℕ) (end next i : ℕ) : Type 0 where
   pub among : i ≤ length ws
   pub size : length new ≡ length old
-  pub room : end + (21 + 21 * (length ws - i)) ≤ length new
+  pub room : end + spacedRoom (length ws - i) ≤ length new
   pub ends : end + length (spaced next (drop i ws)) ≡ at + length (spaced n ws)
   pub bytes : sets new end (spaced next (drop i ws)) ≡ sets old at (spaced n ws)
 
@@ -27,7 +28,7 @@ unfolding spaced
 first-piece ws i next among = rw (add-one, drop-cons ws i 0 among) (sym (append-snoc (decimal next) space (spaced (getD ws i 0) (drop (suc i) ws))))
 
 module _ {old : List ℕ} {at n : ℕ} {ws : List ℕ} where
-  pub nothing-put : at + (21 + 21 * length ws) ≤ length old → StillToPut old at n ws old at n 0
+  pub nothing-put : at + spacedRoom (length ws) ≤ length old → StillToPut old at n ws old at n 0
   nothing-put enough = record { among = omega arith; size = refl; room = omega arith; ends = refl; bytes = refl }
 
   pub number-put :
@@ -59,12 +60,12 @@ module _ {old : List ℕ} {at n : ℕ} {ws : List ℕ} where
       let (ended, stands) = rw e at put in
       (ended ∙ rw none at (before .ends), stands ∙ rw none at (before .bytes))
 
--- the line of a tranche is that of its number and the six words of the results that are its own
+-- the line of a tranche is that of its number and the words of the results that are its own
 pub tranche-line-put :
     (ws old : List ℕ) (i at p e n : ℕ) {end : ℕ} {new : List ℕ} →
     (end ≡ at + length (spaced n (take (e - p) (drop p ws)))) × (new ≡ sets old at (spaced n (take (e - p) (drop p ws)))) →
-    p ≡ 6 * i → e ≡ p + 6 → n ≡ suc i →
+    p ≡ lineSize * i → e ≡ p + lineSize → n ≡ suc i →
     (end ≡ at + length (trancheLine ws i)) × (new ≡ sets old at (trancheLine ws i))
 tranche-line-put ws old i at p e n put first after number =
-    let six : e - p ≡ 6 = omega arith in
-    rw (six, first, number) at put
+    let size : e - p ≡ lineSize = omega arith in
+    rw (size, first, number) at put

@@ -15,11 +15,12 @@ use Rattle.deal.proofs.ReplyLaws.{reply-count-within, refused-number, reply-res
 use Rattle.deal.specs.Results.{Reply, replyOf, replyTo, lines, resultsAfter}
 use Rattle.deal.specs.declared.Answer.the-variants.{Weighed, Refused}
 use Rattle.judgement.specs.declared.Refusal.{Refusal}
-use Rattle.files.specs.FileForm.{byteLimit, goodLength, fileWords, fileBytes}
+use Rattle.limits.specs.SheetSize.{lineSize, tranchesMost, byteLimit, resultRoom}
+use Rattle.files.specs.FileForm.{goodLength, fileWords, fileBytes}
 use Rattle.files.proofs.FileLaws.{length-file-bytes, good-file, words-of-bytes}
 use Rattle.deal_file.specs.FileAnswer.{fileReply, fileResults}
 use Rattle.deal_file.proofs.FileAnswerLaws.{reply-of-bad-length, reply-of-words, results-of-words, accepted-length}
-use Rattle.report.specs.ReportText.{refusalLine, dealText, resultRoom, sheetText, fileText, textRoom, writtenFor, textAfter}
+use Rattle.report.specs.ReportText.{refusalLine, rwaColumn, capitalColumn, dealText, sheetText, fileText, textRoom, writtenFor, textAfter}
 use Rattle.report.specs.declared.Written.the-variants.{Whole, NoRoom}
 use Rattle.report.proofs.TextLaws.{length-deal-text, length-refusal-line, deal-text-of-lines}
 
@@ -36,7 +37,7 @@ weighed-text s old n k room same =
     let charge = ap (λ (a : Reply). a .charge) same in
     let zero-number : replyTo s (length old) .number ≡ 0 = sym number in
     rw (reply-results s old zero-number, ← room, ← number, ← count, ← charge)
-    (deal-text-of-lines k n (lines s n) (drop (6 * n) old) (omega (arith, length-lines s n)))
+    (deal-text-of-lines k n (lines s n) (drop (lineSize * n) old) (omega (arith, length-lines s n)))
 
 -- ---- the text of a file
 
@@ -68,7 +69,8 @@ module _ (file old : List ℕ) (n k : ℕ) (same : replyOf (Weighed n k) ≡ fil
   -- there is room for their text, with sums of the amounts that fit 64 bits
   pub weighed-lines :
       {after : List ℕ} → length old ≡ resultRoom → after ≡ fileResults file old →
-      (n ≤ 32) × (6 * n ≤ length after) × ((i c : ℕ) → i < n → 4 ≤ c → c < 6 → getD after (6 * i + c) 0 ≤ 125000000000000)
+      (n ≤ tranchesMost) × (lineSize * n ≤ length after) ×
+      ((i c : ℕ) → i < n → rwaColumn ≤ c → c ≤ capitalColumn → getD after (lineSize * i + c) 0 ≤ 125000000000000)
   weighed-lines room is =
       let s = fileWords file in
       let results = is ∙ results-of-words file old length-good in
@@ -77,7 +79,7 @@ module _ (file old : List ℕ) (n k : ℕ) (same : replyOf (Weighed n k) ≡ fil
       let within = reply-count-within s (length old) number in (
         omega arith,
         omega (arith, ap length results, results-length s old),
-        λ i c l least most. rw results (reply-amounts s old i c number (omega arith) least most),
+        λ i c l least most. rw results (reply-amounts s old i c number (omega arith) (omega arith) (omega arith)),
       )
 
   pub weighed-file : {after : List ℕ} → length old ≡ resultRoom → after ≡ fileResults file old → dealText k n after ≡ fileText file

@@ -7,10 +7,11 @@ use Prim.Native.String.{String}
 use native.Mathlib.Omega.{arith}
 use lib.ListN.{length, getD, take, drop, length-append, length-take, length-drop, List·getD-append}
 use lib.Seq.{sets, take-append-le, drop-append-le}
-use Rattle.deal.proofs.SumLaws.{sum-same}
+use Rattle.numbers.proofs.SumLaws.{sum-same}
+use Rattle.limits.specs.SheetSize.{lineSize, tranchesMost}
 use Rattle.files.proofs.DecimalLaws.{length-decimal}
 use Rattle.files.proofs.Pieces.{sets-sets}
-use Rattle.report.specs.ReportText.{ascii, labelled, spaced, refusalLine, trancheLine, trancheLines, columnSum, dealText, textRoom}
+use Rattle.report.specs.ReportText.{ascii, labelled, spaced, refusalLine, trancheLine, trancheLines, rwaColumn, capitalColumn, columnSum, dealText, spacedRoom, labelledRoom, textRoom}
 
 -- ---- pieces in a buffer
 
@@ -24,26 +25,26 @@ put-behind old at xs ys first second =
 
 -- ---- how long a text can be
 
-length-spaced : (n : ℕ) (ns : List ℕ) → length (spaced n ns) ≤ 21 + 21 * length ns
+length-spaced : (n : ℕ) (ns : List ℕ) → length (spaced n ns) ≤ spacedRoom (length ns)
 unfolding spaced
 length-spaced n [] = simp length-append (omega (arith, length-decimal n))
 length-spaced n (m ∷ ns) = simp length-append (omega (arith, length-decimal n, length-spaced m ns))
 
-pub length-labelled : (first second : String) (n m : ℕ) → length (labelled first n second m) ≤ length (ascii first) + length (ascii second) + 41
+pub length-labelled : (first second : String) (n m : ℕ) → length (labelled first n second m) ≤ labelledRoom (length (ascii first) + length (ascii second))
 unfolding labelled
 length-labelled first second n m = simp length-append (omega (arith, length-decimal n, length-decimal m))
 
-pub length-tranche-line : (ws : List ℕ) (i : ℕ) → length (trancheLine ws i) ≤ 147
+pub length-tranche-line : (ws : List ℕ) (i : ℕ) → length (trancheLine ws i) ≤ spacedRoom lineSize
 length-tranche-line ws i =
-    omega (arith, length-spaced (suc i) (take 6 (drop (6 * i) ws)), length-take 6 (drop (6 * i) ws))
+    omega (arith, length-spaced (suc i) (take lineSize (drop (lineSize * i) ws)), length-take lineSize (drop (lineSize * i) ws))
 
-pub length-tranche-lines : (ws : List ℕ) (n : ℕ) → length (trancheLines ws n) ≤ 147 * n
+pub length-tranche-lines : (ws : List ℕ) (n : ℕ) → length (trancheLines ws n) ≤ spacedRoom lineSize * n
 unfolding trancheLines
 length-tranche-lines ws zero = omega arith
 length-tranche-lines ws (suc n) =
     omega (arith, length-append (trancheLines ws n) (trancheLine ws n), length-tranche-lines ws n, length-tranche-line ws n)
 
-pub length-deal-text : (charge n : ℕ) (ws : List ℕ) → n ≤ 32 → length (dealText charge n ws) ≤ textRoom
+pub length-deal-text : (charge n : ℕ) (ws : List ℕ) → n ≤ tranchesMost → length (dealText charge n ws) ≤ textRoom
 unfolding ascii dealText
 length-deal-text charge n ws l =
     simp length-append
@@ -51,7 +52,7 @@ length-deal-text charge n ws l =
       arith,
       length-labelled "charge " " tranches " charge n,
       length-tranche-lines ws n,
-      length-labelled "total " " " (columnSum ws 4 n) (columnSum ws 5 n),
+      length-labelled "total " " " (columnSum ws rwaColumn n) (columnSum ws capitalColumn n),
     ))
 
 pub length-refusal-line : (number place : ℕ) → length (refusalLine number place) ≤ textRoom
@@ -61,31 +62,31 @@ length-refusal-line number place = omega (arith, length-labelled "refused " " at
 -- ---- words after the lines
 
 tranche-line-alone :
-    (ws rest : List ℕ) (i : ℕ) → 6 * i + 6 ≤ length ws → trancheLine (ws ++ rest) i ≡ trancheLine ws i
+    (ws rest : List ℕ) (i : ℕ) → lineSize * i + lineSize ≤ length ws → trancheLine (ws ++ rest) i ≡ trancheLine ws i
 tranche-line-alone ws rest i l =
     ap (λ (words : List ℕ). spaced (suc i) words)
-    (ap (λ (words : List ℕ). take 6 words) (drop-append-le (6 * i) ws rest (omega arith)) ∙
-    take-append-le 6 (drop (6 * i) ws) rest (omega (arith, length-drop (6 * i) ws)))
+    (ap (λ (words : List ℕ). take lineSize words) (drop-append-le (lineSize * i) ws rest (omega arith)) ∙
+    take-append-le lineSize (drop (lineSize * i) ws) rest (omega (arith, length-drop (lineSize * i) ws)))
 
 tranche-lines-alone :
-    (ws rest : List ℕ) (n : ℕ) → 6 * n ≤ length ws → trancheLines (ws ++ rest) n ≡ trancheLines ws n
+    (ws rest : List ℕ) (n : ℕ) → lineSize * n ≤ length ws → trancheLines (ws ++ rest) n ≡ trancheLines ws n
 unfolding trancheLines
 tranche-lines-alone ws rest zero l = refl
 tranche-lines-alone ws rest (suc n) l =
     rw (tranche-lines-alone ws rest n (omega arith), tranche-line-alone ws rest n (omega arith))
 
 column-sum-alone :
-    (ws rest : List ℕ) (column n : ℕ) → column < 6 → 6 * n ≤ length ws → columnSum (ws ++ rest) column n ≡ columnSum ws column n
+    (ws rest : List ℕ) (column n : ℕ) → column < lineSize → lineSize * n ≤ length ws → columnSum (ws ++ rest) column n ≡ columnSum ws column n
 column-sum-alone ws rest column n c l =
-    sum-same (λ i. getD (ws ++ rest) (6 * i + column) 0) (λ i. getD ws (6 * i + column) 0) n
-    (λ i below. List·getD-append ws rest 0 (6 * i + column) (omega arith))
+    sum-same (λ i. getD (ws ++ rest) (lineSize * i + column) 0) (λ i. getD ws (lineSize * i + column) 0) n
+    (λ i below. List·getD-append ws rest 0 (lineSize * i + column) (omega arith))
 
 pub deal-text-of-lines :
-    (charge n : ℕ) (ws rest : List ℕ) → 6 * n ≤ length ws → dealText charge n (ws ++ rest) ≡ dealText charge n ws
+    (charge n : ℕ) (ws rest : List ℕ) → lineSize * n ≤ length ws → dealText charge n (ws ++ rest) ≡ dealText charge n ws
 unfolding dealText
 deal-text-of-lines charge n ws rest l =
     rw (
       tranche-lines-alone ws rest n l,
-      column-sum-alone ws rest 4 n (omega arith) l,
-      column-sum-alone ws rest 5 n (omega arith) l,
+      column-sum-alone ws rest rwaColumn n (omega arith) l,
+      column-sum-alone ws rest capitalColumn n (omega arith) l,
     )

@@ -8,17 +8,20 @@ use mathlib.Core.Path.{_≡_}
 use Prim.Native.Nat.{ℕ, _+_, _*_}
 use Prim.Native.String.{String}
 use lib.Dec.{leb, ltb, eqb}
+use Rattle.limits.specs.SheetSize.{resultRoom}
 use Rattle.files.specs.FileForm.{fileBytes}
 use Rattle.formula.specs.FixedPoint.{rawWeight}
-use Rattle.formula.specs.Formula.{lowerExponent, upperExponent, Difference, upperEnd, lowerEnd, Passes, RawWeightNumbers}
-use Rattle.formula.specs.Fraction.{Fraction, plus, whole}
+use Rattle.series.specs.Ends.{lowerExponent, upperExponent, Difference, upperEnd, lowerEnd, Passes}
+use Rattle.formula.specs.Formula.{RawWeightNumbers}
+use Rattle.series.specs.Fraction.{Fraction, plus, whole}
 use Rattle.ratings.specs.RatingTable.{ratingTable, maturityFifths, weightByRating}
 use Rattle.weights.specs.ApproachFloorCap.{approach, parameter}
-use Rattle.deal.specs.Lines.{terms, tranche, lineWords, poolAverage}
-use Rattle.deal.specs.PointsAndCharge.{poolSums, baseCharge, lateShare}
+use Rattle.charge.specs.PoolCharge.{baseCharge, lateShare, poolAverage}
+use Rattle.pool.specs.PoolSums.{poolSums}
+use Rattle.deal.specs.Lines.{terms, tranche, lineWords}
 use Rattle.deal.specs.Results.{replyTo}
 use Rattle.files.specs.Decimal.{newline}
-use Rattle.report.specs.ReportText.{ascii, resultRoom, fileText}
+use Rattle.report.specs.ReportText.{ascii, fileText}
 
 -- ---- tests
 
@@ -64,9 +67,9 @@ isEither n v w = isWeight n v || isWeight n w
 
 -- "An ordinary securitisation has supervisory parameter 1"
 abbrev pub ordinary : ℕ
-ordinary = parameter false
+ordinary = 1000000
 
--- ---- a number that passes: `Passes` of Formula.antt and what it is made of, as tests at one k
+-- ---- a number that passes: `Passes` of Ends.antt in `series` and what it is made of, as tests at one k
 
 -- Admitted
 abbrev pub admitted : Fraction → ℕ → Bool
@@ -185,6 +188,8 @@ checks =
     eqb (lateShare (poolSums moreUnknownSheet)) 0 ∷
     acceptedAt moreUnknownSheet 1000000 ∷
     firstLine moreUnknownSheet (0 ∷ 0 ∷ 1000000 ∷ 125000 ∷ 12500 ∷ 1000 ∷ []) ∷
+    -- in the cases that follow the parameter is that of an ordinary deal's tranche
+    eqb (parameter (tranche unknownSheet 0) (terms unknownSheet)) ordinary ∷
     -- "K = 0, D above 0: raw 0.
     isWeight (rawWeight 0 1 0 ordinary) 0 ∷
     isWeight (rawWeight 50000 1000000 0 ordinary) 0 ∷

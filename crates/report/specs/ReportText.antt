@@ -7,10 +7,11 @@ use Prim.Native.Nat.{ℕ, zero, suc, _+_, _*_}
 use Prim.Native.String.{String, [] as empty, _∷_ as _then_}
 use lib.Dec.{leb, eqb}
 use lib.ListN.{length, getD, take, drop}
-use Rattle.files.specs.Decimal.{space, newline, decimal}
+use Rattle.limits.specs.SheetSize.{lineSize, tranchesMost, resultRoom}
+use Rattle.files.specs.Decimal.{space, newline, digitsMost, decimal}
 use Rattle.files.specs.FileForm.{fileWords}
 use Rattle.deal.specs.Results.{Reply, replyTo, lines}
-use Rattle.deal.specs.Sum.{sum}
+use Rattle.numbers.specs.Sum.{sum}
 use Rattle.deal_file.specs.FileAnswer.{fileReply}
 use Rattle.report.specs.declared.Written.{Written}
 use Rattle.report.specs.declared.Written.the-variants.{Whole, NoRoom}
@@ -37,18 +38,25 @@ refusalLine number place = labelled "refused " number " at " place
 
 -- "tranche number, then the six words", where ws are the words of the results; the number counts from 1, i from 0
 abbrev pub trancheLine : List ℕ → ℕ → List ℕ
-trancheLine ws i = spaced (suc i) (take 6 (drop (6 * i) ws))
+trancheLine ws i = spaced (suc i) (take lineSize (drop (lineSize * i) ws))
 
 unfoldable pub trancheLines : List ℕ → ℕ → List ℕ
 trancheLines ws zero = []
 trancheLines ws (suc n) = trancheLines ws n ++ trancheLine ws n
 
--- "last line sums risk-weighted amounts and capital": a column of the six words, from 0, over n tranches
+-- "last line sums risk-weighted amounts and capital": their columns, from 0, among "approach ..., A, D, weight, risk-weighted amount, capital"
+abbrev pub rwaColumn : ℕ
+rwaColumn = 4
+
+abbrev pub capitalColumn : ℕ
+capitalColumn = 5
+
+-- the sum of a column over n tranches
 abbrev pub columnSum : List ℕ → ℕ → ℕ → ℕ
-columnSum ws column n = sum (λ i. getD ws (6 * i + column) 0) n
+columnSum ws column n = sum (λ i. getD ws (lineSize * i + column) 0) n
 
 abbrev pub totalLine : List ℕ → ℕ → List ℕ
-totalLine ws n = labelled "total " (columnSum ws 4 n) " " (columnSum ws 5 n)
+totalLine ws n = labelled "total " (columnSum ws rwaColumn n) " " (columnSum ws capitalColumn n)
 
 -- ---- the whole text
 
@@ -60,10 +68,7 @@ dealText charge n ws = labelled "charge " charge " tranches " n ++ trancheLines 
 abbrev pub textFor : List ℕ → Reply → List ℕ
 textFor s a = cond (eqb (a .number) 0) (dealText (a .charge) (a .count) (lines s (a .count))) (refusalLine (a .number) (a .place))
 
--- the words of the lines of 32 tranches: with that much room for its results no sheet is refused with 14
-abbrev pub resultRoom : ℕ
-resultRoom = 6 * 32
-
+-- the text of a sheet, with room for the results of every sheet
 unfoldable pub sheetText : List ℕ → List ℕ
 sheetText s = textFor s (replyTo s resultRoom)
 
@@ -71,11 +76,26 @@ sheetText s = textFor s (replyTo s resultRoom)
 unfoldable pub fileText : List ℕ → List ℕ
 fileText file = textFor (fileWords file) (fileReply file resultRoom)
 
--- ---- the text in a lent list of bytes
+-- ---- how long a text can be
 
--- no text is longer: a first line of two numbers, 32 lines of seven and a last line of two, where a number has at most 20 digits
+-- a number and the byte after it
+abbrev pub numberRoom : ℕ
+numberRoom = digitsMost + 1
+
+-- a line of numbers: one, and so many words
+abbrev pub spacedRoom : ℕ → ℕ
+spacedRoom words = numberRoom * (1 + words)
+
+-- a line of two numbers whose labels have so many bytes together
+abbrev pub labelledRoom : ℕ → ℕ
+labelledRoom labels = labels + digitsMost + numberRoom
+
+-- no text is longer: a first line whose labels, "charge " and " tranches ", have 17 bytes, a line for each of the most tranches, and a last line whose labels,
+-- "total " and " ", have 7
 abbrev pub textRoom : ℕ
-textRoom = 58 + 32 * 147 + 48
+textRoom = labelledRoom 17 + spacedRoom lineSize * tranchesMost + labelledRoom 7
+
+-- ---- the text in a lent list of bytes
 
 -- the answer: the text's length, and whether there was room for it
 abbrev pub writtenFor : List ℕ → List ℕ → Written

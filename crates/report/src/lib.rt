@@ -9,12 +9,20 @@ mod lines;
 mod text;
 
 use deal::Answer;
+use limits::LINE_SIZE;
+use limits::RESULT_ROOM;
+use limits::TRANCHES_MOST;
 
-// Bytes that hold every text.
-pub const TEXT_ROOM: usize = 4810;
+// The most digits of a number, and those of two with a byte after the second.
+const DIGITS_MOST: usize = 20;
 
-// Result words that hold the lines of every sheet: six for each of 32 tranches.
-const RESULT_ROOM: usize = 192;
+const TWO_NUMBERS: usize = DIGITS_MOST + DIGITS_MOST + 1;
+
+// The most bytes of a tranche's line: its number and its words, with a byte after each.
+const LINE_ROOM: usize = (DIGITS_MOST + 1) * (1 + LINE_SIZE);
+
+// Bytes that hold every text: the first line, whose labels have 17 bytes, a line for each tranche, and the last line, whose labels have 7.
+pub const TEXT_ROOM: usize = 17 + TWO_NUMBERS + LINE_ROOM * TRANCHES_MOST + 7 + TWO_NUMBERS;
 
 // What became of a text: it was written whole, or there was no room for it and nothing was written. Both hold the text's length.
 pub enum Written {

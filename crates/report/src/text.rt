@@ -5,6 +5,7 @@ ghost use Prim.Native.Nat.{_+_, _≤_};
 ghost use lib.ListN.{length};
 ghost use lib.Seq.{sets};
 ghost use Rattle.files.specs.Decimal.{decimal, newline};
+ghost use Rattle.report.specs.ReportText.{numberRoom, labelledRoom};
 
 // Writes some bytes from a place on, and answers the place after them.
 pub(crate) fn put_bytes(piece: &[u8], at: usize, out: &mut [u8]) -> usize
@@ -36,7 +37,7 @@ fn put_decimal(n: u64, at: usize, out: &mut [u8]) -> usize
 
 // Writes a number in decimal and the byte that follows it.
 pub(crate) fn put_number(n: u64, end: u8, at: usize, out: &mut [u8]) -> usize
-    requires { ⌜ at + 21 ≤ length (now out) ⌝ }
+    requires { ⌜ at + numberRoom ≤ length (now out) ⌝ }
     ensures { λ r. ⌜ r ≡ at + length (decimal n ++ end ∷ []) ⌝ }
     ensures { λ r. ⌜ now (out .exit) ≡ sets (now (out .entry)) at (decimal n ++ end ∷ []) ⌝ }
 {
@@ -54,7 +55,7 @@ pub(crate) fn put_labelled(
     at: usize,
     out: &mut [u8],
 ) -> usize
-    requires { ⌜ at + length (now first) + length (now second) + 41 ≤ length (now out) ⌝ }
+    requires { ⌜ at + labelledRoom (length (now first) + length (now second)) ≤ length (now out) ⌝ }
     ensures { λ r. ⌜ r ≡ at + length (now (first .entry) ++ decimal n ++ now (second .entry) ++ decimal m ++ newline ∷ []) ⌝ }
     ensures { λ r. ⌜ now (out .exit) ≡ sets (now (out .entry)) at (now (first .entry) ++ decimal n ++ now (second .entry) ++ decimal m ++ newline ∷ []) ⌝ }
 {

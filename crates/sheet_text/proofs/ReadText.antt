@@ -6,7 +6,8 @@ use native.Mathlib.Omega.{arith}
 use borrow.Author.Tests.{le-leb, lt-leb}
 use lib.ListN.{length, take, drop}
 use lib.Seq.{length-take-le}
-use Rattle.files.specs.FileForm.{byteLimit, fileBytes, bytesAfter}
+use Rattle.limits.specs.SheetSize.{byteLimit}
+use Rattle.files.specs.FileForm.{fileBytes, bytesAfter}
 use Rattle.files.proofs.FileLaws.{store-accepts}
 use Rattle.sheet_text.specs.SheetText.{tokens, words, madeFrom, madeOf, bytesFor}
 use Rattle.sheet_text.specs.Scanning.{Onward}

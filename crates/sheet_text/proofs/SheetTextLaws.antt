@@ -8,7 +8,7 @@ use native.Mathlib.Omega.{arith}
 use borrow.Author.Tests.{leb-true, leb-false}
 use lib.Dec.{leb}
 use lib.ListN.{length, getD}
-use Rattle.files.specs.FileForm.{byteLimit}
+use Rattle.limits.specs.SheetSize.{byteLimit}
 use Rattle.files.specs.Decimal.{allDigits}
 use Rattle.sheet_text.specs.SheetText.{Token, tokens, value, tooLarge, words, spanOf, madeFrom, madeOf}
 use Rattle.sheet_text.specs.declared.Made.the-variants.{Bytes, NotDecimal, TooLarge, TooMany}

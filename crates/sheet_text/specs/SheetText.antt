@@ -5,8 +5,9 @@ use mathlib.Core.List.{List, [], _∷_, _++_}
 use Prim.Native.Nat.{ℕ, suc, _+_, _*_, _-_, _^_, min}
 use lib.Dec.{leb, eqb}
 use lib.ListN.{length, drop}
+use Rattle.limits.specs.SheetSize.{byteLimit}
 use Rattle.files.specs.Decimal.{newline, space, allDigits, valueFrom}
-use Rattle.files.specs.FileForm.{byteLimit, fileBytes}
+use Rattle.files.specs.FileForm.{fileBytes}
 use Rattle.sheet_text.specs.declared.Made.{Made}
 use Rattle.sheet_text.specs.declared.Made.the-variants.{Bytes, NotDecimal, TooLarge, TooMany}
 use Rattle.sheet_text.specs.declared.Span.{Span}

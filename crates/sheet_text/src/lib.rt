@@ -2,8 +2,8 @@
 ghost use mathlib.Core.Path.{_≡_};
 ghost use lib.ListN.{length};
 ghost use Rattle.sheet_text.specs.SheetText.{madeOf, bytesFor};
-use files::WORD_LIMIT;
 use files::store;
+use limits::WORD_LIMIT;
 use tokens::Ended;
 use tokens::read_words;
 

@@ -33,7 +33,7 @@ fn write_named(text: &mut [u8]) {
 
 // Writes the bytes of the sheet that a text makes, or says why it makes none.
 fn write_sheet(text: &[u8]) {
-    let mut bytes = [0u8; files::BYTE_LIMIT];
+    let mut bytes = [0u8; limits::BYTE_LIMIT];
     let made = sheet_text::sheet_bytes(text, &mut bytes);
     match made {
         Made::Bytes(n) => write_bytes(n, &bytes),
@@ -88,6 +88,6 @@ fn refuse_length() {
 fn refuse_count(n: u64) {
     io::print_decimal(STDERR_FILENO, n);
     io::write_all(STDERR_FILENO, b" words, and a sheet has at most ");
-    io::print_decimal(STDERR_FILENO, files::WORD_LIMIT as u64);
+    io::print_decimal(STDERR_FILENO, limits::WORD_LIMIT as u64);
     io::write_all(STDERR_FILENO, b"\n");
 }

@@ -7,7 +7,7 @@ use report::Written;
 
 // A file is read into one byte more than a sheet has, so that a longer file is seen to be too long.
 fn main() {
-    let mut file = [0u8; files::BYTE_LIMIT + 1];
+    let mut file = [0u8; limits::BYTE_LIMIT + 1];
     print_named(&mut file);
 }
 

@@ -1,5 +1,6 @@
--- Which weight a tranche has by each approach, and what it depends on in a re-securitisation; that no weight is above 125,000 (1250%), neither the
--- formula's raw weight, nor the table's, nor either after floor and cap; and where a tranche of no thickness lies. No axioms.
+-- Which weight a tranche has by each approach, and what it depends on in a re-securitisation; that the parameter is one for which the formula is computed;
+-- that no weight is above 125,000 (1250%), neither the formula's raw weight, nor the table's, nor either after floor and cap; and where a tranche of no
+-- thickness lies. No axioms.
 use mathlib.Core.Bool.{Bool, true, false}
 use mathlib.Core.Logic.{⊎-elim}
 use mathlib.Core.Path.{_≡_, refl, _∙_}
@@ -7,7 +8,7 @@ use Prim.Native.Nat.{ℕ, _-_, _≤_, _<_}
 use native.Mathlib.Nat.{eq-zero-or-pos, le-refl}
 use native.Mathlib.Omega.{arith}
 use lib.Dec.{eqb}
-use borrow.Author.Tests.{ltb-false, eq-eqb}
+use borrow.Author.Tests.{ltb-false, eqb-true, eq-eqb, ne-eqb}
 use Rattle.numbers.proofs.Tests.{at-cond}
 use Rattle.formula.specs.Formula.{WithinLimits}
 use Rattle.formula.specs.FixedPoint.{withinLimits, rawWeight}
@@ -15,7 +16,7 @@ use Rattle.formula.proofs.RawWeightLaw.{raw-weight-is}
 use Rattle.formula.proofs.Limits.{limits-of-test}
 use Rattle.ratings.specs.RatingTable.{ratingTable}
 use Rattle.ratings.proofs.TableLaws.{weight-by-ratings-at-most}
-use Rattle.weights.specs.ApproachFloorCap.{approach, parameter, floor, capApplies, afterFloorAndCap, weightOrHighest, formulaRawWeight, tableWeight, weight, WeightByFormula, thin}
+use Rattle.weights.specs.ApproachFloorCap.{approach, formulaApproach, byFormula, parameter, floor, capApplies, afterFloorAndCap, weightOrHighest, formulaRawWeight, tableWeight, weight, WeightByFormula, thin}
 use Rattle.weights.specs.declared.Terms.{Terms}
 use Rattle.weights.specs.declared.Tranche.{Tranche}
 
@@ -29,14 +30,20 @@ pub table-weighs : (t : Tranche) (d : Terms) → approach t d ≡ 1 → weight t
 unfolding weight
 table-weighs t d by = simp by
 
-pub formula-weight : (t : Tranche) (d : Terms) → approach t d ≡ 2 → weight t d ≡ afterFloorAndCap t d (formulaRawWeight t d)
-unfolding weight
-formula-weight t d by = simp by
+-- an approach that weighs by the formula is not the fallback
+not-fallback : (by : ℕ) → formulaApproach by ≡ true → eqb by 0 ≡ false
+not-fallback by e =
+    let sec-sa : by ≡ 2 = eqb-true by 2 e in
+    ne-eqb by 0 (λ zero. omega arith)
 
-pub weight-by-formula : (t : Tranche) (d : Terms) {w : ℕ} → w ≡ weight t d → approach t d ≡ 2 → WeightByFormula t d w
+pub formula-weight : (t : Tranche) (d : Terms) → byFormula t d ≡ true → weight t d ≡ afterFloorAndCap t d (formulaRawWeight t d)
+unfolding weight
+formula-weight t d by = simp (not-fallback (approach t d) by, by)
+
+pub weight-by-formula : (t : Tranche) (d : Terms) {w : ℕ} → w ≡ weight t d → byFormula t d ≡ true → WeightByFormula t d w
 unfolding formulaRawWeight
 weight-by-formula t d e by =
-    let p = parameter (d .resecuritisation) in
+    let p = parameter t d in
     record {
       raw = rawWeight (t .attachment) (t .detachment) (d .charge) p;
       is-raw = raw-weight-is (t .attachment) (t .detachment) (d .charge) p;
@@ -54,6 +61,15 @@ ratings-not-used t t′ d r same-attachment same-detachment same-senior = (simp 
     by-diligence : (b : Bool) → d .diligence ≡ b → weight t′ d ≡ weight t d
     by-diligence true e = simp (r, e, same-attachment, same-detachment, same-senior)
     by-diligence false e = simp (r, e)
+
+-- ---- the supervisory parameter
+
+-- it is among those of `WithinLimits` (Formula.antt of `formula`)
+pub parameter-within : (t : Tranche) (d : Terms) → (300000 ≤ parameter t d) × (parameter t d < 5000000)
+parameter-within t d =
+    at-cond (λ p. (300000 ≤ p) × (p < 5000000)) (d .resecuritisation) _ _
+    (λ _. (omega arith, omega arith))
+    (λ _. (omega arith, omega arith))
 
 -- ---- no weight is above 125,000
 
@@ -93,7 +109,7 @@ module _ (A D K p : ℕ) where
 pub raw-weight-at-most : (t : Tranche) (d : Terms) → formulaRawWeight t d ≤ 125000
 unfolding formulaRawWeight
 raw-weight-at-most t d =
-    let p = parameter (d .resecuritisation) in
+    let p = parameter t d in
     number-at-most (t .attachment) (t .detachment) (d .charge) p
     (withinLimits (t .attachment) (t .detachment) (d .charge) p) refl
 
@@ -102,15 +118,14 @@ unfolding tableWeight
 table-weight-at-most t =
     weight-by-ratings-at-most ratingTable tt (t .first) (t .second) (t .third) (t .senior) (t .months) (t .detachment - t .attachment)
 
-floor-at-most : (resecuritised : Bool) → floor resecuritised ≤ 125000
-floor-at-most true = omega arith
-floor-at-most false = omega arith
+floor-at-most : (t : Tranche) (d : Terms) → floor t d ≤ 125000
+floor-at-most t d = at-cond (λ x. x ≤ 125000) (d .resecuritisation) _ _ (λ _. omega arith) (λ _. omega arith)
 
 pub after-floor-and-cap-at-most : (t : Tranche) (d : Terms) (w : ℕ) → w ≤ 125000 → afterFloorAndCap t d w ≤ 125000
 after-floor-and-cap-at-most t d w h =
     at-cond (λ x. x ≤ 125000) (capApplies t d) _ _
-    (λ _. omega (arith, floor-at-most (d .resecuritisation)))
-    (λ _. omega (arith, floor-at-most (d .resecuritisation)))
+    (λ _. omega (arith, floor-at-most t d))
+    (λ _. omega (arith, floor-at-most t d))
 
 pub weight-at-most : (t : Tranche) (d : Terms) → weight t d ≤ 125000
 unfolding weight
@@ -118,15 +133,15 @@ weight-at-most t d =
     at-cond (λ x. x ≤ 125000) (eqb (approach t d) 0) _ _
     (λ _. le-refl 125000)
     (λ _.
-    at-cond (λ x. x ≤ 125000) (eqb (approach t d) 1) _ _
-    (λ _. after-floor-and-cap-at-most t d (tableWeight t) (table-weight-at-most t))
-    (λ _. after-floor-and-cap-at-most t d (formulaRawWeight t d) (raw-weight-at-most t d)))
+    at-cond (λ x. x ≤ 125000) (byFormula t d) _ _
+    (λ _. after-floor-and-cap-at-most t d (formulaRawWeight t d) (raw-weight-at-most t d))
+    (λ _. after-floor-and-cap-at-most t d (tableWeight t) (table-weight-at-most t)))
 
 -- ---- thickness
 
 -- a tranche of no thickness that is not too thin for the formula is not above the pool charge
 pub thick-where :
-    (t : Tranche) (d : Terms) → approach t d ≡ 2 → t .attachment ≡ t .detachment → thin t d ≡ false → t .detachment ≤ d .charge
+    (t : Tranche) (d : Terms) → byFormula t d ≡ true → t .attachment ≡ t .detachment → thin t d ≡ false → t .detachment ≤ d .charge
 unfolding thin
 thick-where t d by same e =
     let last = rw (by, eq-eqb (t .attachment) (t .detachment) same) at e in

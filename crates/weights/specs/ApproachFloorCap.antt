@@ -8,7 +8,8 @@ use Prim.Native.Nat.{ℕ, _-_, min, max}
 use lib.Dec.{ltb, eqb}
 use Rattle.formula.specs.FixedPoint.{rawWeight}
 use Rattle.formula.specs.Formula.{RawWeightNumbers, IsRawWeight}
-use Rattle.ratings.specs.RatingTable.{ratingTable, present, weightByRatings}
+use Rattle.rating_codes.specs.RatingCodes.{present}
+use Rattle.ratings.specs.RatingTable.{ratingTable, weightByRatings}
 use Rattle.weights.specs.declared.Terms.{Terms}
 use Rattle.weights.specs.declared.Tranche.{Tranche}
 
@@ -28,14 +29,22 @@ approach t d =
     (cond (not (d .known)) 0
     2)))
 
+-- the approach that weighs by the formula: SEC-SA
+abbrev pub formulaApproach : ℕ → Bool
+formulaApproach by = eqb by 2
+
+-- whether the tranche is weighed by the formula
+abbrev pub byFormula : Tranche → Terms → Bool
+byFormula t d = formulaApproach (approach t d)
+
 -- ---- weight
 
 -- "An ordinary securitisation has supervisory parameter 1 and floor 1,500; a re-securitisation has 1.5 and 10,000."
-abbrev pub parameter : Bool → ℕ
-parameter resecuritised = cond resecuritised 1500000 1000000
+abbrev pub parameter : Tranche → Terms → ℕ
+parameter t d = cond (d .resecuritisation) 1500000 1000000
 
-abbrev pub floor : Bool → ℕ
-floor resecuritised = cond resecuritised 10000 1500
+abbrev pub floor : Tranche → Terms → ℕ
+floor t d = cond (d .resecuritisation) 10000 1500
 
 -- "The cap applies to class 1 of an ordinary deal with known composition"
 abbrev pub capApplies : Tranche → Terms → Bool
@@ -44,7 +53,7 @@ capApplies t d = t .senior && not (d .resecuritisation) && d .composition
 -- "The weight is raised to the floor, then lowered to the cap, also below the floor."
 abbrev pub afterFloorAndCap : Tranche → Terms → ℕ → ℕ
 afterFloorAndCap t d w =
-    let raised = max w (floor (d .resecuritisation)) in
+    let raised = max w (floor t d) in
     cond (capApplies t d) (min raised (d .average)) raised
 
 -- the raw weight; where there is none, which no accepted sheet meets (`formula-weighs`, DemandThreeLaw.antt of `deal`), the highest
@@ -53,7 +62,7 @@ weightOrHighest n = Option·getD (n .weight) 125000
 
 -- "A SEC-SA line's weight is its tranche's raw weight after floor and cap."
 unfoldable pub formulaRawWeight : Tranche → Terms → ℕ
-formulaRawWeight t d = weightOrHighest (rawWeight (t .attachment) (t .detachment) (d .charge) (parameter (d .resecuritisation)))
+formulaRawWeight t d = weightOrHighest (rawWeight (t .attachment) (t .detachment) (d .charge) (parameter t d))
 
 unfoldable pub tableWeight : Tranche → ℕ
 tableWeight t =
@@ -64,17 +73,17 @@ tableWeight t =
 unfoldable pub weight : Tranche → Terms → ℕ
 weight t d =
     cond (eqb (approach t d) 0) 125000
-    (cond (eqb (approach t d) 1) (afterFloorAndCap t d (tableWeight t))
-    (afterFloorAndCap t d (formulaRawWeight t d)))
+    (cond (byFormula t d) (afterFloorAndCap t d (formulaRawWeight t d))
+    (afterFloorAndCap t d (tableWeight t)))
 
--- What a weight by SEC-SA keeps: it is an answer of the formula, by `IsRawWeight`, after floor and cap. Where K is at least 1 and D above K this
+-- What a weight by the formula keeps: it is an answer of the formula, by `IsRawWeight`, after floor and cap. Where K is at least 1 and D above K this
 -- limits the raw weight, which the rules leave open, and says how; elsewhere it settles it.
 pub record WeightByFormula (t : Tranche) (d : Terms) (w : ℕ) : Type 0 where
   pub raw : RawWeightNumbers
-  pub is-raw : IsRawWeight (t .attachment) (t .detachment) (d .charge) (parameter (d .resecuritisation)) raw
+  pub is-raw : IsRawWeight (t .attachment) (t .detachment) (d .charge) (parameter t d) raw
   pub weight-is : w ≡ afterFloorAndCap t d (weightOrHighest raw)
 
 -- ---- "13: SEC-SA applies, A equals D, and D is above the pool charge"
 
 unfoldable pub thin : Tranche → Terms → Bool
-thin t d = eqb (approach t d) 2 && eqb (t .attachment) (t .detachment) && ltb (d .charge) (t .detachment)
+thin t d = byFormula t d && eqb (t .attachment) (t .detachment) && ltb (d .charge) (t .detachment)

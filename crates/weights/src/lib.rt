@@ -1,6 +1,7 @@
 // Approach and weight of one tranche, from what is its own and what the deal's tranches share.
+ghost use mathlib.Core.Bool.{true};
 ghost use mathlib.Core.Path.{_≡_};
-ghost use Rattle.weights.specs.ApproachFloorCap.{rated, approach, parameter, floor, capApplies, afterFloorAndCap, formulaRawWeight, tableWeight, weight, WeightByFormula, thin};
+ghost use Rattle.weights.specs.ApproachFloorCap.{rated, approach, formulaApproach, byFormula, parameter, floor, capApplies, afterFloorAndCap, formulaRawWeight, tableWeight, weight, WeightByFormula, thin};
 use formula::RawWeight;
 use numbers::excess;
 use numbers::larger;
@@ -53,13 +54,13 @@ const HIGHEST: u64 = 125000;
 fn rated(t: Tranche) -> bool
     ensures { λ r. ⌜ r ≡ rated t ⌝ }
 {
-    if ratings::is_present(t.first) {
+    if rating_codes::is_present(t.first) {
         return true;
     }
-    if ratings::is_present(t.second) {
+    if rating_codes::is_present(t.second) {
         return true;
     }
-    ratings::is_present(t.third)
+    rating_codes::is_present(t.third)
 }
 
 // The approach: 0 fallback, 1 SEC-ERBA, 2 SEC-SA.
@@ -81,22 +82,29 @@ pub fn approach(t: Tranche, d: Terms) -> u64
     2
 }
 
-// The supervisory parameter of the deal's kind.
-fn parameter(resecuritised: bool) -> u64
-    ensures { λ r. ⌜ r ≡ parameter resecuritised ⌝ }
+// Whether an approach weighs by the formula: SEC-SA does.
+fn formula_approach(by: u64) -> bool
+    ensures { λ r. ⌜ r ≡ formulaApproach by ⌝ }
 {
-    if resecuritised {
+    by == 2
+}
+
+// The supervisory parameter, by the deal's kind.
+fn parameter(t: Tranche, d: Terms) -> u64
+    ensures { λ r. ⌜ r ≡ parameter t d ⌝ }
+{
+    if d.resecuritisation {
         Resecuritisation::PARAMETER
     } else {
         Ordinary::PARAMETER
     }
 }
 
-// The floor of the deal's kind.
-fn floor(resecuritised: bool) -> u64
-    ensures { λ r. ⌜ r ≡ floor resecuritised ⌝ }
+// The floor, by the deal's kind.
+fn floor(t: Tranche, d: Terms) -> u64
+    ensures { λ r. ⌜ r ≡ floor t d ⌝ }
 {
-    if resecuritised {
+    if d.resecuritisation {
         Resecuritisation::FLOOR
     } else {
         Ordinary::FLOOR
@@ -120,7 +128,7 @@ fn cap_applies(t: Tranche, d: Terms) -> bool
 fn after_floor_and_cap(t: Tranche, d: Terms, w: u64) -> u64
     ensures { λ r. ⌜ r ≡ afterFloorAndCap t d w ⌝ }
 {
-    let raised = larger(w, floor(d.resecuritisation));
+    let raised = larger(w, floor(t, d));
     if cap_applies(t, d) {
         return smaller(raised, d.average);
     }
@@ -131,12 +139,7 @@ fn after_floor_and_cap(t: Tranche, d: Terms, w: u64) -> u64
 fn formula_raw_weight(t: Tranche, d: Terms) -> u64
     ensures { λ r. ⌜ r ≡ formulaRawWeight t d ⌝ }
 {
-    let raw = formula::raw_weight(
-        t.attachment,
-        t.detachment,
-        d.charge,
-        parameter(d.resecuritisation),
-    );
+    let raw = formula::raw_weight(t.attachment, t.detachment, d.charge, parameter(t, d));
     match raw {
         RawWeight::Weight(w) => w,
         RawWeight::NoThickness => HIGHEST,
@@ -158,26 +161,26 @@ fn table_weight(t: Tranche) -> u64
     )
 }
 
-// The tranche's weight. By SEC-SA it is a raw weight after floor and cap; where the rules leave the raw weight open, the second promise limits it.
+// The tranche's weight. By the formula it is a raw weight after floor and cap; where the rules leave the raw weight open, the second promise limits it.
 pub fn weight(t: Tranche, d: Terms) -> u64
     ensures { λ r. ⌜ r ≡ weight t d ⌝ }
-    ensures { λ r. ⌜ (approach t d ≡ 2 → WeightByFormula t d r) ⌝ }
+    ensures { λ r. ⌜ (byFormula t d ≡ true → WeightByFormula t d r) ⌝ }
 {
     let by = approach(t, d);
     if by == 0 {
         return HIGHEST;
     }
-    if by == 1 {
-        return after_floor_and_cap(t, d, table_weight(t));
+    if formula_approach(by) {
+        return after_floor_and_cap(t, d, formula_raw_weight(t, d));
     }
-    after_floor_and_cap(t, d, formula_raw_weight(t, d))
+    after_floor_and_cap(t, d, table_weight(t))
 }
 
-// Whether SEC-SA applies to a tranche of no thickness above the pool charge.
+// Whether the formula applies to a tranche of no thickness above the pool charge.
 pub fn is_thin(t: Tranche, d: Terms) -> bool
     ensures { λ r. ⌜ r ≡ thin t d ⌝ }
 {
-    if approach(t, d) != 2 {
+    if !formula_approach(approach(t, d)) {
         return false;
     }
     if t.attachment != t.detachment {

@@ -2,6 +2,7 @@
 
 use crate::deals::ROOM;
 use independent::{Deal, Line, Refusal};
+use tranche_weights::LINE_WORDS;
 
 /// Count and charge, or else number and place of the refusal.
 type Outcome = Result<(u64, u64), (u64, u64)>;
@@ -44,8 +45,9 @@ fn difference(admitted: &Result<Deal, Refusal>, outcome: Outcome, results: &[u64
     (wrong > 0).then(|| format!("{wrong} of {} lines", lines.len()))
 }
 
-/// Whether the six words are an admitted form of the line.
-fn admits(line: &Line, &[approach, attachment, detachment, weight, risk_weighted, capital]: &[u64; 6]) -> bool {
+/// Whether the words are an admitted form of the line.
+fn admits(line: &Line, words: &[u64; LINE_WORDS]) -> bool {
+    let &[approach, attachment, detachment, weight, risk_weighted, capital] = words;
     (line.approach, line.attachment, line.detachment) == (approach, attachment, detachment)
         && line
             .amounts
@@ -63,7 +65,7 @@ mod tests {
     fn every_changed_word_is_a_difference() {
         let admitted = independent::weigh(&deals::small(), ROOM as u64);
         let deal = admitted.as_ref().expect("the small deal is accepted");
-        let words = |line: &Line| {
+        let words = |line: &Line| -> [u64; LINE_WORDS] {
             let amounts = line.amounts[0];
             [
                 line.approach,

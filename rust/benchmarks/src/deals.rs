@@ -1,16 +1,18 @@
 //! The sheets that are timed.
 
+use tranche_weights::{MOST_ROWS, MOST_TRANCHES, ROW_WORDS, TRANCHE_WORDS};
+
 /// Result words for the most tranches that a sheet can hold.
-pub const ROOM: usize = 192;
+pub const ROOM: usize = tranche_weights::RESULT_WORDS;
 
 /// Ordinary deal of an SA pool, due diligence held, pool composition known.
-const FACTS: [u64; 5] = [4, 0, 0, 1, 1];
+const FACTS: &[u64] = &[0, 0, 1, 1];
 
 /// A row of the pool: exposure amount, nominal amount, risk weight, status.
-type Row = [u64; 4];
+type Row = [u64; ROW_WORDS];
 
-/// A row of a tranche: amount, class, months, amount held, three ratings.
-type Tranche = [u64; 7];
+/// A row of a tranche: amount, class, months, amount held, ratings.
+type Tranche = [u64; TRANCHE_WORDS];
 
 /// The sheets on which the versions are compared, with their names in the table.
 pub fn compared() -> [(&'static str, Vec<u64>); 6] {
@@ -20,7 +22,10 @@ pub fn compared() -> [(&'static str, Vec<u64>); 6] {
         ("large: 1,000 rows, 32 tranches", large()),
         ("large, refused at its last word", large_refused()),
         ("formula: 3 rows, 32 SEC-SA tranches, 3 millionths each", thin()),
-        ("formula: 3 rows, 32 SEC-SA tranches, 1% each", with_tranches(32)),
+        (
+            "formula: 3 rows, 32 SEC-SA tranches, 1% each",
+            with_tranches(MOST_TRANCHES as u64),
+        ),
     ]
 }
 
@@ -37,8 +42,8 @@ fn small_rated() -> Vec<u64> {
 
 /// The most rows and tranches; two tranches to a class here and there, and every second one unrated.
 pub fn large() -> Vec<u64> {
-    let rows = rows(1_000);
-    let amount = nominal(&rows) / 32;
+    let rows = rows(MOST_ROWS as u64);
+    let amount = nominal(&rows) / MOST_TRANCHES as u64;
     let mut class = 1;
     let tranche = |number: u64| {
         class += u64::from(number % 5 != 4 && number > 0);
@@ -54,7 +59,7 @@ pub fn large() -> Vec<u64> {
             0,
         ]
     };
-    let tranches: Vec<Tranche> = (0..32).map(tranche).collect();
+    let tranches: Vec<Tranche> = (0..MOST_TRANCHES as u64).map(tranche).collect();
     sheet(&rows, &tranches)
 }
 
@@ -69,7 +74,7 @@ fn large_refused() -> Vec<u64> {
 /// Tranches of three millionths of the pool, all above the pool charge, so that each weight needs two exponentials that
 /// lie close together. The risk weights are high, so that the weights lie above the floor.
 fn thin() -> Vec<u64> {
-    sheet(&few_rows(500), &unrated_tranches(32, 3_000))
+    sheet(&few_rows(500), &unrated_tranches(MOST_TRANCHES as u64, 3_000))
 }
 
 /// The same pool with the given number of such tranches, but each a hundredth of the pool. Much thinner tranches, and points
@@ -86,15 +91,10 @@ pub fn with_rows(count: u64) -> Vec<u64> {
 
 /// The sheet of the given rows.
 fn sheet(rows: &[Row], tranches: &[Tranche]) -> Vec<u64> {
-    let counts = [rows.len(), tranches.len()].map(|count| [count as u64]);
-    [
-        &FACTS[..],
-        &counts[0],
-        rows.as_flattened(),
-        &counts[1],
-        tranches.as_flattened(),
-    ]
-    .concat()
+    let sections = [FACTS, rows.as_flattened(), tranches.as_flattened()];
+    let counts = [FACTS.len(), rows.len(), tranches.len()].map(|count| [count as u64]);
+    let counted = counts.iter().zip(sections);
+    counted.flat_map(|(count, words)| [count, words].concat()).collect()
 }
 
 /// Three rows of 10^9 in all, of the given risk weight or a little less, one of them delinquent.
@@ -145,6 +145,7 @@ fn unrated_tranches(count: u64, amount: u64) -> Vec<Tranche> {
 mod tests {
     use super::*;
     use independent::{Deal, Line};
+    use tranche_weights::Approach;
 
     /// The exact answer to a sheet that must be accepted.
     fn deal(sheet: &[u64]) -> Deal {
@@ -153,28 +154,28 @@ mod tests {
 
     /// Whether a line's weight needs the exponential.
     fn needs_formula(line: &Line, charge: u64) -> bool {
-        line.approach == 2 && charge >= 1 && line.detachment > charge
+        line.approach == Approach::SecSa.word() && charge >= 1 && line.detachment > charge
     }
 
     /// The unrated tranche takes the formula.
     #[test]
     fn small_deals_are_as_named() {
         let small = deal(&small());
-        assert_eq!(
-            small.lines.iter().map(|line| line.approach).collect::<Vec<_>>(),
-            [1, 1, 2]
-        );
+        let approaches: Vec<Approach> = small.lines.iter().map(|line| line.approach.into()).collect();
+        assert_eq!(approaches, [Approach::SecErba, Approach::SecErba, Approach::SecSa]);
         assert!(needs_formula(&small.lines[2], small.charge));
-        assert!(deal(&small_rated()).lines.iter().all(|line| line.approach == 1));
+        let rated = |line: &Line| line.approach == Approach::SecErba.word();
+        assert!(deal(&small_rated()).lines.iter().all(rated));
     }
 
     /// Half of the tranches are rated; the damage is found at the last word and not before.
     #[test]
     fn large_deal_mixes_approaches_and_its_damaged_form_is_refused_at_the_end() {
         let large = deal(&large());
-        assert_eq!(large.lines.len(), 32);
-        let count = |approach| large.lines.iter().filter(|line| line.approach == approach).count();
-        assert_eq!((count(1), count(2)), (16, 16));
+        assert_eq!(large.lines.len(), MOST_TRANCHES);
+        let of = |approach: Approach| large.lines.iter().filter(move |line| line.approach == approach.word());
+        let counts = [Approach::SecErba, Approach::SecSa].map(|approach| of(approach).count());
+        assert_eq!(counts, [MOST_TRANCHES / 2; 2]);
         let sheet = large_refused();
         let refusal = independent::weigh(&sheet, ROOM as u64).expect_err("a refused sheet");
         assert_eq!((refusal.number, refusal.place), (11, sheet.len() as u64 - 1));
@@ -183,9 +184,9 @@ mod tests {
     /// A lies above the charge, so neither exponential is that of 0; and neither floor nor cap hides the raw weight.
     #[test]
     fn unrated_tranches_all_need_two_exponentials() {
-        for sheet in [thin(), with_tranches(32)] {
+        for sheet in [thin(), with_tranches(MOST_TRANCHES as u64)] {
             let deal = deal(&sheet);
-            assert_eq!(deal.lines.len(), 32);
+            assert_eq!(deal.lines.len(), MOST_TRANCHES);
             let both = |line: &Line| needs_formula(line, deal.charge) && line.attachment > deal.charge;
             assert!(deal.lines.iter().all(both));
             assert!(deal.lines.iter().all(|line| line.amounts[0].weight > 1_500));
@@ -199,7 +200,7 @@ mod tests {
     /// With every number of rows the junior tranche takes the formula, so that the steps differ in rows alone.
     #[test]
     fn growing_deals_keep_their_approaches() {
-        for count in [1, 10, 100, 250, 500, 1_000] {
+        for count in [1, 10, 100, 250, 500, MOST_ROWS as u64] {
             let deal = deal(&with_rows(count));
             assert!(needs_formula(&deal.lines[2], deal.charge), "{count} rows");
         }

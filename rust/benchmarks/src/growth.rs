@@ -5,6 +5,7 @@ use crate::deals;
 use crate::table::{duration, table};
 use crate::timing::{median, rounds, Plan, Work};
 use crate::versions;
+use tranche_weights::{MOST_ROWS, MOST_TRANCHES};
 
 /// The steps of each series.
 const STEPS: usize = 6;
@@ -23,7 +24,7 @@ pub fn by_rows() -> Series {
     Series {
         title: "Growth with the pool's rows, at 3 tranches (proved):",
         unit: "row",
-        counts: [1, 10, 100, 250, 500, 1_000],
+        counts: [1, 10, 100, 250, 500, MOST_ROWS as u64],
         sheet: deals::with_rows,
     }
 }
@@ -33,7 +34,7 @@ pub fn by_tranches() -> Series {
     Series {
         title: "Growth with the tranches, all SEC-SA, at 3 rows (proved):",
         unit: "tranche",
-        counts: [1, 2, 4, 8, 16, 32],
+        counts: [1, 2, 4, 8, 16, MOST_TRANCHES as u64],
         sheet: deals::with_tranches,
     }
 }

@@ -1,11 +1,12 @@
 //! One sheet of a run with all that is done with it: its room for results, its file, and a second sheet made from it.
 
+use crate::answer::LINE_WORDS;
 use crate::damage;
 use crate::kind::{File, Kind, Relation, Room};
 use crate::limits;
 use crate::pool;
 use crate::random::Random;
-use crate::sheet::{file_form, Deal, Facts, FILE_BYTES, LINE_WORDS};
+use crate::sheet::{file_form, Deal, Fact, Facts, FILE_BYTES, WORD_BYTES};
 use crate::tranches;
 
 /// One sheet of a run. It is made from seed and index alone; making another one reuses its lists.
@@ -89,7 +90,7 @@ impl Case {
                 self.rerated = random.below(self.deal.tranches.len() as u64) as usize;
                 self.deal.tranches[self.rerated].ratings = tranches::any_ratings(random);
             }
-            Relation::WithoutCap => self.deal.facts.composition = 0,
+            Relation::WithoutCap => self.deal.facts[Fact::Composition] = 0,
         }
         self.deal.write(&mut self.second);
     }
@@ -103,7 +104,7 @@ impl Case {
         }
         self.file.extend(file_form(&self.sheet));
         let length = match self.file_kind {
-            File::Ragged => (self.file.len() + random.below(16) as usize).saturating_sub(8),
+            File::Ragged => (self.file.len() + random.below(2 * WORD_BYTES as u64) as usize).saturating_sub(WORD_BYTES),
             File::Stretched => stretched_length(random),
             File::Empty => 0,
             File::Unused | File::Whole => self.file.len(),
@@ -116,9 +117,9 @@ impl Case {
 /// then far longer.
 fn stretched_length(random: &mut Random) -> usize {
     match random.below(8) {
-        0 => 4 * FILE_BYTES + random.below(9) as usize,
-        1..=4 => FILE_BYTES - 8 + 8 * random.below(3) as usize,
-        _ => FILE_BYTES - 16 + random.below(33) as usize,
+        0 => 4 * FILE_BYTES + random.below(WORD_BYTES as u64 + 1) as usize,
+        1..=4 => FILE_BYTES - WORD_BYTES + WORD_BYTES * random.below(3) as usize,
+        _ => FILE_BYTES - 2 * WORD_BYTES + random.below(4 * WORD_BYTES as u64 + 1) as usize,
     }
 }
 
@@ -132,12 +133,10 @@ fn fill_deal(kind: Kind, random: &mut Random, deal: &mut Deal) {
         Kind::Ordinary | Kind::UnknownShare | Kind::AllUnknown | Kind::AllDelinquent => false,
         _ => random.once_in(5),
     };
-    deal.facts = Facts {
-        pool_kind: 0,
-        resecuritisation: u64::from(resecuritisation),
-        due_diligence: u64::from(!random.once_in(12)),
-        composition: random.below(2),
-    };
+    deal.facts = Facts::default();
+    deal.facts[Fact::Resecuritisation] = u64::from(resecuritisation);
+    deal.facts[Fact::DueDiligence] = u64::from(!random.once_in(12));
+    deal.facts[Fact::Composition] = random.below(2);
     pool::fill(kind, random, deal);
     tranches::fill(kind, random, deal);
 }

@@ -2,22 +2,25 @@
 
 use crate::kind::Kind;
 use crate::random::Random;
-use crate::sheet::{Layout, FILE_BYTES, MONTHS, POOL_AMOUNT, RISK_WEIGHT, ROWS, TRANCHES, TRANCHE_AMOUNT};
+use crate::sheet::{
+    status, Fact, Facts, Layout, RowWord, TrancheWord, FACTS, LONG_TERM, MONTHS, POOL_AMOUNT, RISK_WEIGHT, ROWS,
+    SHORT_TERM, TRANCHES, TRANCHE_AMOUNT,
+};
 
 /// Values at which some field's rule changes, and the ends of 32, 63 and 64 bits.
-const EDGES: [u64; 38] = [
+const EDGES: &[u64] = &[
     0,
     1,
-    2,
-    3,
-    4,
-    5,
-    18,
-    19,
-    20,
-    21,
-    24,
-    25,
+    status::NOT_KNOWN,
+    status::TRANCHE,
+    FACTS,
+    FACTS + 1,
+    LONG_TERM.1,
+    LONG_TERM.1 + 1,
+    SHORT_TERM.0 - 1,
+    SHORT_TERM.0,
+    SHORT_TERM.1,
+    SHORT_TERM.1 + 1,
     TRANCHES - 1,
     TRANCHES,
     TRANCHES + 1,
@@ -53,7 +56,7 @@ pub fn apply(kind: Kind, random: &mut Random, layout: Layout, words: &mut Vec<u6
         Kind::WordsAdded => add_words(random, words),
         Kind::EdgeWord => set_edge(random, layout, words),
         Kind::Swapped => swap(random, layout, words),
-        Kind::PoolKind => set(words, Layout::POOL_KIND, random.between(1, 2)),
+        Kind::PoolKind => set(words, Layout::fact(Fact::PoolKind), random.between(1, 2)),
         Kind::SeveralDamages => {
             for _ in 0..random.between(2, 4) {
                 apply(one_damage(random), random, layout, words);
@@ -79,16 +82,8 @@ fn set(words: &mut [u64], place: usize, word: u64) {
 
 /// Cuts the sheet anywhere, or where a section begins or ends.
 fn truncate(random: &mut Random, layout: Layout, words: &mut Vec<u64>) {
-    let count = layout.tranche_count();
-    let special = [
-        0,
-        1,
-        Layout::POOL_COUNT,
-        Layout::POOL_COUNT + 1,
-        count,
-        count + 1,
-        layout.words() - 1,
-    ];
+    let around_counts = layout.counts().map(|count| [count, count + 1]);
+    let special = [around_counts.as_flattened(), &[layout.words() - 1]].concat();
     let length = match random.once_in(3) {
         true => random.pick(&special),
         false => random.below(words.len().max(1) as u64) as usize,
@@ -99,10 +94,10 @@ fn truncate(random: &mut Random, layout: Layout, words: &mut Vec<u64>) {
 /// Adds a few words; now and then so many that the sheet is longer than any sound one.
 fn add_words(random: &mut Random, words: &mut Vec<u64>) {
     let count = match random.once_in(40) {
-        true => FILE_BYTES / 8 + random.below(3) as usize - 1,
+        true => Layout::LARGEST.words() + random.below(3) as usize - 1,
         false => random.between(1, 8) as usize,
     };
-    words.extend((0..count).map(|_| random.pick(&EDGES)));
+    words.extend((0..count).map(|_| random.pick(EDGES)));
 }
 
 /// Draws the place of a word: each sort of field comes often, however many rows there are.
@@ -111,34 +106,26 @@ fn place(random: &mut Random, layout: Layout, words: &[u64]) -> usize {
     let tranche = layout.tranche(random.below(layout.tranches as u64) as usize);
     match random.below(12) {
         0 => Layout::FACTS_COUNT,
-        1 => Layout::POOL_KIND + random.below(4) as usize,
-        2 => Layout::POOL_COUNT,
+        1 => Layout::FACTS_COUNT + 1 + random.below(layout.facts as u64) as usize,
+        2 => layout.pool_count(),
         3 => layout.tranche_count(),
-        4..=6 => row + random.below(Layout::ROW_WORDS as u64) as usize,
-        7..=10 => tranche + random.below(Layout::TRANCHE_WORDS as u64) as usize,
+        4..=6 => row + random.below(RowWord::COUNT as u64) as usize,
+        7..=10 => tranche + random.below(TrancheWord::COUNT as u64) as usize,
         _ => random.below(words.len().max(1) as u64) as usize,
     }
 }
 
 /// The values at which the rule of the field at this place changes ("The deal sheet").
 fn own_edges(layout: Layout, place: usize) -> &'static [u64] {
-    let count = layout.tranche_count();
+    let of_row = |edges: &[&'static [u64]], first: usize| edges[(place - first) % edges.len()];
+    let [facts, pool, tranches] = layout.counts();
     match place {
-        Layout::FACTS_COUNT => &[0, 3, 4, 5],
-        Layout::POOL_KIND..Layout::POOL_COUNT => &[0, 1, 2, 3],
-        Layout::POOL_COUNT => &[0, 1, ROWS, ROWS + 1],
-        _ if place < count => match (place - layout.row(0)) % Layout::ROW_WORDS {
-            0 | 1 => &[0, 1, POOL_AMOUNT, POOL_AMOUNT + 1],
-            2 => &[0, RISK_WEIGHT, RISK_WEIGHT + 1],
-            _ => &[0, 1, 2, 3, 4],
-        },
-        _ if place == count => &[0, 1, TRANCHES, TRANCHES + 1],
-        _ => match (place - layout.tranche(0)) % Layout::TRANCHE_WORDS {
-            0 | Layout::HELD => &[0, 1, TRANCHE_AMOUNT, TRANCHE_AMOUNT + 1],
-            Layout::CLASS => &[0, 1, 2, TRANCHES + 1],
-            Layout::MONTHS => &[0, 1, MONTHS, MONTHS + 1],
-            _ => &[0, 1, 18, 19, 20, 21, 24, 25],
-        },
+        _ if place == facts => &[0, FACTS - 1, FACTS, FACTS + 1],
+        _ if place < pool => of_row(Fact::EDGES, facts + 1),
+        _ if place == pool => &[0, 1, ROWS, ROWS + 1],
+        _ if place < tranches => of_row(RowWord::EDGES, pool + 1),
+        _ if place == tranches => &[0, 1, TRANCHES, TRANCHES + 1],
+        _ => of_row(TrancheWord::EDGES, tranches + 1),
     }
 }
 
@@ -151,12 +138,13 @@ fn set_edge(random: &mut Random, layout: Layout, words: &mut [u64]) {
         0 => set(words, place, old.wrapping_add(1)),
         1 => set(words, place, old.wrapping_sub(1)),
         2 => {
-            let tranche = layout.tranche(random.below(layout.tranches as u64) as usize);
-            let amount = words.get(tranche).copied().unwrap_or(0);
-            set(words, tranche + Layout::HELD, amount.wrapping_add(1));
+            let tranche = random.below(layout.tranches as u64) as usize;
+            let amount = words.get(layout.tranche_word(tranche, TrancheWord::Amount));
+            let more = amount.copied().unwrap_or(0).wrapping_add(1);
+            set(words, layout.tranche_word(tranche, TrancheWord::Held), more);
         }
         3..=5 => set(words, place, random.pick(own_edges(layout, place))),
-        _ => set(words, place, random.pick(&EDGES)),
+        _ => set(words, place, random.pick(EDGES)),
     }
 }
 
@@ -174,15 +162,20 @@ fn swap(random: &mut Random, layout: Layout, words: &mut [u64]) {
 fn random_words(random: &mut Random, words: &mut Vec<u64>) {
     words.clear();
     if !random.once_in(4) {
-        let count = random.between(1, 3);
-        words.extend([4, 0, random.below(2), random.below(2), random.below(2), count]);
+        let rows = random.between(1, 3);
+        let mut facts = Facts::default();
+        for fact in [Fact::Resecuritisation, Fact::DueDiligence, Fact::Composition] {
+            facts[fact] = random.below(2);
+        }
+        facts.write(words);
+        words.push(rows);
     }
     let length = random.below(40);
     let sort = random.below(3);
     let mut draw = || match sort {
         0 => random.word(),
         1 => random.below(4),
-        _ => random.pick(&EDGES),
+        _ => random.pick(EDGES),
     };
     words.extend((0..length).map(|_| draw()));
 }
@@ -191,11 +184,35 @@ fn random_words(random: &mut Random, words: &mut Vec<u64>) {
 mod tests {
     use super::*;
 
+    /// An edge of a word's own is one of its rule: that of its name, in any row, and that of each count.
+    #[test]
+    fn edges_are_those_of_the_word() {
+        let layout = Layout {
+            facts: Fact::COUNT,
+            rows: 2,
+            tranches: 2,
+        };
+        let counts = layout.counts().map(|place| own_edges(layout, place)[2]);
+        assert_eq!(counts, [FACTS, ROWS, TRANCHES]);
+        let fact = own_edges(layout, Layout::fact(Fact::Composition));
+        assert_eq!(fact, Fact::EDGES[Fact::Composition as usize]);
+        for row in 0..2 {
+            let weight = own_edges(layout, layout.row(row) + RowWord::RiskWeight as usize);
+            assert_eq!(weight, [0, RISK_WEIGHT, RISK_WEIGHT + 1]);
+            let months = own_edges(layout, layout.tranche_word(row, TrancheWord::Months));
+            assert_eq!(months, [0, 1, MONTHS, MONTHS + 1]);
+        }
+    }
+
     /// Damage keeps to the words there are, whatever was cut before: no sheet makes it panic, and an empty one stays
     /// possible.
     #[test]
     fn several_damages_on_a_short_sheet() {
-        let layout = Layout { rows: 1, tranches: 1 };
+        let layout = Layout {
+            facts: Fact::COUNT,
+            rows: 1,
+            tranches: 1,
+        };
         let mut empty = false;
         for index in 0..5_000 {
             let mut random = Random::of_sheet(1, index);

@@ -1,5 +1,6 @@
 //! What the two sides may differ in, and a difference that was found.
 
+use crate::answer::LineWord;
 use std::fmt;
 
 /// The compared part in which the sides differ.
@@ -15,18 +16,8 @@ pub enum Part {
     Count,
     /// The pool charge, or a charge above 0 on a refusal.
     Charge,
-    /// A line's approach.
-    Approach,
-    /// A line's attachment point.
-    Attachment,
-    /// A line's detachment point.
-    Detachment,
-    /// A line's weight.
-    Weight,
-    /// A line's risk-weighted amount.
-    RiskWeighted,
-    /// A line's capital.
-    Capital,
+    /// A word of a line.
+    Line(LineWord),
     /// A word after the lines was written.
     AfterLines,
     /// A result word was written on a refusal.
@@ -50,12 +41,7 @@ impl fmt::Display for Part {
             Part::Place => "place",
             Part::Count => "tranche count",
             Part::Charge => "pool charge",
-            Part::Approach => "approach",
-            Part::Attachment => "attachment point",
-            Part::Detachment => "detachment point",
-            Part::Weight => "weight",
-            Part::RiskWeighted => "risk-weighted amount",
-            Part::Capital => "capital",
+            Part::Line(word) => word.name(),
             Part::AfterLines => "a word after the lines was written",
             Part::ResultsOnRefusal => "results were written on a refusal",
             Part::Text => "report text",

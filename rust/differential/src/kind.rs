@@ -89,8 +89,8 @@ impl Kind {
         (Kind::PoolKind, "pool kind 1 or 2", 1),
     ];
 
-    /// How many entries of the table, from its start, are kinds of sound sheets.
-    const SOUND: usize = 13;
+    /// How many entries of the table, from its start, are kinds of sound sheets: those up to the one at the limits.
+    const SOUND: usize = Kind::Limits as usize + 1;
 
     /// Draws a kind.
     pub fn draw(random: &mut Random) -> Kind {

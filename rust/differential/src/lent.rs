@@ -1,8 +1,8 @@
 //! The words lent for results. They are filled with a pattern before the call, so that afterwards every written word
 //! can be told from an untouched one.
 
+use crate::answer::LINE_WORDS;
 use crate::library::Reply;
-use crate::sheet::LINE_WORDS;
 
 /// Words after the lent ones that are looked at too: nothing may be written past the room.
 const GUARD: usize = 8;
@@ -56,6 +56,7 @@ impl Lent {
 #[cfg(test)]
 mod tests {
     use super::*;
+    use crate::answer::refusal;
 
     /// A reply with two lines.
     const REPLY: Reply = Reply::accepting(2, 5);
@@ -79,13 +80,13 @@ mod tests {
     #[test]
     fn lines_follow_the_reply() {
         let mut lent = Lent::default();
-        let lengths = [11, 12, 20].map(|room| {
+        let lengths = [2 * LINE_WORDS - 1, 2 * LINE_WORDS, 4 * LINE_WORDS].map(|room| {
             let reply = lent.lend(room, |_| REPLY);
             lent.lines_of(&reply).len()
         });
         assert_eq!(lengths, [1, 2, 2]);
         let mut refused = REPLY;
-        refused.number = 14;
+        refused.number = refusal::ROOM;
         assert!(lent.lines_of(&refused).is_empty());
     }
 

@@ -2,8 +2,10 @@
 
 use crate::random::Random;
 use crate::sheet::{
-    status, Deal, Facts, Row, Tranche, MONTHS, POOL_AMOUNT, RISK_WEIGHT, ROWS, TRANCHES, TRANCHE_AMOUNT,
+    status, Deal, Fact, Facts, Row, Tranche, LONG_TERM, MONTHS, POOL_AMOUNT, RISK_WEIGHT, ROWS, SHORT_TERM, TRANCHES,
+    TRANCHE_AMOUNT,
 };
+use std::array;
 
 /// At which end the words of one field are.
 #[derive(Clone, Copy)]
@@ -34,24 +36,22 @@ impl Ends {
 
 /// Fills the whole deal with words at the limits.
 pub fn fill(random: &mut Random, deal: &mut Deal) {
-    deal.facts = Facts {
-        pool_kind: 0,
-        resecuritisation: random.below(2),
-        due_diligence: u64::from(!random.once_in(4)),
-        composition: random.below(2),
-    };
+    deal.facts = Facts::default();
+    deal.facts[Fact::Resecuritisation] = random.below(2);
+    deal.facts[Fact::DueDiligence] = u64::from(!random.once_in(4));
+    deal.facts[Fact::Composition] = random.below(2);
     fill_rows(random, deal);
     fill_tranches(random, deal);
 }
 
-/// One row or 1,000 of them.
+/// One row or the most.
 fn fill_rows(random: &mut Random, deal: &mut Deal) {
     let count = random.pick(&[1, 1, 1, ROWS]);
-    let [exposures, nominals, weights, statuses] = [(); 4].map(|_| Ends::draw(random));
+    let [exposures, nominals, weights, statuses] = array::from_fn(|_| Ends::draw(random));
     deal.rows.clear();
     for _ in 0..count {
         let ordinary = statuses.word(random, status::PAYING, status::NOT_KNOWN);
-        let resecuritisation = deal.facts.resecuritisation == 1;
+        let resecuritisation = deal.is_resecuritisation();
         deal.rows.push(Row {
             exposure: exposures.word(random, 1, POOL_AMOUNT),
             nominal: nominals.word(random, 1, POOL_AMOUNT),
@@ -61,10 +61,10 @@ fn fill_rows(random: &mut Random, deal: &mut Deal) {
     }
 }
 
-/// One tranche or 32 of them; the lowest class is the one before, the highest one more.
+/// One tranche or the most; the lowest class is the one before, the highest one more.
 fn fill_tranches(random: &mut Random, deal: &mut Deal) {
     let count = random.pick(&[1, TRANCHES]);
-    let [amounts, classes, months, held, ratings] = [(); 5].map(|_| Ends::draw(random));
+    let [amounts, classes, months, held, ratings] = array::from_fn(|_| Ends::draw(random));
     deal.tranches.clear();
     let mut class = 1;
     for _ in 0..count {
@@ -74,7 +74,7 @@ fn fill_tranches(random: &mut Random, deal: &mut Deal) {
             class,
             months: months.word(random, 1, MONTHS),
             held: held.word(random, 0, amount),
-            ratings: [(); 3].map(|_| rating(ratings, random)),
+            ratings: array::from_fn(|_| rating(ratings, random)),
         });
         class = classes.word(random, class, class + 1);
     }
@@ -84,7 +84,7 @@ fn fill_tranches(random: &mut Random, deal: &mut Deal) {
 fn rating(ends: Ends, random: &mut Random) -> u64 {
     match ends {
         Ends::Low => 0,
-        Ends::High => 24,
-        Ends::Either => random.pick(&[0, 1, 18, 21, 24]),
+        Ends::High => SHORT_TERM.1,
+        Ends::Either => random.pick(&[0, LONG_TERM.0, LONG_TERM.1, SHORT_TERM.0, SHORT_TERM.1]),
     }
 }

@@ -119,9 +119,14 @@ impl Statuses {
     fn status(self, random: &mut Random) -> u64 {
         match self {
             Statuses::All(status) => status,
-            Statuses::SomeLate => u64::from(random.once_in(6)),
-            Statuses::SomeUnknown => random.below(30).saturating_sub(27),
-            Statuses::Any => random.below(3),
+            Statuses::SomeLate if random.once_in(6) => status::DELINQUENT,
+            Statuses::SomeLate => status::PAYING,
+            Statuses::SomeUnknown => match random.below(30) {
+                28 => status::DELINQUENT,
+                29 => status::NOT_KNOWN,
+                _ => status::PAYING,
+            },
+            Statuses::Any => random.pick(&[status::PAYING, status::DELINQUENT, status::NOT_KNOWN]),
         }
     }
 }
@@ -143,7 +148,7 @@ pub fn fill(kind: Kind, random: &mut Random, deal: &mut Deal) {
     let nominals = Amounts::draw(kind, random);
     let alike = !random.once_in(3);
     let weights = Weights::draw(kind, random);
-    let statuses = Statuses::draw(kind, deal.facts.resecuritisation == 1, random);
+    let statuses = Statuses::draw(kind, deal.is_resecuritisation(), random);
     deal.rows.clear();
     for _ in 0..row_count(kind, random) {
         let exposure = exposures.amount(random);

@@ -1,10 +1,10 @@
 //! The second sheet: its answer is known from the first sheet's.
 
+use crate::answer::LINE_WORDS;
 use crate::case::Case;
 use crate::difference::{Difference, Part};
 use crate::lent::Lent;
 use crate::library::{Library, Reply};
-use crate::sheet::LINE_WORDS;
 
 /// A reply with the lines that were written.
 type Weighed = (Reply, Vec<[u64; LINE_WORDS]>);
@@ -62,15 +62,16 @@ pub fn cap_decided(deal: &independent::Deal, case: &Case) -> bool {
 #[cfg(test)]
 mod tests {
     use super::*;
+    use crate::answer::LineWord;
     use crate::kind::Relation;
-    use crate::sheet::Layout;
+    use crate::sheet::{Layout, RowWord, TrancheWord};
 
     /// The proved library, with the pool's first exposure added to the charge: right sums, but the order of rows
     /// matters.
     fn order_matters(sheet: &[u64], results: &mut [u64]) -> Reply {
         let mut reply = (Library::PROVED.weigh)(sheet, results);
         if reply.number == 0 {
-            reply.charge += sheet[Layout::POOL_COUNT + 1];
+            reply.charge += Layout::of_sheet(sheet).pool(sheet)[0][RowWord::Exposure as usize];
         }
         reply
     }
@@ -79,13 +80,13 @@ mod tests {
     fn ratings_matter(sheet: &[u64], results: &mut [u64]) -> Reply {
         let reply = (Library::PROVED.weigh)(sheet, results);
         let layout = Layout::of_sheet(sheet);
-        let ratings = |tranche| layout.tranche(tranche) + Layout::RATINGS..layout.tranche(tranche + 1);
+        let ratings = |tranche| layout.tranche_word(tranche, TrancheWord::FirstRating)..layout.tranche(tranche + 1);
         let sum: u64 = (0..layout.tranches)
             .map(|tranche| sheet[ratings(tranche)].iter().sum::<u64>())
             .sum();
         let (lines, _) = results.as_chunks_mut::<LINE_WORDS>();
         let written = lines.iter_mut().take(reply.count as usize);
-        written.for_each(|line| line[1] += sum);
+        written.for_each(|line| line[LineWord::Attachment as usize] += sum);
         reply
     }
 

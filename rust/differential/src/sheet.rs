@@ -1,5 +1,7 @@
 //! The deal sheet, by "The deal sheet" of document 01: what it holds, and the places of its words.
 
+use std::ops::{Index, IndexMut};
+
 /// The highest pool amount, exposure or nominal.
 pub const POOL_AMOUNT: u64 = 10_000_000_000;
 /// The highest risk weight of a pool row, in percent.
@@ -12,14 +14,105 @@ pub const TRANCHE_AMOUNT: u64 = 10_000_000_000_000;
 pub const MONTHS: u64 = 1_200;
 /// The most tranches.
 pub const TRANCHES: u64 = 32;
+/// The most facts; the fewest are as many.
+pub const FACTS: u64 = Fact::COUNT as u64;
+/// The first and the last rating code of the long-term grades.
+pub const LONG_TERM: (u64, u64) = (1, 18);
+/// The first and the last rating code of the short-term grades.
+pub const SHORT_TERM: (u64, u64) = (21, 24);
 /// The whole of a share: points and charges are counted in millionths.
 pub const WHOLE: u64 = 1_000_000;
-/// The longest file that is read, in bytes: 1,000 rows and 32 tranches.
-pub const FILE_BYTES: usize = 33_848;
-/// Result words for each tranche.
-pub const LINE_WORDS: usize = 6;
-/// Result words for the most tranches.
-pub const MOST_RESULTS: usize = LINE_WORDS * TRANCHES as usize;
+/// The bytes of a word in a file.
+pub const WORD_BYTES: usize = 8;
+/// The longest file that is read, in bytes: the most facts, rows and tranches.
+pub const FILE_BYTES: usize = WORD_BYTES * Layout::LARGEST.words();
+
+/// Makes the enum of the words of a section's row, by their places in it, with the values at which the rule of each
+/// changes.
+macro_rules! row_words {
+    ($(#[$doc:meta])* $name:ident { $($(#[$word_doc:meta])* $word:ident: $edges:expr,)+ }) => {
+        $(#[$doc])*
+        #[derive(Debug, Clone, Copy, PartialEq, Eq)]
+        pub enum $name {
+            $($(#[$word_doc])* $word),+
+        }
+
+        impl $name {
+            /// The values at which the rule of each word changes, by the words' places.
+            pub const EDGES: &'static [&'static [u64]] = &[$($edges),+];
+            /// How many words there are.
+            pub const COUNT: usize = Self::EDGES.len();
+        }
+    };
+}
+
+/// The values at which the rule of a fact changes.
+const FACT_EDGES: &[u64] = &[0, 1, 2, 3];
+
+row_words! {
+    /// The facts of a deal.
+    Fact {
+        /// 0 SA, 1 IRB, 2 mixed.
+        PoolKind: FACT_EDGES,
+        /// 1 for a re-securitisation.
+        Resecuritisation: FACT_EDGES,
+        /// 1 where due diligence is held.
+        DueDiligence: FACT_EDGES,
+        /// 1 where the pool's composition is known.
+        Composition: FACT_EDGES,
+    }
+}
+
+row_words! {
+    /// The words of a pool row.
+    RowWord {
+        /// Exposure amount.
+        Exposure: &[0, 1, POOL_AMOUNT, POOL_AMOUNT + 1],
+        /// Nominal amount.
+        Nominal: &[0, 1, POOL_AMOUNT, POOL_AMOUNT + 1],
+        /// Risk weight in whole percent.
+        RiskWeight: &[0, RISK_WEIGHT, RISK_WEIGHT + 1],
+        /// Status code.
+        Status: &[0, 1, 2, 3, 4],
+    }
+}
+
+/// The values at which the rule of a tranche amount changes.
+const TRANCHE_AMOUNT_EDGES: &[u64] = &[0, 1, TRANCHE_AMOUNT, TRANCHE_AMOUNT + 1];
+/// The values at which the rule of a rating changes.
+const RATING_EDGES: &[u64] = &[
+    0,
+    LONG_TERM.0,
+    LONG_TERM.1,
+    LONG_TERM.1 + 1,
+    SHORT_TERM.0 - 1,
+    SHORT_TERM.0,
+    SHORT_TERM.1,
+    SHORT_TERM.1 + 1,
+];
+
+row_words! {
+    /// The words of a tranche.
+    TrancheWord {
+        /// Amount.
+        Amount: TRANCHE_AMOUNT_EDGES,
+        /// Class, 1 for the senior one.
+        Class: &[0, 1, 2, TRANCHES + 1],
+        /// Final legal maturity in months.
+        Months: &[0, 1, MONTHS, MONTHS + 1],
+        /// Amount held.
+        Held: TRANCHE_AMOUNT_EDGES,
+        /// The first rating.
+        FirstRating: RATING_EDGES,
+        /// The second rating.
+        SecondRating: RATING_EDGES,
+        /// The third rating.
+        ThirdRating: RATING_EDGES,
+    }
+}
+
+/// The rating words of a tranche.
+pub const RATINGS: usize = TrancheWord::ThirdRating as usize - TrancheWord::FirstRating as usize + 1;
 
 /// The status codes of a pool row.
 pub mod status {
@@ -31,19 +124,42 @@ pub mod status {
     pub const NOT_KNOWN: u64 = 2;
     /// A securitisation tranche: every row of a re-securitisation.
     pub const TRANCHE: u64 = 3;
+
+    /// All codes with their names, in their order from 0.
+    pub const TABLE: &[(u64, &str)] = &[
+        (PAYING, "paying"),
+        (DELINQUENT, "delinquent"),
+        (NOT_KNOWN, "not known"),
+        (TRANCHE, "a tranche"),
+    ];
 }
 
-/// The facts of a deal, as words.
+/// The facts of a deal, as words: the pool kind SA and every answer no, until they are set.
 #[derive(Debug, Clone, Copy, Default)]
-pub struct Facts {
-    /// 0 SA, 1 IRB, 2 mixed.
-    pub pool_kind: u64,
-    /// 1 for a re-securitisation.
-    pub resecuritisation: u64,
-    /// 1 where due diligence is held.
-    pub due_diligence: u64,
-    /// 1 where the pool's composition is known.
-    pub composition: u64,
+pub struct Facts([u64; Fact::COUNT]);
+
+impl Index<Fact> for Facts {
+    type Output = u64;
+
+    /// The word of a fact.
+    fn index(&self, fact: Fact) -> &u64 {
+        &self.0[fact as usize]
+    }
+}
+
+impl IndexMut<Fact> for Facts {
+    /// The word of a fact, to be set.
+    fn index_mut(&mut self, fact: Fact) -> &mut u64 {
+        &mut self.0[fact as usize]
+    }
+}
+
+impl Facts {
+    /// Adds the section of the facts: their count, then their words.
+    pub fn write(&self, words: &mut Vec<u64>) {
+        words.push(self.0.len() as u64);
+        words.extend(self.0);
+    }
 }
 
 /// A row of the pool.
@@ -59,6 +175,13 @@ pub struct Row {
     pub status: u64,
 }
 
+impl Row {
+    /// The row's words, in their order.
+    fn words(&self) -> [u64; RowWord::COUNT] {
+        [self.exposure, self.nominal, self.risk_weight, self.status]
+    }
+}
+
 /// A row of the tranches.
 #[derive(Debug, Clone, Copy)]
 pub struct Tranche {
@@ -70,8 +193,8 @@ pub struct Tranche {
     pub months: u64,
     /// Amount held.
     pub held: u64,
-    /// The three rating words.
-    pub ratings: [u64; 3],
+    /// The rating words.
+    pub ratings: [u64; RATINGS],
 }
 
 impl Tranche {
@@ -81,8 +204,14 @@ impl Tranche {
         class: 1,
         months: 1,
         held: 0,
-        ratings: [0; 3],
+        ratings: [0; RATINGS],
     };
+
+    /// The tranche's words, in their order.
+    fn words(&self) -> [u64; TrancheWord::COUNT] {
+        let [first, second, third] = self.ratings;
+        [self.amount, self.class, self.months, self.held, first, second, third]
+    }
 }
 
 /// A deal from which a sheet is written.
@@ -102,9 +231,15 @@ impl Deal {
         self.rows.iter().map(|row| row.nominal).sum()
     }
 
+    /// Whether the deal is a re-securitisation.
+    pub fn is_resecuritisation(&self) -> bool {
+        self.facts[Fact::Resecuritisation] == 1
+    }
+
     /// The places of the sheet's words.
     pub fn layout(&self) -> Layout {
         Layout {
+            facts: Fact::COUNT,
             rows: self.rows.len(),
             tranches: self.tranches.len(),
         }
@@ -112,30 +247,20 @@ impl Deal {
 
     /// Writes the sheet's words over what the list holds.
     pub fn write(&self, words: &mut Vec<u64>) {
-        let facts = &self.facts;
         words.clear();
-        words.extend([
-            4,
-            facts.pool_kind,
-            facts.resecuritisation,
-            facts.due_diligence,
-            facts.composition,
-        ]);
+        self.facts.write(words);
         words.push(self.rows.len() as u64);
-        for row in &self.rows {
-            words.extend([row.exposure, row.nominal, row.risk_weight, row.status]);
-        }
+        words.extend(self.rows.iter().flat_map(Row::words));
         words.push(self.tranches.len() as u64);
-        for tranche in &self.tranches {
-            words.extend([tranche.amount, tranche.class, tranche.months, tranche.held]);
-            words.extend(tranche.ratings);
-        }
+        words.extend(self.tranches.iter().flat_map(Tranche::words));
     }
 }
 
-/// The places of the words of a sheet with so many rows and tranches.
+/// The places of the words of a sheet with so many facts, rows and tranches.
 #[derive(Debug, Clone, Copy, PartialEq, Eq)]
 pub struct Layout {
+    /// How many facts.
+    pub facts: usize,
     /// How many pool rows.
     pub rows: usize,
     /// How many tranches.
@@ -143,54 +268,71 @@ pub struct Layout {
 }
 
 impl Layout {
+    /// The places of the largest sheet.
+    pub const LARGEST: Layout = Layout {
+        facts: Fact::COUNT,
+        rows: ROWS as usize,
+        tranches: TRANCHES as usize,
+    };
+
     /// The place of the count of facts.
     pub const FACTS_COUNT: usize = 0;
-    /// The place of the first fact, the pool kind.
-    pub const POOL_KIND: usize = 1;
-    /// The place of the re-securitisation fact.
-    pub const RESECURITISATION: usize = 2;
-    /// The place of the fact whether the pool's composition is known.
-    pub const COMPOSITION: usize = 4;
-    /// The place of the count of pool rows.
-    pub const POOL_COUNT: usize = 5;
-    /// Words of a pool row.
-    pub const ROW_WORDS: usize = 4;
-    /// Words of a tranche.
-    pub const TRANCHE_WORDS: usize = 7;
-    /// Where a tranche's words hold its class.
-    pub const CLASS: usize = 1;
-    /// Where a tranche's words hold its maturity.
-    pub const MONTHS: usize = 2;
-    /// Where a tranche's words hold the amount held.
-    pub const HELD: usize = 3;
-    /// Where a tranche's words begin to hold its ratings.
-    pub const RATINGS: usize = 4;
 
     /// The places of a sheet that has its counts right, as every accepted sheet has.
     pub fn of_sheet(sheet: &[u64]) -> Layout {
-        let rows = sheet[Layout::POOL_COUNT] as usize;
-        let tranches = sheet[Layout::POOL_COUNT + 1 + Layout::ROW_WORDS * rows] as usize;
-        Layout { rows, tranches }
+        let mut layout = Layout {
+            facts: sheet[Layout::FACTS_COUNT] as usize,
+            rows: 0,
+            tranches: 0,
+        };
+        layout.rows = sheet[layout.pool_count()] as usize;
+        layout.tranches = sheet[layout.tranche_count()] as usize;
+        layout
+    }
+
+    /// The place of a fact.
+    pub const fn fact(fact: Fact) -> usize {
+        Layout::FACTS_COUNT + 1 + fact as usize
+    }
+
+    /// The place of the count of pool rows.
+    pub const fn pool_count(&self) -> usize {
+        Layout::FACTS_COUNT + 1 + self.facts
     }
 
     /// The place of a row's first word; rows are counted from 0.
-    pub fn row(&self, row: usize) -> usize {
-        Layout::POOL_COUNT + 1 + Layout::ROW_WORDS * row
+    pub const fn row(&self, row: usize) -> usize {
+        self.pool_count() + 1 + RowWord::COUNT * row
     }
 
     /// The place of the count of tranches.
-    pub fn tranche_count(&self) -> usize {
+    pub const fn tranche_count(&self) -> usize {
         self.row(self.rows)
     }
 
     /// The place of a tranche's first word; tranches are counted from 0.
-    pub fn tranche(&self, tranche: usize) -> usize {
-        self.tranche_count() + 1 + Layout::TRANCHE_WORDS * tranche
+    pub const fn tranche(&self, tranche: usize) -> usize {
+        self.tranche_count() + 1 + TrancheWord::COUNT * tranche
+    }
+
+    /// The place of a word of a tranche.
+    pub const fn tranche_word(&self, tranche: usize, word: TrancheWord) -> usize {
+        self.tranche(tranche) + word as usize
+    }
+
+    /// The places of the sections' counts, in their order.
+    pub const fn counts(&self) -> [usize; 3] {
+        [Layout::FACTS_COUNT, self.pool_count(), self.tranche_count()]
     }
 
     /// How many words the sheet has.
-    pub fn words(&self) -> usize {
+    pub const fn words(&self) -> usize {
         self.tranche(self.tranches)
+    }
+
+    /// The rows of a sheet with these places.
+    pub fn pool<'a>(&self, sheet: &'a [u64]) -> &'a [[u64; RowWord::COUNT]] {
+        sheet[self.row(0)..self.tranche_count()].as_chunks().0
     }
 }
 
@@ -221,6 +363,89 @@ mod tests {
         deal.write(&mut words);
         assert_eq!(deal.layout().words(), words.len());
         assert_eq!(Layout::of_sheet(&words), deal.layout());
-        assert_eq!(file_form(&words).len(), FILE_BYTES);
+        assert_eq!(deal.layout(), Layout::LARGEST);
+        assert_eq!((file_form(&words).len(), FILE_BYTES), (33_848, 33_848));
+    }
+
+    /// Facts, a row's words and a tranche's words stand in document 01's order.
+    #[test]
+    fn words_stand_in_their_order() {
+        let facts = [
+            Fact::PoolKind,
+            Fact::Resecuritisation,
+            Fact::DueDiligence,
+            Fact::Composition,
+        ];
+        let mut deal = Deal::default();
+        (10..).zip(facts).for_each(|(word, fact)| deal.facts[fact] = word);
+        deal.rows.push(Row {
+            exposure: 20,
+            nominal: 21,
+            risk_weight: 22,
+            status: 23,
+        });
+        deal.tranches.push(Tranche {
+            amount: 30,
+            class: 31,
+            months: 32,
+            held: 33,
+            ratings: [34, 35, 36],
+        });
+        let mut words = Vec::new();
+        deal.write(&mut words);
+        assert_eq!(words[..10], [4, 10, 11, 12, 13, 1, 20, 21, 22, 23]);
+        assert_eq!(words[10..], [1, 30, 31, 32, 33, 34, 35, 36]);
+        assert_eq!(facts.map(|fact| words[Layout::fact(fact)]), [10, 11, 12, 13]);
+    }
+
+    /// A sheet with so many facts, two rows and two tranches; every word but the counts is its place.
+    fn places_with(facts: usize) -> (Layout, Vec<u64>) {
+        let layout = Layout {
+            facts,
+            rows: 2,
+            tranches: 2,
+        };
+        let mut words: Vec<u64> = (0..layout.words() as u64).collect();
+        let counts = [layout.facts, layout.rows, layout.tranches];
+        for (place, count) in layout.counts().into_iter().zip(counts) {
+            words[place] = count as u64;
+        }
+        (layout, words)
+    }
+
+    /// The sections follow one another, whatever count of facts the sheet states, and the names of words are those of
+    /// their places.
+    #[test]
+    fn sections_follow_the_count_of_facts() {
+        let row_words = [
+            RowWord::Exposure,
+            RowWord::Nominal,
+            RowWord::RiskWeight,
+            RowWord::Status,
+        ];
+        let tranche_words = [
+            TrancheWord::Amount,
+            TrancheWord::Class,
+            TrancheWord::Months,
+            TrancheWord::Held,
+            TrancheWord::FirstRating,
+            TrancheWord::SecondRating,
+            TrancheWord::ThirdRating,
+        ];
+        for facts in 1..9 {
+            let (layout, words) = places_with(facts);
+            assert_eq!(Layout::of_sheet(&words), layout);
+            let after_facts = |places: usize| (facts + places) as u64;
+            let row = row_words.map(|word| layout.pool(&words)[1][word as usize]);
+            assert_eq!(row, [6, 7, 8, 9].map(after_facts));
+            let tranche = tranche_words.map(|word| words[layout.tranche_word(1, word)]);
+            assert_eq!(tranche, [18, 19, 20, 21, 22, 23, 24].map(after_facts));
+        }
+    }
+
+    /// Statuses are counted by their codes, so the table must follow them.
+    #[test]
+    fn table_follows_the_codes() {
+        assert!((0..).zip(status::TABLE).all(|(code, entry)| entry.0 == code));
     }
 }

@@ -1,12 +1,12 @@
 //! A sheet and what each side says to it, in full, as text.
 
+use crate::answer::MOST_RESULTS;
 use crate::case::Case;
 use crate::difference::Part;
 use crate::kind::{File, Relation};
 use crate::lent::Lent;
 use crate::library::{Library, Reply};
 use crate::run::Found;
-use crate::sheet::MOST_RESULTS;
 use crate::words::due;
 use independent::{Deal, Refusal};
 

@@ -1,9 +1,10 @@
 //! What a run went through, counted, and what of it must occur for the run to count as one.
 
+use crate::answer::{refusal, Approach, LineWord};
 use crate::case::Case;
 use crate::kind::{File, Kind, Relation, Room};
 use crate::lent::Lent;
-use crate::sheet::{status, Layout, FILE_BYTES};
+use crate::sheet::{status, Fact, Layout, RowWord, TrancheWord, FILE_BYTES, WORD_BYTES};
 use independent::{Deal, Line, Refusal};
 use std::fmt;
 
@@ -59,11 +60,11 @@ impl Feature {
 pub enum FileFeature {
     /// Accepted.
     Accepted,
-    /// Refused by its words: 1 to 13.
+    /// Refused by its words.
     WordsRefused,
-    /// Refused for too little room: 14.
+    /// Refused for too little room.
     RoomRefused,
-    /// A length that is no multiple of 8.
+    /// A length that is no multiple of a word's bytes.
     PartOfWord,
     /// The longest length that is read.
     Longest,
@@ -87,17 +88,15 @@ impl FileFeature {
         let number = answer.as_ref().map_or_else(|refusal| refusal.number, |_| 0);
         match self {
             FileFeature::Accepted => number == 0,
-            FileFeature::WordsRefused => (1..=13).contains(&number),
-            FileFeature::RoomRefused => number == 14,
-            FileFeature::PartOfWord => !file.len().is_multiple_of(8),
+            FileFeature::WordsRefused => refusal::is_of_words(number),
+            FileFeature::RoomRefused => number == refusal::ROOM,
+            FileFeature::PartOfWord => !file.len().is_multiple_of(WORD_BYTES),
             FileFeature::Longest => file.len() == FILE_BYTES,
-            FileFeature::OneWordLonger => file.len() == FILE_BYTES + 8,
+            FileFeature::OneWordLonger => file.len() == FILE_BYTES + WORD_BYTES,
         }
     }
 }
 
-/// The number of SEC-SA among the approaches.
-const SEC_SA: u64 = 2;
 /// The highest weight.
 const HIGHEST_WEIGHT: u64 = 125_000;
 
@@ -117,11 +116,11 @@ struct Terms {
 impl Terms {
     /// The terms of a tranche of an accepted sheet.
     fn of_tranche(sheet: &[u64], tranche: usize) -> Terms {
-        let class = sheet[Layout::of_sheet(sheet).tranche(tranche) + Layout::CLASS];
-        let ordinary = sheet[Layout::RESECURITISATION] == 0;
+        let class = sheet[Layout::of_sheet(sheet).tranche_word(tranche, TrancheWord::Class)];
+        let ordinary = sheet[Layout::fact(Fact::Resecuritisation)] == 0;
         Terms {
             ordinary,
-            capped: ordinary && class == 1 && sheet[Layout::COMPOSITION] == 1,
+            capped: ordinary && class == 1 && sheet[Layout::fact(Fact::Composition)] == 1,
         }
     }
 }
@@ -130,7 +129,7 @@ impl Terms {
 /// from the line alone.
 fn shows(feature: Feature, charge: u64, line: &Line, terms: &Terms) -> bool {
     let weight = line.amounts[0].weight;
-    let standardised = line.approach == SEC_SA;
+    let standardised = line.approach == Approach::SecSa.word();
     let formula = standardised && line.detachment > charge;
     // Where two neighbouring raw weights give one weight and there is no cap, the lower of them is below the floor.
     let floored = formula && !terms.capped && line.amounts.len() == 1;
@@ -138,7 +137,7 @@ fn shows(feature: Feature, charge: u64, line: &Line, terms: &Terms) -> bool {
         Feature::OrdinaryFloor => floored && terms.ordinary && weight == ORDINARY_FLOOR,
         Feature::ResecuritisationFloor => floored && !terms.ordinary && weight == RESECURITISATION_FLOOR,
         Feature::CapDecided | Feature::UnknownAtLimit => false,
-        Feature::CapBelowFloor => terms.capped && line.approach != 0 && weight < ORDINARY_FLOOR,
+        Feature::CapBelowFloor => terms.capped && line.approach != Approach::Fallback.word() && weight < ORDINARY_FLOOR,
         Feature::BelowCharge => standardised && line.detachment <= charge && weight == HIGHEST_WEIGHT,
         Feature::ZeroCharge => formula && charge == 0,
         Feature::ZeroChargeAndPoint => standardised && charge == 0 && line.detachment == 0,
@@ -162,10 +161,10 @@ fn names() -> Vec<String> {
     names.extend(File::TABLE.map(|(_, name, _)| format!("file: {name}")));
     names.extend(Relation::TABLE.map(|(_, name, _)| format!("second sheet: {name}")));
     names.push("accepted".to_string());
-    names.extend((1..16).map(|number| format!("refusal {number}")));
-    names.extend(["fallback", "SEC-ERBA", "SEC-SA"].map(|name| format!("lines: {name}")));
-    let statuses = ["0, paying", "1, delinquent", "2, not known", "3, a tranche"];
-    names.extend(statuses.map(|name| format!("accepted with status {name}")));
+    names.extend(refusal::MET.iter().map(|number| format!("refusal {number}")));
+    names.extend(Approach::TABLE.iter().map(|(_, name)| format!("lines: {name}")));
+    let statuses = status::TABLE.iter();
+    names.extend(statuses.map(|(code, name)| format!("accepted with status {code}, {name}")));
     names.extend(Feature::TABLE.map(|(_, name)| name.to_string()));
     names.extend(FileFeature::TABLE.map(|(_, name)| name.to_string()));
     names
@@ -182,12 +181,14 @@ pub struct Tally {
     pub files: [u64; File::TABLE.len()],
     /// Sheets with each sort of second sheet, where it was compared.
     pub relations: [u64; Relation::TABLE.len()],
-    /// Refusals by number: 1 to 14 of sheets, 15 of files. Place 0 counts the accepted sheets.
-    pub refusals: [u64; 16],
+    /// Accepted sheets.
+    pub accepted: u64,
+    /// Refusals, in the order of their list: of a bad length, files; else sheets.
+    pub refusals: [u64; refusal::MET.len()],
     /// Lines by approach.
-    pub approaches: [u64; 3],
+    pub approaches: [u64; Approach::TABLE.len()],
     /// Accepted sheets with a row of each status.
-    pub statuses: [u64; 4],
+    pub statuses: [u64; status::TABLE.len()],
     /// Lines that show each feature; sheets, for the cap that decided and for the unknown exposure.
     pub features: [u64; Feature::TABLE.len()],
     /// Files that show each feature.
@@ -204,23 +205,22 @@ impl Tally {
         self.files[case.file_kind as usize] += 1;
         match answer {
             Ok(deal) => {
-                self.refusals[0] += 1;
+                self.accepted += 1;
                 self.note_pool(&case.sheet);
                 self.note_lines(&case.sheet, deal, lent);
             }
-            Err(refusal) => self.refusals[refusal.number as usize] += 1,
+            Err(refused) => self.refusals[refusal::place(refused.number)] += 1,
         }
     }
 
     /// Notes the pool of an accepted sheet: which statuses it has, and whether the unknown exposure is 5% of all
     /// ("Points and pool charge").
     fn note_pool(&mut self, sheet: &[u64]) {
-        let layout = Layout::of_sheet(sheet);
-        let (rows, _) = sheet[layout.row(0)..layout.tranche_count()].as_chunks::<{ Layout::ROW_WORDS }>();
-        let (mut exposures, mut present) = ([0; 4], [0; 4]);
-        for &[exposure, _, _, code] in rows {
-            exposures[code as usize] += exposure;
-            present[code as usize] = 1;
+        let [mut exposures, mut present] = [[0; status::TABLE.len()]; 2];
+        for row in Layout::of_sheet(sheet).pool(sheet) {
+            let code = row[RowWord::Status as usize] as usize;
+            exposures[code] += row[RowWord::Exposure as usize];
+            present[code] = 1;
         }
         add(&mut self.statuses, &present);
         let at_limit = 20 * exposures[status::NOT_KNOWN as usize] == exposures.iter().sum::<u64>();
@@ -237,14 +237,18 @@ impl Tally {
                 *count += u64::from(shows(feature, deal.charge, line, &terms));
             }
             let higher = line.amounts.get(1).map(|amounts| amounts.weight);
-            self.higher_taken += u64::from(higher == Some(words[3]));
+            self.higher_taken += u64::from(higher == Some(words[LineWord::Weight as usize]));
         }
     }
 
-    /// Notes a file whose answers were found equal. Of its refusals, 15 alone is counted by its number.
+    /// Notes a file whose answers were found equal. Of its refusals, that of its length alone is counted by its number.
     pub fn note_file(&mut self, file: &[u8], answer: &Result<Deal, Refusal>) {
-        if let Err(Refusal { number: 15, .. }) = answer {
-            self.refusals[15] += 1;
+        if let Err(Refusal {
+            number: refusal::FILE_LENGTH,
+            ..
+        }) = answer
+        {
+            self.refusals[refusal::place(refusal::FILE_LENGTH)] += 1;
         }
         for (count, (feature, _)) in self.file_features.iter_mut().zip(FileFeature::TABLE) {
             *count += u64::from(feature.shown(file, answer));
@@ -267,6 +271,7 @@ impl Tally {
         add(&mut self.rooms, &other.rooms);
         add(&mut self.files, &other.files);
         add(&mut self.relations, &other.relations);
+        self.accepted += other.accepted;
         add(&mut self.refusals, &other.refusals);
         add(&mut self.approaches, &other.approaches);
         add(&mut self.statuses, &other.statuses);
@@ -277,11 +282,12 @@ impl Tally {
 
     /// The counts of what must occur, in the order of their names.
     fn counts(&self) -> Vec<u64> {
-        let groups: [&[u64]; 9] = [
+        let groups: &[&[u64]] = &[
             &self.kinds,
             &self.rooms,
             &self.files,
             &self.relations,
+            &[self.accepted],
             &self.refusals,
             &self.approaches,
             &self.statuses,
@@ -349,14 +355,18 @@ mod tests {
             };
             let mut tally = Tally::default();
             tally.note_file(&vec![0; length], &answer);
-            (tally.file_features, tally.refusals[15])
+            (
+                tally.file_features,
+                tally.refusals[refusal::place(refusal::FILE_LENGTH)],
+            )
         };
         assert_eq!(counts(144, 0), ([1, 0, 0, 0, 0, 0], 0));
         assert_eq!(counts(0, 1), ([0, 1, 0, 0, 0, 0], 0));
-        assert_eq!(counts(33_848, 13), ([0, 1, 0, 0, 1, 0], 0));
-        assert_eq!(counts(144, 14), ([0, 0, 1, 0, 0, 0], 0));
-        assert_eq!(counts(33_847, 15), ([0, 0, 0, 1, 0, 0], 1));
-        assert_eq!(counts(33_856, 15), ([0, 0, 0, 0, 0, 1], 1));
+        assert_eq!(counts(FILE_BYTES, refusal::THIN), ([0, 1, 0, 0, 1, 0], 0));
+        assert_eq!(counts(144, refusal::ROOM), ([0, 0, 1, 0, 0, 0], 0));
+        assert_eq!(counts(FILE_BYTES - 1, refusal::FILE_LENGTH), ([0, 0, 0, 1, 0, 0], 1));
+        let longer = FILE_BYTES + WORD_BYTES;
+        assert_eq!(counts(longer, refusal::FILE_LENGTH), ([0, 0, 0, 0, 0, 1], 1));
     }
 
     /// Each count that must occur has a name.
@@ -367,7 +377,7 @@ mod tests {
 
     /// The counts of statuses and of an unknown exposure of 5% after one sheet, whose rows have these exposures and
     /// statuses.
-    fn pool_counts(rows: &[(u64, u64)]) -> ([u64; 4], u64) {
+    fn pool_counts(rows: &[(u64, u64)]) -> ([u64; status::TABLE.len()], u64) {
         let mut deal = crate::sheet::Deal::default();
         deal.rows.extend(rows.iter().map(|&(exposure, status)| Row {
             exposure,
@@ -395,14 +405,14 @@ mod tests {
     /// 0 and a rated one do not.
     #[test]
     fn thin_lines_above_the_charge_are_counted() {
-        let thin = |approach, charge, attachment, detachment| {
+        let thin = |approach: Approach, charge, attachment, detachment| {
             let amounts = vec![independent::Amounts {
                 weight: 1_500,
                 risk_weighted: 0,
                 capital: 0,
             }];
             let line = Line {
-                approach,
+                approach: approach.word(),
                 attachment,
                 detachment,
                 amounts,
@@ -413,9 +423,10 @@ mod tests {
             };
             shows(Feature::ThinAboveCharge, charge, &line, &terms)
         };
-        assert!(thin(SEC_SA, 50, 50, 51) && thin(SEC_SA, 50, 60, 61));
-        assert!(!thin(SEC_SA, 50, 49, 50) && !thin(SEC_SA, 50, 60, 62));
-        assert!(!thin(SEC_SA, 0, 60, 61) && !thin(1, 50, 60, 61));
+        let formula = Approach::SecSa;
+        assert!(thin(formula, 50, 50, 51) && thin(formula, 50, 60, 61));
+        assert!(!thin(formula, 50, 49, 50) && !thin(formula, 50, 60, 62));
+        assert!(!thin(formula, 0, 60, 61) && !thin(Approach::SecErba, 50, 60, 61));
     }
 
     /// An empty run misses every count but the one that is only printed, and each count that occurs is no longer
@@ -425,7 +436,7 @@ mod tests {
         let mut tally = Tally::default();
         let all = tally.named().len();
         assert_eq!(tally.missing().len(), all - 1);
-        tally.refusals[13] = 1;
+        tally.refusals[refusal::place(refusal::THIN)] = 1;
         tally.note_cap();
         assert_eq!(tally.missing().len(), all - 3);
         assert!(!tally.missing().contains(&"refusal 13".to_string()));

@@ -1,7 +1,7 @@
 //! The comparison of the report's text with one composed from the independent answer ("Checked deals" of document 01).
 
+use crate::answer::{LineWord, MOST_RESULTS};
 use crate::difference::{same, Difference, Part};
-use crate::sheet::MOST_RESULTS;
 use independent::{Amounts, Deal, Line, Refusal};
 use std::fmt::Write;
 
@@ -36,7 +36,7 @@ fn compose_deal(deal: &Deal, said: &str) -> String {
     text
 }
 
-/// The text of one tranche: its number from 1 and its six words.
+/// The text of one tranche: its number from 1 and its words.
 fn compose_line(number: u64, line: &Line, amounts: &Amounts) -> String {
     let Line {
         approach,
@@ -52,9 +52,10 @@ fn compose_line(number: u64, line: &Line, amounts: &Amounts) -> String {
     format!("{number} {approach} {attachment} {detachment} {weight} {risk_weighted} {capital}\n")
 }
 
-/// The admitted triple whose weight the shown line has as its fifth number, or else the first one.
+/// The admitted triple whose weight the shown line has among its words, after its number, or else the first one.
 fn admitted<'a>(line: &'a Line, shown: &str) -> &'a Amounts {
-    let weight = shown.split(' ').nth(4).and_then(|word| word.parse().ok());
+    let mut words = shown.split(' ').skip(1);
+    let weight = words.nth(LineWord::Weight as usize).and_then(|word| word.parse().ok());
     let found = line.amounts.iter().find(|amounts| Some(amounts.weight) == weight);
     found.unwrap_or(&line.amounts[0])
 }

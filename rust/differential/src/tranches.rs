@@ -1,8 +1,9 @@
 //! Random tranches over a given pool.
 
+use crate::answer::LINE_WORDS;
 use crate::kind::Kind;
 use crate::random::Random;
-use crate::sheet::{Deal, Facts, Tranche, LINE_WORDS, MONTHS, TRANCHES, TRANCHE_AMOUNT, WHOLE};
+use crate::sheet::{Deal, Fact, Tranche, LONG_TERM, MONTHS, RATINGS, SHORT_TERM, TRANCHES, TRANCHE_AMOUNT, WHOLE};
 
 /// How the pool is divided into classes.
 #[derive(Clone, Copy)]
@@ -71,10 +72,8 @@ fn class_count(random: &mut Random) -> u64 {
 /// The pool charge of the deal's pool. The independent implementation gives it for a sheet with one tranche under the
 /// fallback.
 fn charge(deal: &Deal) -> u64 {
-    let facts = Facts {
-        due_diligence: 0,
-        ..deal.facts
-    };
+    let mut facts = deal.facts;
+    facts[Fact::DueDiligence] = 0;
     let mut words = Vec::new();
     Deal {
         facts,
@@ -159,11 +158,11 @@ fn overshooting(random: &mut Random, pool: u64, count: u64) -> Vec<u64> {
 enum Ratings {
     /// No tranche is rated.
     Unrated,
-    /// One rating on each, at any of the three places.
+    /// One rating on each, at any of its places.
     One,
-    /// Two or three ratings on each.
+    /// Two or more ratings on each.
     Several,
-    /// One to three short-term ratings on each.
+    /// One or more short-term ratings on each.
     ShortTerm,
     /// Each word none or any code.
     Any,
@@ -186,17 +185,17 @@ impl Ratings {
         }
     }
 
-    /// Draws the three rating words of one tranche.
-    fn words(self, random: &mut Random) -> [u64; 3] {
+    /// Draws the rating words of one tranche.
+    fn words(self, random: &mut Random) -> [u64; RATINGS] {
         match self {
-            Ratings::Unrated => [0; 3],
+            Ratings::Unrated => [0; RATINGS],
             Ratings::One => placed(random, 1, long_term),
             Ratings::Several => {
-                let count = random.between(2, 3);
+                let count = random.between(2, RATINGS as u64);
                 placed(random, count, any_code)
             }
             Ratings::ShortTerm => {
-                let count = random.between(1, 3);
+                let count = random.between(1, RATINGS as u64);
                 placed(random, count, short_term)
             }
             Ratings::Any => any_ratings(random),
@@ -204,9 +203,9 @@ impl Ratings {
     }
 }
 
-/// So many codes at random places of the three.
-fn placed(random: &mut Random, count: u64, code: fn(&mut Random) -> u64) -> [u64; 3] {
-    let mut words = [0; 3];
+/// So many codes at random places of a tranche's ratings.
+fn placed(random: &mut Random, count: u64, code: fn(&mut Random) -> u64) -> [u64; RATINGS] {
+    let mut words = [0; RATINGS];
     words
         .iter_mut()
         .take(count as usize)
@@ -217,12 +216,12 @@ fn placed(random: &mut Random, count: u64, code: fn(&mut Random) -> u64) -> [u64
 
 /// A row of the rating table.
 fn long_term(random: &mut Random) -> u64 {
-    random.between(1, 18)
+    random.between(LONG_TERM.0, LONG_TERM.1)
 }
 
 /// A short-term grade.
 fn short_term(random: &mut Random) -> u64 {
-    random.between(21, 24)
+    random.between(SHORT_TERM.0, SHORT_TERM.1)
 }
 
 /// A rating of either sort.
@@ -234,9 +233,9 @@ fn any_code(random: &mut Random) -> u64 {
     }
 }
 
-/// Three rating words, each none or any listed code.
-pub fn any_ratings(random: &mut Random) -> [u64; 3] {
-    let count = random.below(4);
+/// The rating words of a tranche, each none or any listed code.
+pub fn any_ratings(random: &mut Random) -> [u64; RATINGS] {
+    let count = random.below(RATINGS as u64 + 1);
     placed(random, count, any_code)
 }
 

@@ -1,9 +1,9 @@
 //! The comparison of a sheet's answer and its result words with the independent ones.
 
+use crate::answer::{LineWord, LINE_WORDS};
 use crate::difference::{same, Difference, Part};
 use crate::lent::Lent;
 use crate::library::Reply;
-use crate::sheet::LINE_WORDS;
 use independent::{Amounts, Deal, Line, Refusal};
 
 /// The four numbers that are due: an accepted sheet's number and place are 0; a refused one's count and charge are 0
@@ -48,27 +48,47 @@ fn compare_lines(deal: &Deal, lent: &Lent) -> Result<(), Difference> {
     untouched(Part::AfterLines, lent, LINE_WORDS * count)
 }
 
-/// The six words of a line: approach and points are the same; weight, risk-weighted amount and capital together are one
+/// The words of a line: approach and points are the same; weight, risk-weighted amount and capital together are one
 /// of the admitted triples.
 fn compare_line(number: u64, line: &Line, words: &[u64; LINE_WORDS]) -> Result<(), Difference> {
     let &[approach, attachment, detachment, weight, risk_weighted, capital] = words;
-    same(Part::Approach, (number, line.approach), (number, approach))?;
-    same(Part::Attachment, (number, line.attachment), (number, attachment))?;
-    same(Part::Detachment, (number, line.detachment), (number, detachment))?;
+    same(
+        Part::Line(LineWord::Approach),
+        (number, line.approach),
+        (number, approach),
+    )?;
+    same(
+        Part::Line(LineWord::Attachment),
+        (number, line.attachment),
+        (number, attachment),
+    )?;
+    same(
+        Part::Line(LineWord::Detachment),
+        (number, line.detachment),
+        (number, detachment),
+    )?;
     let said = Amounts {
         weight,
         risk_weighted,
         capital,
     };
     let Some(admitted) = line.amounts.iter().find(|amounts| amounts.weight == weight) else {
-        return Err(Difference::new(Part::Weight, (number, &line.amounts), (number, said)));
+        return Err(Difference::new(
+            Part::Line(LineWord::Weight),
+            (number, &line.amounts),
+            (number, said),
+        ));
     };
     same(
-        Part::RiskWeighted,
+        Part::Line(LineWord::RiskWeighted),
         (number, admitted.risk_weighted),
         (number, risk_weighted),
     )?;
-    same(Part::Capital, (number, admitted.capital), (number, capital))
+    same(
+        Part::Line(LineWord::Capital),
+        (number, admitted.capital),
+        (number, capital),
+    )
 }
 
 /// No lent word at or after this place was written.

@@ -1,8 +1,9 @@
 //! The comparison finds a wrong answer in each part that it compares: each test puts a function with one fault in place
 //! of the proved one.
 
+use differential::answer::{refusal, LineWord, LINE_WORDS};
+use differential::sheet::{FILE_BYTES, WORD_BYTES};
 use differential::{show, Case, Difference, Feature, Found, Library, Part, Reply, Run, Tally, Weigh, WeighFile};
-use std::ops::RangeInclusive;
 
 /// The seed of the runs.
 const SEED: u64 = 3;
@@ -160,7 +161,7 @@ fn wrong_charge() {
 /// Constant refusal.
 #[test]
 fn refused_in_place_of_weighed() {
-    let wrong: Weigh = |sheet, results| accepted(sheet, results, |reply| *reply = Reply::refusing(14, 0));
+    let wrong: Weigh = |sheet, results| accepted(sheet, results, |reply| *reply = Reply::refusing(refusal::ROOM, 0));
     assert_eq!(weighed(wrong), Some(Part::Outcome));
 }
 
@@ -171,25 +172,43 @@ fn weighed_in_place_of_refused() {
     assert_eq!(weighed(wrong), Some(Part::Outcome));
 }
 
-/// Adds 3 to one of the six words of the last line. Admitted weights are neighbours, so a weight with 3 added is never
+/// The place of the last line of an accepted sheet in the results.
+fn last_line(reply: &Reply) -> usize {
+    LINE_WORDS * (reply.count as usize - 1)
+}
+
+/// Adds 3 to one of the words of the last line. Admitted weights are neighbours, so a weight with 3 added is never
 /// admitted.
 fn wrong_word<const WORD: usize>(sheet: &[u64], results: &mut [u64]) -> Reply {
     let reply = proved(sheet, results);
     if reply.number == 0 {
-        results[6 * (reply.count as usize - 1) + WORD] += 3;
+        results[last_line(&reply) + WORD] += 3;
     }
     reply
 }
 
-/// Each of a line's six words.
+/// For each word the weighing with that word wrong, the weighing of files by it, and the part in which it is found,
+/// that word of a line.
+macro_rules! wrong_words {
+    ($($word:ident),+) => {
+        [$((
+            wrong_word::<{ LineWord::$word as usize }> as Weigh,
+            (|file, results| read(file, results, good_length, wrong_word::<{ LineWord::$word as usize }>)) as WeighFile,
+            Part::Line(LineWord::$word),
+        )),+]
+    };
+}
+
+/// All words of a line, wrong in turn.
+const WRONG_WORDS: [(Weigh, WeighFile, Part); LINE_WORDS] =
+    wrong_words![Approach, Attachment, Detachment, Weight, RiskWeighted, Capital];
+
+/// Each of a line's words.
 #[test]
 fn wrong_word_of_a_line() {
-    assert_eq!(weighed(wrong_word::<0>), Some(Part::Approach));
-    assert_eq!(weighed(wrong_word::<1>), Some(Part::Attachment));
-    assert_eq!(weighed(wrong_word::<2>), Some(Part::Detachment));
-    assert_eq!(weighed(wrong_word::<3>), Some(Part::Weight));
-    assert_eq!(weighed(wrong_word::<4>), Some(Part::RiskWeighted));
-    assert_eq!(weighed(wrong_word::<5>), Some(Part::Capital));
+    for (weigh, _, part) in WRONG_WORDS {
+        assert_eq!(weighed(weigh), Some(part));
+    }
 }
 
 /// Leaves the last line as it was lent, though it reports it done.
@@ -197,7 +216,7 @@ fn last_line_unwritten(sheet: &[u64], results: &mut [u64]) -> Reply {
     let before = results.to_vec();
     let reply = proved(sheet, results);
     if reply.number == 0 {
-        let last = 6 * (reply.count as usize - 1);
+        let last = last_line(&reply);
         results[last..].copy_from_slice(&before[last..]);
     }
     reply
@@ -206,13 +225,13 @@ fn last_line_unwritten(sheet: &[u64], results: &mut [u64]) -> Reply {
 /// A line left unwritten but reported done.
 #[test]
 fn line_not_written() {
-    assert_eq!(weighed(last_line_unwritten), Some(Part::Approach));
+    assert_eq!(weighed(last_line_unwritten), Some(Part::Line(LineWord::Approach)));
 }
 
 /// The words after the lines of an accepted sheet; none where it is refused.
 fn later<'a>(reply: &Reply, results: &'a mut [u64]) -> &'a mut [u64] {
     match reply.number {
-        0 => &mut results[6 * reply.count as usize..],
+        0 => &mut results[LINE_WORDS * reply.count as usize..],
         _ => &mut [],
     }
 }
@@ -279,13 +298,13 @@ fn panic_is_a_difference() {
 
 /// Whether a file of this length is read.
 fn good_length(length: usize) -> bool {
-    length.is_multiple_of(8) && length <= 33_848
+    length.is_multiple_of(WORD_BYTES) && length <= FILE_BYTES
 }
 
-/// Weighs a file: refusal 15 where the length is not good, else its whole words by this weighing.
+/// Weighs a file: refused where the length is not good, else its whole words by this weighing.
 fn read(file: &[u8], results: &mut [u64], good: fn(usize) -> bool, weigh: Weigh) -> Reply {
     if !good(file.len()) {
-        return Reply::refusing(15, 0);
+        return Reply::refusing(refusal::FILE_LENGTH, 0);
     }
     let (words, _) = file.as_chunks();
     let sheet: Vec<u64> = words.iter().map(|bytes| u64::from_le_bytes(*bytes)).collect();
@@ -297,13 +316,13 @@ fn read(file: &[u8], results: &mut [u64], good: fn(usize) -> bool, weigh: Weigh)
 fn wrong_length_of_a_file() {
     let wrong: [WeighFile; 6] = [
         |file, results| read(file, results, |_| true, proved),
-        |file, results| read(file, results, |length| length <= 33_848, proved),
-        |file, results| read(file, results, |length| length.is_multiple_of(8), proved),
+        |file, results| read(file, results, |length| length <= FILE_BYTES, proved),
+        |file, results| read(file, results, |length| length.is_multiple_of(WORD_BYTES), proved),
         |file, results| {
             read(
                 file,
                 results,
-                |length| length.is_multiple_of(8) && length <= 33_840,
+                |length| length.is_multiple_of(WORD_BYTES) && length <= FILE_BYTES - WORD_BYTES,
                 proved,
             )
         },
@@ -311,7 +330,7 @@ fn wrong_length_of_a_file() {
             read(
                 file,
                 results,
-                |length| length.is_multiple_of(8) && length <= 33_856,
+                |length| length.is_multiple_of(WORD_BYTES) && length <= FILE_BYTES + WORD_BYTES,
                 proved,
             )
         },
@@ -323,66 +342,87 @@ fn wrong_length_of_a_file() {
     }
 }
 
-/// The proved weighing of files with a fault in the reply to each file that gets one of these numbers.
-fn faulty_file(file: &[u8], results: &mut [u64], numbers: RangeInclusive<u64>, fault: fn(&mut Reply)) -> Reply {
+/// Whether a file of a bad length gets this number.
+fn of_length(number: u64) -> bool {
+    number == refusal::FILE_LENGTH
+}
+
+/// Whether a file that its words or the room refuse gets this number.
+fn of_sheet(number: u64) -> bool {
+    refusal::is_of_words(number) || number == refusal::ROOM
+}
+
+/// Whether an accepted file gets this number.
+fn of_accepted(number: u64) -> bool {
+    number == 0
+}
+
+/// The proved weighing of files with a fault in the reply to each file that gets one of the numbers meant.
+fn faulty_file(file: &[u8], results: &mut [u64], meant: fn(u64) -> bool, fault: fn(&mut Reply)) -> Reply {
     let mut reply = (Library::PROVED.weigh_file)(file, results);
-    if numbers.contains(&reply.number) {
+    if meant(reply.number) {
         fault(&mut reply);
     }
     reply
 }
 
-/// The part in which a run first finds the fault in the reply to each file that gets one of the numbers.
+/// The part in which a run first finds the fault in the reply to each file that gets one of the numbers meant.
 macro_rules! faulty_files {
-    ($numbers:expr, $fault:expr) => {
-        filed(|file, results| faulty_file(file, results, $numbers, $fault))
+    ($meant:expr, $fault:expr) => {
+        filed(|file, results| faulty_file(file, results, $meant, $fault))
     };
 }
 
-/// Each of the four numbers of refusal 15, and a file of a bad length reported as weighed.
+/// Each of the four numbers of a file of a bad length, and such a file reported as weighed.
 #[test]
 fn wrong_reply_to_a_bad_length() {
-    assert_eq!(faulty_files!(15..=15, |reply| reply.number = 1), Some(Part::Number));
-    assert_eq!(faulty_files!(15..=15, |reply| reply.place = 1), Some(Part::Place));
-    assert_eq!(faulty_files!(15..=15, |reply| reply.count = 1), Some(Part::Count));
-    assert_eq!(faulty_files!(15..=15, |reply| reply.charge = 1), Some(Part::Charge));
-    let unwritten = faulty_files!(15..=15, |reply| reply.charge = u64::MAX);
+    assert_eq!(faulty_files!(of_length, |reply| reply.number = 1), Some(Part::Number));
+    assert_eq!(faulty_files!(of_length, |reply| reply.place = 1), Some(Part::Place));
+    assert_eq!(faulty_files!(of_length, |reply| reply.count = 1), Some(Part::Count));
+    assert_eq!(faulty_files!(of_length, |reply| reply.charge = 1), Some(Part::Charge));
+    let unwritten = faulty_files!(of_length, |reply| reply.charge = u64::MAX);
     assert_eq!(unwritten, Some(Part::Charge));
-    let weighed = faulty_files!(15..=15, |reply| *reply = Reply::accepting(0, 0));
+    let weighed = faulty_files!(of_length, |reply| *reply = Reply::accepting(0, 0));
     assert_eq!(weighed, Some(Part::Outcome));
 }
 
 /// Each of the four numbers of a file that its words or the room refuse, and such a file reported as weighed.
 #[test]
 fn wrong_reply_to_a_refused_file() {
-    assert_eq!(faulty_files!(1..=14, |reply| reply.number += 1), Some(Part::Number));
-    assert_eq!(faulty_files!(1..=14, |reply| reply.place += 1), Some(Part::Place));
-    assert_eq!(faulty_files!(1..=14, |reply| reply.count = 1), Some(Part::Count));
-    assert_eq!(faulty_files!(1..=14, |reply| reply.charge = 1), Some(Part::Charge));
-    let weighed = faulty_files!(1..=14, |reply| *reply = Reply::accepting(0, 0));
+    assert_eq!(faulty_files!(of_sheet, |reply| reply.number += 1), Some(Part::Number));
+    assert_eq!(faulty_files!(of_sheet, |reply| reply.place += 1), Some(Part::Place));
+    assert_eq!(faulty_files!(of_sheet, |reply| reply.count = 1), Some(Part::Count));
+    assert_eq!(faulty_files!(of_sheet, |reply| reply.charge = 1), Some(Part::Charge));
+    let weighed = faulty_files!(of_sheet, |reply| *reply = Reply::accepting(0, 0));
     assert_eq!(weighed, Some(Part::Outcome));
 }
 
 /// Each of the four numbers of an accepted file.
 #[test]
 fn wrong_reply_to_an_accepted_file() {
-    assert_eq!(faulty_files!(0..=0, |reply| reply.number = 15), Some(Part::Outcome));
-    assert_eq!(faulty_files!(0..=0, |reply| reply.place = 1), Some(Part::Place));
-    assert_eq!(faulty_files!(0..=0, |reply| reply.count -= 1), Some(Part::Count));
-    assert_eq!(faulty_files!(0..=0, |reply| reply.charge += 1), Some(Part::Charge));
+    assert_eq!(
+        faulty_files!(of_accepted, |reply| reply.number = refusal::FILE_LENGTH),
+        Some(Part::Outcome)
+    );
+    assert_eq!(faulty_files!(of_accepted, |reply| reply.place = 1), Some(Part::Place));
+    assert_eq!(faulty_files!(of_accepted, |reply| reply.count -= 1), Some(Part::Count));
+    assert_eq!(
+        faulty_files!(of_accepted, |reply| reply.charge += 1),
+        Some(Part::Charge)
+    );
 }
 
-/// Writes 0 to a lent word on refusal 15: the first, or else the last.
+/// Writes 0 to a lent word where the length is refused: the first, or else the last.
 fn word_on_bad_length<const FIRST: bool>(file: &[u8], results: &mut [u64]) -> Reply {
     let reply = (Library::PROVED.weigh_file)(file, results);
     let word = if FIRST { results.first_mut() } else { results.last_mut() };
     word.into_iter()
-        .filter(|_| reply.number == 15)
+        .filter(|_| of_length(reply.number))
         .for_each(|word| *word = 0);
     reply
 }
 
-/// Results are untouched on refusal 15: the first word and the last.
+/// Results are untouched where the length is refused: the first word and the last.
 #[test]
 fn results_written_on_a_bad_length() {
     assert_eq!(filed(word_on_bad_length::<true>), Some(Part::ResultsOnRefusal));
@@ -399,13 +439,10 @@ macro_rules! faulty_words {
 /// The lines of an accepted file, and the words that must be as they were.
 #[test]
 fn wrong_results_of_a_file() {
-    assert_eq!(faulty_words!(wrong_word::<0>), Some(Part::Approach));
-    assert_eq!(faulty_words!(wrong_word::<1>), Some(Part::Attachment));
-    assert_eq!(faulty_words!(wrong_word::<2>), Some(Part::Detachment));
-    assert_eq!(faulty_words!(wrong_word::<3>), Some(Part::Weight));
-    assert_eq!(faulty_words!(wrong_word::<4>), Some(Part::RiskWeighted));
-    assert_eq!(faulty_words!(wrong_word::<5>), Some(Part::Capital));
-    assert_eq!(faulty_words!(last_line_unwritten), Some(Part::Approach));
+    for (_, weigh_file, part) in WRONG_WORDS {
+        assert_eq!(filed(weigh_file), Some(part));
+    }
+    assert_eq!(faulty_words!(last_line_unwritten), Some(Part::Line(LineWord::Approach)));
     assert_eq!(faulty_words!(word_after_lines), Some(Part::AfterLines));
     assert_eq!(faulty_words!(last_word), Some(Part::AfterLines));
     assert_eq!(faulty_words!(first_word_on_refusal), Some(Part::ResultsOnRefusal));
@@ -431,7 +468,7 @@ fn chosen(sheet: &[u64], results: &mut [u64], choose: fn(&[independent::Amounts]
         Ok(deal) => deal,
         Err(refusal) => return Reply::refusing(refusal.number, refusal.place),
     };
-    let (lines, _) = results.as_chunks_mut::<6>();
+    let (lines, _) = results.as_chunks_mut::<LINE_WORDS>();
     for (line, words) in deal.lines.iter().zip(lines) {
         let [weight, risk_weighted, capital] = choose(&line.amounts);
         *words = [
@@ -481,7 +518,7 @@ fn mixed_triple_is_found() {
             ]
         })
     };
-    assert_eq!(weighed(mixed), Some(Part::RiskWeighted));
+    assert_eq!(weighed(mixed), Some(Part::Line(LineWord::RiskWeighted)));
 }
 
 /// The report's text, in its end, its totals, its numbers and its spaces, for weighed and refused files.
@@ -532,7 +569,7 @@ fn difference_is_shown_in_full() {
 #[test]
 fn difference_of_a_file_is_shown() {
     let library = Library {
-        weigh_file: |file, results| faulty_file(file, results, 15..=15, |reply| reply.place = 9),
+        weigh_file: |file, results| faulty_file(file, results, of_length, |reply| reply.place = 9),
         ..Library::PROVED
     };
     let found = run(library, 2).expect_err("15 has place 0");

@@ -1,6 +1,7 @@
 //! The random sheets are what their kinds say. Points and charges are taken from the independent implementation.
 
-use differential::sheet::{Layout, MONTHS, POOL_AMOUNT, ROWS, TRANCHES, TRANCHE_AMOUNT};
+use differential::answer::{refusal, Approach, MOST_RESULTS};
+use differential::sheet::{status, Layout, RowWord, TrancheWord, MONTHS, POOL_AMOUNT, ROWS, TRANCHES, TRANCHE_AMOUNT};
 use differential::{Case, Kind};
 use std::cmp::Ordering;
 use std::collections::BTreeSet;
@@ -13,7 +14,7 @@ fn sheets(kind: Kind, count: u64) -> impl Iterator<Item = Vec<u64>> {
 
 /// The accepted deals of one kind among the first `count` ones of a seed, with room enough.
 fn deals(kind: Kind, count: u64) -> impl Iterator<Item = independent::Deal> {
-    sheets(kind, count).filter_map(|sheet| independent::weigh(&sheet, 192).ok())
+    sheets(kind, count).filter_map(|sheet| independent::weigh(&sheet, MOST_RESULTS as u64).ok())
 }
 
 /// A sound sheet is refused for too little room or a tranche without thickness, and for nothing else.
@@ -25,7 +26,10 @@ fn sound_sheets_keep_the_limits() {
         if case.kind.is_sound() {
             match independent::weigh(&case.sheet, case.room as u64) {
                 Ok(_) => accepted += 1,
-                Err(refusal) => assert!([13, 14].contains(&refusal.number), "index {index}: {refusal:?}"),
+                Err(refused) => assert!(
+                    [refusal::THIN, refusal::ROOM].contains(&refused.number),
+                    "index {index}: {refused:?}"
+                ),
             }
         }
     }
@@ -37,10 +41,12 @@ fn sound_sheets_keep_the_limits() {
 fn unknown_share_meets_five_percent() {
     let (mut below, mut at, mut above) = (0, 0, 0);
     for sheet in sheets(Kind::UnknownShare, 10_000) {
-        let layout = Layout::of_sheet(&sheet);
-        let (rows, _) = sheet[layout.row(0)..layout.tranche_count()].as_chunks::<4>();
-        let all: u64 = rows.iter().map(|row| row[0]).sum();
-        let unknown: u64 = rows.iter().filter(|row| row[3] == 2).map(|row| row[0]).sum();
+        let rows = Layout::of_sheet(&sheet).pool(&sheet);
+        let exposure = |row: &[u64; RowWord::COUNT]| row[RowWord::Exposure as usize];
+        let unknown = rows
+            .iter()
+            .filter(|row| row[RowWord::Status as usize] == status::NOT_KNOWN);
+        let (all, unknown): (u64, u64) = (rows.iter().map(exposure).sum(), unknown.map(exposure).sum());
         let near = (20 * unknown).abs_diff(all) <= 20;
         match (20 * unknown).cmp(&all) {
             Ordering::Less => below += u64::from(near),
@@ -81,21 +87,17 @@ fn thin_tranches_are_thin() {
         );
     }
     let wanted = [
-        (2, false, 0),
-        (2, false, 1),
-        (2, true, 1),
-        (2, true, 2),
-        (1, true, 0),
-        (1, true, 1),
-        (0, true, 0),
+        (Approach::SecSa, false, 0),
+        (Approach::SecSa, false, 1),
+        (Approach::SecSa, true, 1),
+        (Approach::SecSa, true, 2),
+        (Approach::SecErba, true, 0),
+        (Approach::SecErba, true, 1),
+        (Approach::Fallback, true, 0),
     ];
-    assert_eq!(
-        wanted
-            .into_iter()
-            .filter(|case| !thick.contains(case))
-            .collect::<Vec<_>>(),
-        []
-    );
+    let met =
+        |&(approach, above, millionths): &(Approach, bool, u64)| thick.contains(&(approach.word(), above, millionths));
+    assert_eq!(wanted.into_iter().filter(|case| !met(case)).collect::<Vec<_>>(), []);
 }
 
 /// Tranches beyond the pool have both points at 0.
@@ -135,14 +137,17 @@ fn limits_are_met() {
     let mut met = BTreeSet::new();
     for sheet in sheets(Kind::Limits, 20_000) {
         let layout = Layout::of_sheet(&sheet);
-        let (rows, _) = sheet[layout.row(0)..layout.tranche_count()].as_chunks::<4>();
-        let nominal: u64 = rows.iter().map(|row| row[1]).sum();
-        let amounts: u64 = (0..layout.tranches).map(|tranche| sheet[layout.tranche(tranche)]).sum();
+        let word = |tranche, word| sheet[layout.tranche_word(tranche, word)];
+        let rows = layout.pool(&sheet);
+        let nominal: u64 = rows.iter().map(|row| row[RowWord::Nominal as usize]).sum();
+        let amounts: u64 = (0..layout.tranches)
+            .map(|tranche| word(tranche, TrancheWord::Amount))
+            .sum();
         met.extend([("rows", rows.len() as u64), ("tranches", layout.tranches as u64)]);
         met.extend([
             ("nominal", nominal),
             ("amounts", amounts),
-            ("months", sheet[layout.tranche(0) + Layout::MONTHS]),
+            ("months", word(0, TrancheWord::Months)),
         ]);
     }
     let counts = [

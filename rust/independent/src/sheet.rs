@@ -13,9 +13,9 @@ const COUNT: u64 = 2;
 const TOO_LONG: u64 = 3;
 /// A fact outside its codes.
 const FACT: u64 = 4;
-/// A pool amount outside 1 to 10^10.
+/// A pool amount outside its limits.
 const POOL_AMOUNT: u64 = 5;
-/// A risk weight above 1250.
+/// A risk weight above its limit.
 const RISK_WEIGHT: u64 = 6;
 /// A status above 3; a 3 in an ordinary deal; any other in a re-securitisation.
 const STATUS: u64 = 7;
@@ -23,25 +23,47 @@ const STATUS: u64 = 7;
 const TRANCHE_AMOUNT: u64 = 8;
 /// A class out of order.
 const CLASS: u64 = 9;
-/// A maturity outside 1 to 1200.
+/// A maturity outside its limits.
 const MATURITY: u64 = 10;
 /// A rating code not listed.
 const RATING: u64 = 11;
 /// Pool kind 1 or 2.
 const POOL_KIND: u64 = 12;
-/// Results shorter than six words per tranche.
+/// Results shorter than the lines.
 const SHORT_RESULTS: u64 = 14;
-/// The file's length is not a multiple of 8 or over 33,848 bytes.
+/// The file's length is not a multiple of a word's bytes or over the most.
 const FILE_LENGTH: u64 = 15;
 
-/// The most bytes a file may have: 4 facts, 1,000 rows of 4 words, 32 rows of 7 words and 3 counts, 8 bytes each.
-const FILE_BYTES: usize = 33_848;
+/// How many facts there are.
+pub const FACTS: usize = 4;
+/// The most pool rows.
+pub const ROWS_MOST: usize = 1_000;
+/// The words of a pool row.
+pub const ROW_WORDS: usize = 4;
+/// The most tranches.
+pub const TRANCHES_MOST: usize = 32;
+/// The rating words of a tranche.
+pub const RATINGS: usize = 3;
+/// The words of a tranche row: amount, class, maturity, amount held, ratings.
+pub const TRANCHE_WORDS: usize = 4 + RATINGS;
+/// The bytes of a word in a file.
+const WORD_BYTES: usize = 8;
+/// The most bytes a file may have: the facts, the most rows and tranches, and the three counts.
+pub const FILE_BYTES: usize = WORD_BYTES * (1 + FACTS + 1 + ROWS_MOST * ROW_WORDS + 1 + TRANCHES_MOST * TRANCHE_WORDS);
+/// How many result words a tranche takes.
+pub const LINE_WORDS: usize = 6;
+/// The pool kind of an SA pool, the only one that is not refused.
+const SA_POOL: u64 = 0;
+/// The highest pool kind.
+const POOL_KIND_MOST: u64 = 2;
 /// The largest amount of a pool row.
 const POOL_AMOUNT_MOST: u64 = 10_000_000_000;
+/// The highest risk weight.
+const RISK_WEIGHT_MOST: u64 = 1250;
 /// The largest tranche amount.
 const TRANCHE_AMOUNT_MOST: u64 = 10_000_000_000_000;
-/// How many result words a tranche takes.
-const WORDS_PER_LINE: u64 = 6;
+/// The longest maturity, in months.
+const MONTHS_MOST: u64 = 1200;
 
 /// The facts section without the pool kind, which is 0 in every accepted sheet.
 #[derive(Debug, Clone, Copy)]
@@ -51,7 +73,7 @@ pub struct Facts {
     pub composition_known: bool,
 }
 
-/// The status of a pool row, in the order of its codes 0 to 3.
+/// The status of a pool row.
 #[derive(Debug, Clone, Copy, PartialEq, Eq)]
 pub enum Status {
     Paying,
@@ -59,6 +81,14 @@ pub enum Status {
     Unknown,
     SecuritisationTranche,
 }
+
+/// The statuses by their codes, from 0.
+const STATUSES: [Status; 4] = [
+    Status::Paying,
+    Status::Delinquent,
+    Status::Unknown,
+    Status::SecuritisationTranche,
+];
 
 /// A pool row. The risk weight is in whole percent.
 #[derive(Debug, Clone, Copy)]
@@ -76,7 +106,7 @@ pub struct Tranche {
     pub class: u64,
     pub months: u64,
     pub held: u64,
-    pub ratings: [u64; 3],
+    pub ratings: [u64; RATINGS],
     pub place: u64,
 }
 
@@ -118,7 +148,7 @@ impl Reader<'_> {
 pub fn read(words: &[u64]) -> Result<Sheet, Refusal> {
     let mut reader = Reader { words, next: 0 };
     let facts = read_facts(&mut reader)?;
-    let rows = reader.word(COUNT, |count| (1..=1_000).contains(&count))?;
+    let rows = reader.word(COUNT, |count| (1..=ROWS_MOST as u64).contains(&count))?;
     let pool = (0..rows)
         .map(|_| read_row(&mut reader, facts.resecuritisation))
         .collect::<Result<Vec<_>, _>>()?;
@@ -132,13 +162,13 @@ pub fn read(words: &[u64]) -> Result<Sheet, Refusal> {
     Ok(Sheet { facts, pool, tranches })
 }
 
-/// The facts: count 4, pool kind, then three answers of 0 or 1. A pool kind above 2 is outside its codes (4); kinds 1
-/// and 2 are codes, but the deal is refused for them (12). Both stand at the pool kind's place.
+/// The facts: their count, pool kind, then answers of 0 or 1. A pool kind above 2 is outside its codes (4); kinds 1 and 2
+/// are codes, but the deal is refused for them (12). Both stand at the pool kind's place.
 fn read_facts(reader: &mut Reader) -> Result<Facts, Refusal> {
-    reader.word(COUNT, |count| count == 4)?;
+    reader.word(COUNT, |count| count == FACTS as u64)?;
     let place = reader.place();
-    let kind = reader.word(FACT, |kind| kind <= 2)?;
-    if kind != 0 {
+    let kind = reader.word(FACT, |kind| kind <= POOL_KIND_MOST)?;
+    if kind != SA_POOL {
         return Err(Refusal {
             number: POOL_KIND,
             place,
@@ -158,19 +188,22 @@ fn read_row(reader: &mut Reader, resecuritisation: bool) -> Result<Row, Refusal>
     Ok(Row {
         exposure: reader.word(POOL_AMOUNT, amount_good)?,
         nominal: reader.word(POOL_AMOUNT, amount_good)?,
-        risk_weight: reader.word(RISK_WEIGHT, |weight| weight <= 1250)?,
-        status: match reader.word(STATUS, |status| status <= 3 && (status == 3) == resecuritisation)? {
-            0 => Status::Paying,
-            1 => Status::Delinquent,
-            2 => Status::Unknown,
-            _ => Status::SecuritisationTranche,
-        },
+        risk_weight: reader.word(RISK_WEIGHT, |weight| weight <= RISK_WEIGHT_MOST)?,
+        status: read_status(reader, resecuritisation)?,
     })
 }
 
-/// The tranches, count 1 to 32. The first row has class 1; each next row has the class before it or one more.
+/// A row's status. That of a securitisation tranche stands in every row of a re-securitisation, and in no other.
+fn read_status(reader: &mut Reader, resecuritisation: bool) -> Result<Status, Refusal> {
+    let status_of = |code: u64| STATUSES.get(usize::try_from(code).ok()?).copied();
+    let good = |status| (status == Status::SecuritisationTranche) == resecuritisation;
+    let code = reader.word(STATUS, |code| status_of(code).is_some_and(good))?;
+    Ok(status_of(code).expect("a good status"))
+}
+
+/// The tranches, after their count. The first row has class 1; each next row has the class before it or one more.
 fn read_tranches(reader: &mut Reader) -> Result<Vec<Tranche>, Refusal> {
-    let count = reader.word(COUNT, |count| (1..=32).contains(&count))?;
+    let count = reader.word(COUNT, |count| (1..=TRANCHES_MOST as u64).contains(&count))?;
     let mut tranches: Vec<Tranche> = Vec::new();
     for _ in 0..count {
         let classes = tranches.last().map_or(1..=1, |before| before.class..=before.class + 1);
@@ -179,12 +212,12 @@ fn read_tranches(reader: &mut Reader) -> Result<Vec<Tranche>, Refusal> {
     Ok(tranches)
 }
 
-/// A tranche row: amount, class, maturity, amount held, three rating words.
+/// A tranche row: amount, class, maturity, amount held, rating words.
 fn read_tranche(reader: &mut Reader, class_good: impl Fn(u64) -> bool) -> Result<Tranche, Refusal> {
     let place = reader.place();
     let amount = reader.word(TRANCHE_AMOUNT, |amount| (1..=TRANCHE_AMOUNT_MOST).contains(&amount))?;
     let class = reader.word(CLASS, class_good)?;
-    let months = reader.word(MATURITY, |months| (1..=1200).contains(&months))?;
+    let months = reader.word(MATURITY, |months| (1..=MONTHS_MOST).contains(&months))?;
     let held = reader.word(TRANCHE_AMOUNT, |held| held <= amount)?;
     let mut rating = || reader.word(RATING, |code| matches!(code, 0..=18 | 21..=24));
     let ratings = [rating()?, rating()?, rating()?];
@@ -198,9 +231,9 @@ fn read_tranche(reader: &mut Reader, class_good: impl Fn(u64) -> bool) -> Result
     })
 }
 
-/// Refusal 14: results shorter than six words per tranche; place 0.
+/// Refusal 14: results shorter than the lines; place 0.
 pub fn refuse_short_results(sheet: &Sheet, room: u64) -> Result<(), Refusal> {
-    if room < WORDS_PER_LINE * sheet.tranches.len() as u64 {
+    if room < (LINE_WORDS * sheet.tranches.len()) as u64 {
         return Err(Refusal {
             number: SHORT_RESULTS,
             place: 0,
@@ -210,9 +243,9 @@ pub fn refuse_short_results(sheet: &Sheet, room: u64) -> Result<(), Refusal> {
 }
 
 /// The words of a file, eight bytes each, lowest byte first; refusal 15 at place 0 for a length that is not a multiple
-/// of 8 or over 33,848 bytes.
+/// of that or over the most.
 pub fn words_of_file(file: &[u8]) -> Result<Vec<u64>, Refusal> {
-    let (words, rest) = file.as_chunks::<8>();
+    let (words, rest) = file.as_chunks::<WORD_BYTES>();
     if !rest.is_empty() || file.len() > FILE_BYTES {
         return Err(Refusal {
             number: FILE_LENGTH,

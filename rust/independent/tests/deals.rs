@@ -2,27 +2,29 @@
 
 mod common;
 
-use common::{file, sheet};
+use common::{file, room, sheet, Facts, Row, Tranche};
+use independent::approach::Approach;
+use independent::sheet::{FILE_BYTES, ROWS_MOST, TRANCHES_MOST};
 use independent::{weigh, weigh_file, Amounts, Deal, Line};
 
 /// Facts of an ordinary deal with due diligence and known composition.
-const ORDINARY: [u64; 4] = [0, 0, 1, 1];
+const ORDINARY: Facts = [0, 0, 1, 1];
 /// Facts of a re-securitisation with due diligence and known composition.
-const RESECURITISATION: [u64; 4] = [0, 1, 1, 1];
+const RESECURITISATION: Facts = [0, 1, 1, 1];
 
 /// A paying pool of 1,000 at one risk weight.
-fn pool_at(risk_weight: u64) -> Vec<[u64; 4]> {
+fn pool_at(risk_weight: u64) -> Vec<Row> {
     vec![[1_000, 1_000, risk_weight, 0]]
 }
 
 /// A tranche held whole, with one rating.
-fn tranche(amount: u64, class: u64, months: u64, rating: u64) -> [u64; 7] {
+fn tranche(amount: u64, class: u64, months: u64, rating: u64) -> Tranche {
     [amount, class, months, amount, rating, 0, 0]
 }
 
 /// Weighs an accepted sheet with just enough room for its results.
-fn weighed(facts: [u64; 4], pool: &[[u64; 4]], tranches: &[[u64; 7]]) -> Deal {
-    weigh(&sheet(facts, pool, tranches), 6 * tranches.len() as u64).expect("an accepted sheet")
+fn weighed(facts: Facts, pool: &[Row], tranches: &[Tranche]) -> Deal {
+    weigh(&sheet(facts, pool, tranches), room(tranches.len())).expect("an accepted sheet")
 }
 
 /// The weights that a line admits.
@@ -63,9 +65,9 @@ fn sample_sheet() {
         line(1, 50_000, 200_000, 26_350, 264, 22),
         line(2, 0, 50_000, 125_000, 625, 50),
     ];
-    let deal = weigh_file(&file(&words), 18).expect("an accepted file");
+    let deal = weigh_file(&file(&words), room(3)).expect("an accepted file");
     assert_eq!(deal, Deal { charge: 101_000, lines });
-    assert_eq!(weigh(&words, 18), Ok(deal.clone()));
+    assert_eq!(weigh(&words, room(3)), Ok(deal.clone()));
     let total = |figure: fn(&Amounts) -> u64| deal.lines.iter().map(|line| figure(&line.amounts[0])).sum::<u64>();
     assert_eq!((total(|a| a.risk_weighted), total(|a| a.capital)), (1_049, 85));
 }
@@ -256,17 +258,19 @@ fn lines_depend_on_their_own_ratings() {
     }
 }
 
-/// The largest deal: 1,000 rows and 32 tranches, all amounts and weights at their most, fills the largest file. Each
+/// The largest deal: the most rows and tranches, all amounts and weights at their most, fills the largest file. Each
 /// tranche holds the whole pool, so all but the first have A = D = 0.
 #[test]
 fn largest_amounts() {
     let most = 10_000_000_000;
-    let pool = vec![[most, most, 1250, 0]; 1_000];
-    let tranches: Vec<[u64; 7]> = (1..=32).map(|class| tranche(1_000 * most, class, 1200, 0)).collect();
+    let pool = vec![[most, most, 1250, 0]; ROWS_MOST];
+    let tranches: Vec<Tranche> = (1..=TRANCHES_MOST as u64)
+        .map(|class| tranche(ROWS_MOST as u64 * most, class, 1200, 0))
+        .collect();
     let words = sheet(ORDINARY, &pool, &tranches);
-    assert_eq!(file(&words).len(), 33_848);
-    let deal = weigh_file(&file(&words), 192).expect("an accepted file");
-    assert_eq!((deal.charge, deal.lines.len()), (1_000_000, 32));
+    assert_eq!(file(&words).len(), FILE_BYTES);
+    let deal = weigh_file(&file(&words), room(TRANCHES_MOST)).expect("an accepted file");
+    assert_eq!((deal.charge, deal.lines.len()), (1_000_000, TRANCHES_MOST));
     let amounts = Amounts {
         weight: 125_000,
         risk_weighted: 125_000_000_000_000,
@@ -275,7 +279,7 @@ fn largest_amounts() {
     assert!(deal
         .lines
         .iter()
-        .all(|line| line.approach == 2 && line.attachment == 0 && line.amounts == [amounts]));
+        .all(|line| line.approach == Approach::SecSa as u64 && line.attachment == 0 && line.amounts == [amounts]));
     assert!(deal
         .lines
         .iter()
@@ -283,14 +287,15 @@ fn largest_amounts() {
         .all(|(i, line)| line.detachment == if i == 0 { 1_000_000 } else { 0 }));
 }
 
-/// The largest deal once more, cut into 32 equal slices that all go through the formula: weights rise toward the most
+/// The largest deal once more, cut into equal slices that all go through the formula: weights rise toward the most
 /// junior slice, and every slice above the charge admits two neighbours, one only at 125,000.
 #[test]
 fn largest_deal_in_slices() {
     let most = 10_000_000_000;
-    let pool = vec![[most, most, 20, 0]; 1_000];
-    let tranches: Vec<[u64; 7]> = (1..=32)
-        .map(|class| tranche(most * 1_000 / 32, class, 1200, 0))
+    let pool = vec![[most, most, 20, 0]; ROWS_MOST];
+    let slice = most * ROWS_MOST as u64 / TRANCHES_MOST as u64;
+    let tranches: Vec<Tranche> = (1..=TRANCHES_MOST as u64)
+        .map(|class| tranche(slice, class, 1200, 0))
         .collect();
     let deal = weighed([0, 0, 1, 0], &pool, &tranches);
     assert_eq!(deal.charge, 16_000);

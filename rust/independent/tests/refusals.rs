@@ -2,7 +2,8 @@
 
 mod common;
 
-use common::{file, sheet};
+use common::{file, room, sheet, Facts};
+use independent::sheet::{FILE_BYTES, ROWS_MOST, TRANCHES_MOST};
 use independent::{weigh, weigh_file, Refusal};
 
 /// A word above all limits.
@@ -36,11 +37,11 @@ fn with(words: &[u64], place: usize, word: u64) -> Vec<u64> {
 fn limits(words: &[u64], places: &[usize], good: &[u64], bad: &[u64], number: u64) {
     for &place in places {
         for &word in good {
-            assert!(weigh(&with(words, place, word), 18).is_ok(), "{word} at {place}");
+            assert!(weigh(&with(words, place, word), room(3)).is_ok(), "{word} at {place}");
         }
         for &word in bad {
             let refused = Err(refusal(number, place as u64));
-            assert_eq!(weigh(&with(words, place, word), 18), refused, "{word} at {place}");
+            assert_eq!(weigh(&with(words, place, word), room(3)), refused, "{word} at {place}");
         }
     }
 }
@@ -102,10 +103,10 @@ fn tranche_rows() {
     }
 }
 
-/// The counts at their limits: one row and one tranche, 1,000 rows and 32 tranches.
+/// The counts at their limits: one row and one tranche, the most rows and the most tranches.
 #[test]
 fn counts_at_their_limits() {
-    for (rows, tranches) in [(1, 1), (1, 32), (1_000, 1), (1_000, 32)] {
+    for (rows, tranches) in [(1, 1), (1, TRANCHES_MOST), (ROWS_MOST, 1), (ROWS_MOST, TRANCHES_MOST)] {
         let words = sheet(
             [0, 0, 0, 0],
             &vec![[1, 1, 0, 0]; rows],
@@ -120,7 +121,7 @@ fn counts_at_their_limits() {
 fn missing_words() {
     let words = plain(0, 0);
     for length in 0..words.len() {
-        assert_eq!(weigh(&words[..length], 18), Err(refusal(1, length as u64)));
+        assert_eq!(weigh(&words[..length], room(3)), Err(refusal(1, length as u64)));
     }
 }
 
@@ -129,7 +130,7 @@ fn missing_words() {
 fn words_that_follow() {
     let words = plain(0, 0);
     for more in [vec![0], vec![MOST, 0, 1]] {
-        assert_eq!(weigh(&[words.clone(), more].concat(), 18), Err(refusal(3, 36)));
+        assert_eq!(weigh(&[words.clone(), more].concat(), room(3)), Err(refusal(3, 36)));
     }
 }
 
@@ -157,7 +158,7 @@ fn first_bad_word_decides() {
 }
 
 /// A deal whose third tranche, at place 25, is so thin that A equals D. The charge is 8,000, far below.
-fn thin(facts: [u64; 4], status: u64, rating: u64) -> Vec<u64> {
+fn thin(facts: Facts, status: u64, rating: u64) -> Vec<u64> {
     let tranche = |amount, class| [amount, class, 72, 0, rating, 0, 0];
     let pool = [[10_000_000_000, 10_000_000_000, 10, status]];
     sheet(facts, &pool, &[tranche(1_000_000, 1), tranche(1, 2), tranche(1, 3)])
@@ -167,12 +168,13 @@ fn thin(facts: [u64; 4], status: u64, rating: u64) -> Vec<u64> {
 #[test]
 fn short_results() {
     let words = plain(0, 0);
-    for room in [0, 17] {
-        assert_eq!(weigh(&words, room), Err(refusal(14, 0)));
-        assert_eq!(weigh(&[words.clone(), vec![0]].concat(), room), Err(refusal(3, 36)));
-        assert_eq!(weigh(&thin([0, 0, 1, 1], 0, 0), room), Err(refusal(14, 0)));
+    assert_eq!(room(1), 6);
+    for short in [0, room(3) - 1] {
+        assert_eq!(weigh(&words, short), Err(refusal(14, 0)));
+        assert_eq!(weigh(&[words.clone(), vec![0]].concat(), short), Err(refusal(3, 36)));
+        assert_eq!(weigh(&thin([0, 0, 1, 1], 0, 0), short), Err(refusal(14, 0)));
     }
-    assert!(weigh(&words, 18).is_ok() && weigh(&words, MOST).is_ok());
+    assert!(weigh(&words, room(3)).is_ok() && weigh(&words, MOST).is_ok());
 }
 
 /// Refusal 13: at the first tranche in order, in ordinary deals and re-securitisations, where SEC-SA applies and D is
@@ -180,15 +182,15 @@ fn short_results() {
 #[test]
 fn no_thickness() {
     // N less 1,000,000 is 999,900 millionths; one unit less rounds down to 999,899, and another one stays there.
-    assert_eq!(weigh(&thin([0, 0, 1, 1], 0, 0), 18), Err(refusal(13, 25)));
-    assert_eq!(weigh(&thin([0, 1, 1, 1], 3, 24), 18), Err(refusal(13, 25)));
-    assert!(weigh(&thin([0, 0, 1, 1], 0, 18), 18).is_ok());
-    assert!(weigh(&thin([0, 0, 0, 1], 0, 0), 18).is_ok());
+    assert_eq!(weigh(&thin([0, 0, 1, 1], 0, 0), room(3)), Err(refusal(13, 25)));
+    assert_eq!(weigh(&thin([0, 1, 1, 1], 3, 24), room(3)), Err(refusal(13, 25)));
+    assert!(weigh(&thin([0, 0, 1, 1], 0, 18), room(3)).is_ok());
+    assert!(weigh(&thin([0, 0, 0, 1], 0, 0), room(3)).is_ok());
     // With 1 in class 1, the points below it are all 999,999: the second tranche is refused before the third.
     let two_thin = with(&thin([0, 0, 1, 1], 0, 0), 11, 1);
-    assert_eq!(weigh(&two_thin, 18), Err(refusal(13, 18)));
+    assert_eq!(weigh(&two_thin, room(3)), Err(refusal(13, 18)));
     let high_charge = with(&thin([0, 0, 1, 1], 0, 0), 8, 1250);
-    assert!(weigh(&high_charge, 18).is_ok());
+    assert!(weigh(&high_charge, room(3)).is_ok());
 }
 
 /// A equal to D at the charge is accepted, one millionth above the charge it is refused.
@@ -204,7 +206,7 @@ fn no_thickness_at_the_charge() {
                 &pool,
                 &[[first, 1, 72, 0, 0, 0, 0], [1, 2, 72, 1, 0, 0, 0]],
             ),
-            12,
+            room(2),
         )
     };
     let at_charge = deal(1_000_000_001).expect("D is at the charge");
@@ -216,17 +218,19 @@ fn no_thickness_at_the_charge() {
     assert_eq!(deal(1_000_010_001), Err(refusal(13, 18)));
 }
 
-/// Refusal 15: a length that is not a multiple of 8 or over 33,848 bytes, before all others, at place 0.
+/// Refusal 15: a length that is not a multiple of 8 or over the most, which is 33,848 bytes, before all others, at place
+/// 0.
 #[test]
 fn file_lengths() {
     let bytes = file(&plain(0, 0));
-    assert_eq!(weigh_file(&bytes, 18), weigh(&plain(0, 0), 18));
+    assert_eq!(weigh_file(&bytes, room(3)), weigh(&plain(0, 0), room(3)));
     assert_eq!(weigh_file(&[], 0), Err(refusal(1, 0)));
     for length in (1..bytes.len()).filter(|length| length % 8 != 0) {
         assert_eq!(weigh_file(&bytes[..length], 0), Err(refusal(15, 0)));
     }
     assert_eq!(weigh_file(&bytes[..16], 0), Err(refusal(1, 2)));
-    assert_eq!(weigh_file(&[255; 33_848], 0), Err(refusal(2, 0)));
-    assert_eq!(weigh_file(&[255; 33_856], 0), Err(refusal(15, 0)));
-    assert_eq!(weigh_file(&[255; 33_847], 0), Err(refusal(15, 0)));
+    assert_eq!(FILE_BYTES, 33_848);
+    assert_eq!(weigh_file(&[255; FILE_BYTES], 0), Err(refusal(2, 0)));
+    assert_eq!(weigh_file(&[255; FILE_BYTES + 8], 0), Err(refusal(15, 0)));
+    assert_eq!(weigh_file(&[255; FILE_BYTES - 1], 0), Err(refusal(15, 0)));
 }

@@ -1,7 +1,7 @@
 //! A plain double-precision calculator of tranche weights.
 //!
-//! It reads the deal sheet of document 01, refuses what 01 refuses in the same order, and writes the same six result
-//! words for each tranche. Sums of whole amounts are kept in `u64`. Every figure with a division or an exponential in
+//! It reads the deal sheet of document 01, refuses what 01 refuses in the same order, and writes the same result words
+//! for each tranche. Sums of whole amounts are kept in `u64`. Every figure with a division or an exponential in
 //! it is worked in `f64`, with `exp`, `ceil` and `floor`.
 //!
 //! **Its rounding differs from document 01's in rare places.** A product above 2^53 loses its last digits in `f64`, and
@@ -11,18 +11,21 @@
 
 #![forbid(unsafe_code)]
 
+mod limits;
 mod points;
 mod pool;
 mod rating;
 mod sheet;
 mod tranche;
 
+pub use limits::LINE_WORDS;
+use limits::{refusal, MOST_TRANCHES, TRANCHE_WORDS};
 use points::Points;
+use sheet::Deal;
 pub use sheet::Refusal;
-use sheet::{Deal, MOST_TRANCHES, TRANCHE_WORDS};
-use tranche::{Approach, Terms, LINE_WORDS};
+use tranche::{Approach, Terms};
 
-/// Weighs the deal of a sheet and writes a line of six words for each tranche into `results`.
+/// Weighs the deal of a sheet and writes a line of [`LINE_WORDS`] words for each tranche into `results`.
 ///
 /// The answer is the tranche count and the pool charge, or else the number and the place of the refusal. On a refusal
 /// `results` is left as it was; words after the last line are never written.
@@ -30,7 +33,7 @@ pub fn weigh(sheet: &[u64], results: &mut [u64]) -> Result<(u64, u64), Refusal> 
     let deal = sheet::read(sheet)?;
     let count = deal.tranches.len();
     if results.len() < LINE_WORDS * count {
-        return Err((14, 0));
+        return Err((refusal::ROOM, 0));
     }
     let terms = Terms::of(&deal);
     let mut points = [Points::default(); MOST_TRANCHES];
@@ -52,7 +55,10 @@ fn refuse_empty_tranche(deal: &Deal, terms: &Terms, points: &[Points]) -> Result
             && terms.approach(&words.into()) == Approach::SecSa
     };
     match deal.tranches.iter().zip(points).position(empty) {
-        Some(number) => Err((13, (deal.first_tranche + TRANCHE_WORDS * number) as u64)),
+        Some(number) => {
+            let place = deal.first_tranche + TRANCHE_WORDS * number;
+            Err((refusal::NO_THICKNESS, place as u64))
+        }
         None => Ok(()),
     }
 }

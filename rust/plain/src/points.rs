@@ -1,6 +1,7 @@
 //! "Points and pool charge": where the tranches attach and detach.
 
-use crate::sheet::TRANCHE_WORDS;
+use crate::limits::TRANCHE_WORDS;
+use crate::sheet::{AMOUNT, CLASS};
 
 /// Where a tranche attaches and detaches, in millionths of the pool.
 #[derive(Clone, Copy, Default)]
@@ -14,8 +15,8 @@ pub struct Points {
 pub fn place(tranches: &[[u64; TRANCHE_WORDS]], nominal: u64, mut points: &mut [Points]) {
     let mut below = nominal;
     let mut detachment = 1e6;
-    for class in tranches.chunk_by(|one, next| one[1] == next[1]) {
-        let amount = class.iter().map(|words| words[0]).sum();
+    for class in tranches.chunk_by(|one, next| one[CLASS] == next[CLASS]) {
+        let amount = class.iter().map(|words| words[AMOUNT]).sum();
         below = below.saturating_sub(amount);
         let attachment = (below as f64 * 1e6 / nominal as f64).floor();
         let of_class;

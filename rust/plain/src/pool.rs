@@ -1,7 +1,16 @@
 //! "Points and pool charge": the sums over the rows, and the charge and the cap that follow from them.
 
-const DELINQUENT: u64 = 1;
-const NOT_KNOWN: u64 = 2;
+/// The status codes of a row.
+pub mod status {
+    /// Pays.
+    pub const PAYING: u64 = 0;
+    /// Delinquent.
+    pub const DELINQUENT: u64 = 1;
+    /// Not known.
+    pub const NOT_KNOWN: u64 = 2;
+    /// A securitisation tranche.
+    pub const TRANCHE: u64 = 3;
+}
 
 /// One row of the pool.
 pub struct Row {
@@ -42,8 +51,8 @@ impl Pool {
     pub fn add(&mut self, row: &Row) {
         self.all.add(row);
         match row.status {
-            DELINQUENT => self.late += row.nominal,
-            NOT_KNOWN => self.unknown.add(row),
+            status::DELINQUENT => self.late += row.nominal,
+            status::NOT_KNOWN => self.unknown.add(row),
             _ => {}
         }
     }

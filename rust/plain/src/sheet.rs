@@ -1,19 +1,19 @@
 //! "The deal sheet" and "Refusals": reading the words in order and refusing the first bad one.
 
-use crate::pool::{Pool, Row};
+use crate::limits::{
+    refusal, FACTS, MOST_MONTHS, MOST_POOL_AMOUNT, MOST_RISK_WEIGHT, MOST_ROWS, MOST_TRANCHES, MOST_TRANCHE_AMOUNT,
+    RATINGS, TRANCHE_WORDS,
+};
+use crate::pool::{status, Pool, Row};
 use std::ops::RangeInclusive;
 
 /// A refusal: its number and its place.
 pub type Refusal = (u64, u64);
 
-/// Words of a tranche's row.
-pub const TRANCHE_WORDS: usize = 7;
-/// The most tranches that a sheet can hold.
-pub const MOST_TRANCHES: usize = 32;
-
-const MOST_ROWS: u64 = 1_000;
-const MOST_POOL_AMOUNT: u64 = 10_000_000_000;
-const MOST_TRANCHE_AMOUNT: u64 = 10_000_000_000_000;
+/// Where a tranche's words hold its amount.
+pub const AMOUNT: usize = 0;
+/// Where a tranche's words hold its class.
+pub const CLASS: usize = 1;
 
 /// A sheet that has no bad word: its facts, the sums of its pool, and its tranches as they stand in the sheet.
 pub struct Deal<'a> {
@@ -36,7 +36,7 @@ pub struct Tranche {
     pub class: u64,
     pub months: u64,
     pub held: u64,
-    pub ratings: [u64; 3],
+    pub ratings: [u64; RATINGS],
 }
 
 impl From<&[u64; TRANCHE_WORDS]> for Tranche {
@@ -56,11 +56,11 @@ pub fn read(sheet: &[u64]) -> Result<Deal<'_>, Refusal> {
     let mut reader = Reader { sheet, place: 0 };
     let facts = reader.facts()?;
     let pool = reader.pool(facts.resecuritisation)?;
-    let count = reader.within(1..=MOST_TRANCHES as u64, 2)?;
+    let count = reader.within(1..=MOST_TRANCHES as u64, refusal::COUNT)?;
     let first_tranche = reader.place;
     reader.check_tranches(count)?;
     if reader.place < sheet.len() {
-        return Err((3, reader.place as u64));
+        return Err((refusal::FOLLOWS, reader.place as u64));
     }
     let (tranches, _) = sheet[first_tranche..].as_chunks();
     Ok(Deal {
@@ -78,9 +78,10 @@ struct Reader<'a> {
 }
 
 impl Reader<'_> {
-    /// The next word. A missing one is refusal 1 at the sheet's length.
+    /// The next word. A missing one is refused at the sheet's length.
     fn next(&mut self) -> Result<u64, Refusal> {
-        let word = *self.sheet.get(self.place).ok_or((1, self.sheet.len() as u64))?;
+        let missing = (refusal::MISSING, self.sheet.len() as u64);
+        let word = *self.sheet.get(self.place).ok_or(missing)?;
         self.place += 1;
         Ok(word)
     }
@@ -102,14 +103,14 @@ impl Reader<'_> {
 
     /// A fact that is 0 for no and 1 for yes.
     fn flag(&mut self) -> Result<bool, Refusal> {
-        Ok(self.within(0..=1, 4)? == 1)
+        Ok(self.within(0..=1, refusal::FACT)? == 1)
     }
 
-    /// The section of facts. Pool kinds 1 and 2 are listed codes, and refused by 12.
+    /// The section of facts. Pool kinds 1 and 2 are listed codes, and refused by a number of their own.
     fn facts(&mut self) -> Result<Facts, Refusal> {
-        self.within(4..=4, 2)?;
-        if self.within(0..=2, 4)? != 0 {
-            return self.refuse(12);
+        self.within(FACTS..=FACTS, refusal::COUNT)?;
+        if self.within(0..=2, refusal::FACT)? != 0 {
+            return self.refuse(refusal::POOL_KIND);
         }
         Ok(Facts {
             resecuritisation: self.flag()?,
@@ -120,15 +121,19 @@ impl Reader<'_> {
 
     /// The section of the pool, added up row by row. A re-securitisation holds securitisation tranches and nothing else.
     fn pool(&mut self, resecuritisation: bool) -> Result<Pool, Refusal> {
-        let statuses = if resecuritisation { 3..=3 } else { 0..=2 };
-        let count = self.within(1..=MOST_ROWS, 2)?;
+        let statuses = if resecuritisation {
+            status::TRANCHE..=status::TRANCHE
+        } else {
+            status::PAYING..=status::NOT_KNOWN
+        };
+        let count = self.within(1..=MOST_ROWS, refusal::COUNT)?;
         let mut pool = Pool::default();
         for _ in 0..count {
             pool.add(&Row {
-                exposure: self.within(1..=MOST_POOL_AMOUNT, 5)?,
-                nominal: self.within(1..=MOST_POOL_AMOUNT, 5)?,
-                risk_weight: self.within(0..=1250, 6)?,
-                status: self.within(statuses.clone(), 7)?,
+                exposure: self.within(1..=MOST_POOL_AMOUNT, refusal::POOL_AMOUNT)?,
+                nominal: self.within(1..=MOST_POOL_AMOUNT, refusal::POOL_AMOUNT)?,
+                risk_weight: self.within(0..=MOST_RISK_WEIGHT, refusal::RISK_WEIGHT)?,
+                status: self.within(statuses.clone(), refusal::STATUS)?,
             });
         }
         Ok(pool)
@@ -138,13 +143,13 @@ impl Reader<'_> {
     fn check_tranches(&mut self, count: u64) -> Result<(), Refusal> {
         let mut classes = 1..=1;
         for _ in 0..count {
-            let amount = self.within(1..=MOST_TRANCHE_AMOUNT, 8)?;
-            let class = self.within(classes, 9)?;
-            self.within(1..=1200, 10)?;
-            self.within(0..=amount, 8)?;
-            for _ in 0..3 {
+            let amount = self.within(1..=MOST_TRANCHE_AMOUNT, refusal::TRANCHE_AMOUNT)?;
+            let class = self.within(classes, refusal::CLASS)?;
+            self.within(1..=MOST_MONTHS, refusal::MATURITY)?;
+            self.within(0..=amount, refusal::TRANCHE_AMOUNT)?;
+            for _ in 0..RATINGS {
                 if !matches!(self.next()?, 0..=18 | 21..=24) {
-                    return self.refuse(11);
+                    return self.refuse(refusal::RATING);
                 }
             }
             classes = class..=class + 1;

@@ -1,11 +1,9 @@
 //! "Which approach, then floor, then cap" and "The formula and its series", tranche by tranche.
 
+use crate::limits::{LINE_WORDS, RATINGS};
 use crate::points::Points;
 use crate::rating;
 use crate::sheet::{Deal, Tranche};
-
-/// Result words for each tranche: approach, A, D, weight, risk-weighted amount, capital.
-pub const LINE_WORDS: usize = 6;
 
 /// 1250%, in hundredths of a percent.
 const FULL: f64 = 125_000.0;
@@ -60,7 +58,7 @@ impl Terms {
             Approach::Fallback
         } else if self.resecuritisation {
             Approach::SecSa
-        } else if tranche.ratings != [0; 3] {
+        } else if tranche.ratings != [0; RATINGS] {
             Approach::SecErba
         } else if self.charge_known {
             Approach::SecSa
@@ -69,7 +67,7 @@ impl Terms {
         }
     }
 
-    /// The six result words of a tranche.
+    /// The result words of a tranche.
     pub fn line(&self, tranche: &Tranche, points: &Points) -> [u64; LINE_WORDS] {
         let approach = self.approach(tranche);
         let weight = match approach {
@@ -80,8 +78,14 @@ impl Terms {
         let weighted = tranche.held as f64 * weight;
         let risk_weighted = (weighted / 1e4).ceil();
         let capital = (weighted * 8.0 / 1e6).ceil();
-        let words = [points.attachment, points.detachment, weight, risk_weighted, capital].map(|figure| figure as u64);
-        [approach as u64, words[0], words[1], words[2], words[3], words[4]]
+        [
+            approach as u64,
+            points.attachment as u64,
+            points.detachment as u64,
+            weight as u64,
+            risk_weighted as u64,
+            capital as u64,
+        ]
     }
 
     /// A weight raised to the floor, then lowered to the cap of class 1.

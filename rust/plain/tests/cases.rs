@@ -1,6 +1,21 @@
 //! Document 01's checked deals and refusals, through the one function that callers have.
 
+use plain::LINE_WORDS;
+
+/// The words of a pool row.
+type Row = [u64; 4];
+
+/// The words of a tranche row.
+type Tranche = [u64; 7];
+
+/// The facts' section of an ordinary deal.
 const FACTS: [u64; 5] = [4, 0, 0, 1, 1];
+
+/// Where a line holds its approach.
+const APPROACH: usize = 0;
+
+/// Where a line holds its weight.
+const WEIGHT: usize = 3;
 
 /// The whole deal of "Checked deals".
 const CHECKED: [u64; 36] = [
@@ -9,7 +24,7 @@ const CHECKED: [u64; 36] = [
 ];
 
 /// A sheet of the given facts, pool rows and tranche rows.
-fn sheet(facts: &[u64], rows: &[[u64; 4]], tranches: &[[u64; 7]]) -> Vec<u64> {
+fn sheet(facts: &[u64], rows: &[Row], tranches: &[Tranche]) -> Vec<u64> {
     let counted = |count: usize| [count as u64];
     [
         facts,
@@ -22,27 +37,28 @@ fn sheet(facts: &[u64], rows: &[[u64; 4]], tranches: &[[u64; 7]]) -> Vec<u64> {
 }
 
 /// The charge and the lines of a sheet that must be accepted.
-fn weighed(sheet: &[u64]) -> (u64, Vec<[u64; 6]>) {
-    let mut results = [0; 192];
+fn weighed(sheet: &[u64]) -> (u64, Vec<[u64; LINE_WORDS]>) {
+    let mut results = [0; 4 * LINE_WORDS];
     let (count, charge) = plain::weigh(sheet, &mut results).expect("an accepted sheet");
     let lines = results.as_chunks().0[..count as usize].to_vec();
     (charge, lines)
 }
 
 /// An ordinary tranche of 72 months, wholly held.
-fn tranche(amount: u64, class: u64, rating: u64) -> [u64; 7] {
+fn tranche(amount: u64, class: u64, rating: u64) -> Tranche {
     [amount, class, 72, amount, rating, 0, 0]
 }
 
 /// The text of "Checked deals", word by word.
 #[test]
 fn checked_deal_gives_the_lines_of_01_and_writes_no_later_word() {
-    let mut results = [77; 20];
+    let mut results = [77; 3 * LINE_WORDS + 2];
     assert_eq!(plain::weigh(&CHECKED, &mut results), Ok((3, 101_000)));
-    assert_eq!(results[..6], [1, 200_000, 1_000_000, 2_000, 160, 13]);
-    assert_eq!(results[6..12], [1, 50_000, 200_000, 26_350, 264, 22]);
-    assert_eq!(results[12..18], [2, 0, 50_000, 125_000, 625, 50]);
-    assert_eq!(results[18..], [77, 77]);
+    let (lines, later) = results.as_chunks::<LINE_WORDS>();
+    assert_eq!(lines[0], [1, 200_000, 1_000_000, 2_000, 160, 13]);
+    assert_eq!(lines[1], [1, 50_000, 200_000, 26_350, 264, 22]);
+    assert_eq!(lines[2], [2, 0, 50_000, 125_000, 625, 50]);
+    assert_eq!(later, [77, 77]);
 }
 
 /// Senior AA at 36 months; non-senior A+ at 12 months, half thick; senior AAA over loans of 10%; several ratings.
@@ -50,20 +66,20 @@ fn checked_deal_gives_the_lines_of_01_and_writes_no_later_word() {
 fn rated_cases() {
     let loans = [[1_000, 1_000, 100, 0]];
     let (_, lines) = weighed(&sheet(&FACTS, &loans, &[[1_000, 1, 36, 0, 3, 0, 0]]));
-    assert_eq!(lines[0][3], 3_100);
+    assert_eq!(lines[0][WEIGHT], 3_100);
     let (_, lines) = weighed(&sheet(&FACTS, &loans, &[tranche(500, 1, 1), [500, 2, 12, 0, 5, 0, 0]]));
-    assert_eq!(lines[1][3], 4_000);
+    assert_eq!(lines[1][WEIGHT], 4_000);
     let (_, lines) = weighed(&sheet(&FACTS, &[[1_000, 1_000, 10, 0]], &[tranche(1_000, 1, 1)]));
-    assert_eq!(lines[0][3], 1_000);
+    assert_eq!(lines[0][WEIGHT], 1_000);
     let (_, lines) = weighed(&sheet(&FACTS, &loans, &[[1_000, 1, 72, 0, 1, 21, 3]]));
-    assert_eq!(lines[0][3], 4_000, "the highest of several ratings counts");
+    assert_eq!(lines[0][WEIGHT], 4_000, "the highest of several ratings counts");
 }
 
 /// The rows (2, 100%) and (1, 50%).
 #[test]
 fn charge_and_cap_round_up() {
     let (charge, lines) = weighed(&sheet(&FACTS, &[[2, 2, 100, 0], [1, 1, 50, 0]], &[tranche(3, 1, 18)]));
-    assert_eq!((charge, lines[0][3]), (66_667, 8_334));
+    assert_eq!((charge, lines[0][WEIGHT]), (66_667, 8_334));
 }
 
 /// A base of 80,000 with 5% unknown, and with 5.1%.
@@ -71,9 +87,9 @@ fn charge_and_cap_round_up() {
 fn unknown_rows_above_a_twentieth_give_the_fallback() {
     let pool = |unknown| [[1_000 - unknown, 1_000 - unknown, 100, 0], [unknown, unknown, 100, 2]];
     let (charge, lines) = weighed(&sheet(&FACTS, &pool(50), &[tranche(1_000, 1, 0)]));
-    assert_eq!((charge, lines[0][0]), (126_000, 2));
+    assert_eq!((charge, lines[0][APPROACH]), (126_000, 2));
     let (charge, lines) = weighed(&sheet(&FACTS, &pool(51), &[tranche(1_000, 1, 0)]));
-    assert_eq!((charge, lines[0][0], lines[0][3]), (1_000_000, 0, 125_000));
+    assert_eq!((charge, lines[0][APPROACH], lines[0][WEIGHT]), (1_000_000, 0, 125_000));
 }
 
 /// K = 0: the raw weight is 0 where D is above 0, so floor and cap decide; where D is 0 too it is 125,000.
@@ -82,7 +98,10 @@ fn formula_without_charge_gives_cap_floor_or_all() {
     let tranches = [tranche(500, 1, 0), tranche(500, 2, 0), tranche(5, 3, 0)];
     let (charge, lines) = weighed(&sheet(&FACTS, &[[1_000, 1_000, 0, 0]], &tranches));
     assert_eq!(charge, 0);
-    assert_eq!([lines[0][3], lines[1][3], lines[2][3]], [0, 1_500, 125_000]);
+    assert_eq!(
+        [lines[0][WEIGHT], lines[1][WEIGHT], lines[2][WEIGHT]],
+        [0, 1_500, 125_000]
+    );
 }
 
 /// The weights of these cases are open by one, and `f64` may add one: each must be within 2 of 01's lower figure.
@@ -94,8 +113,12 @@ fn formula_cases_are_near_those_of_01() {
         let tranches = [tranche(senior, 1, 0), tranche(middle, 2, 0), tranche(junior, 3, 0)];
         let (charge, lines) = weighed(&sheet(&FACTS, &loans, &tranches));
         assert_eq!(charge, 100_000);
-        assert!(lines[1][3].abs_diff(expected) <= 2, "{} for {expected}", lines[1][3]);
-        assert_eq!(lines[2][3], 125_000, "D = K, or D below K");
+        assert!(
+            lines[1][WEIGHT].abs_diff(expected) <= 2,
+            "{} for {expected}",
+            lines[1][WEIGHT]
+        );
+        assert_eq!(lines[2][WEIGHT], 125_000, "D = K, or D below K");
     }
 }
 
@@ -107,12 +130,12 @@ fn resecuritisation_takes_its_own_parameter_and_floor_and_no_ratings() {
     let (charge, lines) = weighed(&sheet(&facts, &[[1_000, 1_000, 125, 3]], &tranches));
     assert_eq!(charge, 100_000);
     // 125,000 × 1.5 × (1 − e^(−2/3)) = 91,234.29…
-    assert!(lines[1][3].abs_diff(91_235) <= 2, "{}", lines[1][3]);
+    assert!(lines[1][WEIGHT].abs_diff(91_235) <= 2, "{}", lines[1][WEIGHT]);
     // 125,000 × 150,000 × (e^(−2/3) − e^(−6)) / 800,000 = 11,975.1…
-    assert!(lines[0][3].abs_diff(11_976) <= 2, "{}", lines[0][3]);
-    assert_eq!(lines[0][0], 2, "SEC-SA in spite of the ratings");
+    assert!(lines[0][WEIGHT].abs_diff(11_976) <= 2, "{}", lines[0][WEIGHT]);
+    assert_eq!(lines[0][APPROACH], 2, "SEC-SA in spite of the ratings");
     let (_, lines) = weighed(&sheet(&facts, &[[1_000, 1_000, 10, 3]], &[tranche(1_000, 1, 1)]));
-    assert_eq!(lines[0][3], 10_000, "the floor, and no cap");
+    assert_eq!(lines[0][WEIGHT], 10_000, "the floor, and no cap");
 }
 
 /// The rating would give 2,000, and the cap 10,000.
@@ -158,22 +181,22 @@ fn each_bad_word_is_refused_at_its_place() {
     for (place, word, number) in changes {
         let mut sheet = CHECKED;
         sheet[place] = word;
-        refused(&sheet, 18, number, place as u64);
+        refused(&sheet, 3 * LINE_WORDS, number, place as u64);
     }
     let mut resecuritisation = CHECKED;
     resecuritisation[2] = 1;
-    refused(&resecuritisation, 18, 7, 9);
+    refused(&resecuritisation, 3 * LINE_WORDS, 7, 9);
 }
 
 /// Every shortened form of the checked deal is refused at its length; 3 comes before 14.
 #[test]
 fn missing_and_following_words_are_refused_then_short_results() {
     for length in 0..CHECKED.len() {
-        refused(&CHECKED[..length], 18, 1, length as u64);
+        refused(&CHECKED[..length], 3 * LINE_WORDS, 1, length as u64);
     }
     let longer = [&CHECKED[..], &[1, 2]].concat();
     refused(&longer, 0, 3, 36);
-    refused(&CHECKED, 17, 14, 0);
+    refused(&CHECKED, 3 * LINE_WORDS - 1, 14, 0);
 }
 
 /// Refusal 13 names the first tranche without thickness above the charge; a rated one passes.
@@ -188,9 +211,9 @@ fn empty_tranche_above_the_charge_is_refused() {
         ];
         sheet(&FACTS, &[[10_000_003, 10_000_003, 100, 0]], &tranches)
     };
-    refused(&deal(0), 24, 13, 18);
-    refused(&deal(1), 24, 13, 32);
-    refused(&deal(0), 23, 14, 0);
+    refused(&deal(0), 4 * LINE_WORDS, 13, 18);
+    refused(&deal(1), 4 * LINE_WORDS, 13, 32);
+    refused(&deal(0), 4 * LINE_WORDS - 1, 14, 0);
 }
 
 /// A sheet that must be refused so, with no result word written.

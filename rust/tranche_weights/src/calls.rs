@@ -25,8 +25,8 @@ pub fn reply_to_words(sheet: &[u64], results: &mut [u64]) -> Reply {
     library::weigh(sheet, results)
 }
 
-/// Weighs the sheet that any words state, and writes six words per tranche to the results: approach, attachment point,
-/// detachment point, weight, risk-weighted amount, capital, in the units of [`Line`].
+/// Weighs the sheet that any words state, and writes [`LINE_WORDS`] words per tranche to the results: the fields of
+/// [`Line`], in their order and units.
 ///
 /// Later words of the results are as they were. [`RESULT_WORDS`](crate::RESULT_WORDS) words are always enough.
 ///
@@ -35,19 +35,19 @@ pub fn reply_to_words(sheet: &[u64], results: &mut [u64]) -> Reply {
 /// The [`Refusal`]; then all words of the results are as they were.
 ///
 /// ```
-/// use tranche_weights::{weigh_words, Reason};
+/// use tranche_weights::{weigh_words, Reason, LINE_WORDS};
 ///
 /// // One loan of 100 at 100%, one tranche of 80 that is held in full, five years, AAA.
 /// let sheet = [4, 0, 0, 1, 1, 1, 100, 100, 100, 0, 1, 80, 1, 60, 80, 1, 0, 0];
-/// let mut results = [7; 8];
+/// let mut results = [7; LINE_WORDS + 2];
 /// let weighed = weigh_words(&sheet, &mut results)?;
 /// assert_eq!((weighed.count, weighed.charge), (1, 80_000));
 /// assert_eq!(results, [1, 200_000, 1_000_000, 1_900, 16, 2, 7, 7]);
 ///
-/// let mut results = [7; 5];
+/// let mut results = [7; LINE_WORDS - 1];
 /// let refusal = weigh_words(&sheet, &mut results).unwrap_err();
 /// assert_eq!((refusal.reason(), refusal.place()), (Reason::Room, 0));
-/// assert_eq!(results, [7; 5]);
+/// assert_eq!(results, [7; LINE_WORDS - 1]);
 /// # Ok::<(), tranche_weights::Refusal>(())
 /// ```
 pub fn weigh_words(sheet: &[u64], results: &mut [u64]) -> Result<Weighed, Refusal> {
@@ -60,14 +60,14 @@ pub fn weigh_words(sheet: &[u64], results: &mut [u64]) -> Result<Weighed, Refusa
 /// The bytes are those of [`weigh_file`], the results those of [`weigh_words`].
 ///
 /// ```
-/// use tranche_weights::{reply_to_file, Reply, RESULT_WORDS};
+/// use tranche_weights::{reply_to_file, Reply, LINE_WORDS, RESULT_WORDS};
 ///
 /// // One loan of 100 at 100%, one tranche of 80 that is held in full, five years, AAA.
 /// let sheet: [u64; 18] = [4, 0, 0, 1, 1, 1, 100, 100, 100, 0, 1, 80, 1, 60, 80, 1, 0, 0];
 /// let file = sheet.map(u64::to_le_bytes).concat();
 /// let mut results = [0; RESULT_WORDS];
 /// assert_eq!(reply_to_file(&file, &mut results), Reply::accepting(1, 80_000));
-/// assert_eq!(results[..6], [1, 200_000, 1_000_000, 1_900, 16, 2]);
+/// assert_eq!(results[..LINE_WORDS], [1, 200_000, 1_000_000, 1_900, 16, 2]);
 ///
 /// assert_eq!(reply_to_file(&file[1..], &mut results), Reply::refusing(15, 0));
 /// ```
@@ -79,8 +79,8 @@ pub fn reply_to_file(file: &[u8], results: &mut [u64]) -> Reply {
 ///
 /// # Errors
 ///
-/// The [`Refusal`]. A length that is no multiple of 8, or above 33,848 bytes, is refusal 15 at place 0, before all
-/// others.
+/// The [`Refusal`]. A length that is no multiple of [`BYTES_PER_WORD`](crate::BYTES_PER_WORD), or above
+/// [`FILE_BYTES`](crate::FILE_BYTES), is refusal 15 at place 0, before all others.
 ///
 /// ```
 /// use tranche_weights::{weigh_file, Reason};

@@ -59,7 +59,7 @@ pub struct Line {
 }
 
 impl Line {
-    /// The line that six result words state.
+    /// The line that its result words state.
     pub(crate) fn of(words: &[u64; LINE_WORDS]) -> Line {
         let &[approach, attachment, detachment, weight, risk_weighted_amount, capital] = words;
         Line {
@@ -100,53 +100,65 @@ impl Approach {
     }
 }
 
+/// Every listed approach with its name in the standard, by word from 0.
+const LISTED: &[(Approach, &str)] = &[
+    (Approach::Fallback, "fallback"),
+    (Approach::SecErba, "SEC-ERBA"),
+    (Approach::SecSa, "SEC-SA"),
+];
+
 impl From<u64> for Approach {
     /// The approach that a result word states.
     fn from(word: u64) -> Approach {
-        match word {
-            0 => Approach::Fallback,
-            1 => Approach::SecErba,
-            2 => Approach::SecSa,
-            other => Approach::Unlisted(other),
-        }
+        let listed = LISTED.iter().find(|(approach, _)| approach.word() == word);
+        listed.map_or(Approach::Unlisted(word), |(approach, _)| *approach)
     }
 }
 
 impl fmt::Display for Approach {
     /// Prints the approach as the standard names it.
     fn fmt(&self, f: &mut fmt::Formatter<'_>) -> fmt::Result {
-        match self {
-            Approach::Fallback => f.pad("fallback"),
-            Approach::SecErba => f.pad("SEC-ERBA"),
-            Approach::SecSa => f.pad("SEC-SA"),
-            Approach::Unlisted(word) => f.pad(&format!("unlisted approach {word}")),
+        match LISTED.iter().find(|(approach, _)| approach == self) {
+            Some((_, name)) => f.pad(name),
+            None => f.pad(&format!("unlisted approach {}", self.word())),
         }
     }
 }
 
 #[cfg(test)]
 mod tests {
-    use super::{Approach, Deal, Line};
+    use super::{Approach, Deal, Line, LINE_WORDS, LISTED};
+
+    /// The first word that document 01 does not list as an approach, and the highest.
+    const UNLISTED: [u64; 2] = [LISTED.len() as u64, u64::MAX];
 
     /// The word of a line that document 01 does not list as an approach is kept.
     #[test]
     fn an_unlisted_approach_is_kept() {
-        assert_eq!(Line::of(&[3, 0, 0, 0, 0, 0]).approach, Approach::Unlisted(3));
-        assert_eq!(Approach::Unlisted(3).to_string(), "unlisted approach 3");
+        for word in UNLISTED {
+            let approach = Line::of(&[word; LINE_WORDS]).approach;
+            assert_eq!((approach, approach.word()), (Approach::Unlisted(word), word));
+            assert_eq!(approach.to_string(), format!("unlisted approach {word}"));
+        }
     }
 
-    /// Each word states the approach that gives it back.
+    /// The list has the words from 0 on in order, and each states its own approach.
     #[test]
-    fn approaches_keep_their_words() {
-        assert!([0, 1, 2, 3, u64::MAX]
-            .iter()
-            .all(|&word| Approach::from(word).word() == word));
+    fn the_list_has_each_word_once() {
+        for ((approach, name), word) in LISTED.iter().zip(0..) {
+            assert_eq!((approach.word(), Approach::from(word)), (word, *approach));
+            assert_eq!(approach.to_string(), *name);
+        }
     }
 
     /// The totals of lines of any amounts are exact.
     #[test]
     fn totals_are_wide_enough() {
-        let line = Line::of(&[0, 0, 0, 0, u64::MAX, u64::MAX - 1]);
+        let line = Line {
+            risk_weighted_amount: u64::MAX,
+            capital: u64::MAX - 1,
+            ..Line::of(&[0; LINE_WORDS])
+        };
         let deal = Deal::new(0, vec![line; 3]);
         assert_eq!(deal.total_risk_weighted_amount(), 3 * u128::from(u64::MAX));
         assert_eq!(deal.total_capital(), 3 * u128::from(u64::MAX - 1));

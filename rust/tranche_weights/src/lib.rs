@@ -56,14 +56,15 @@
 //!
 //! A word is an unsigned number of 64 bits; its place is its position in the sheet, counted from 0. In this order:
 //!
-//! - 4, then four facts: the pool kind (0, a pool under the standardised approach; 1 and 2, a pool under the IRB
-//!   approach in whole or in part, are refused), then re-securitisation, due diligence held, pool composition known,
-//!   each 0 for no and 1 for yes;
-//! - the number of pool rows, 1 to 1,000, then for each: exposure amount and nominal amount (1 to 10^10), risk weight
-//!   in percent (0 to 1250), status (0 paying, 1 delinquent, 2 not known; 3, a securitisation tranche, in a
+//! - the number of facts, [`MOST_FACTS`], then the facts: the pool kind (0, a pool under the standardised approach; 1
+//!   and 2, a pool under the IRB approach in whole or in part, are refused), then re-securitisation, due diligence
+//!   held, pool composition known, each 0 for no and 1 for yes;
+//! - the number of pool rows, 1 to [`MOST_ROWS`], then for each: exposure amount and nominal amount (1 to 10^10), risk
+//!   weight in percent (0 to 1250), status (0 paying, 1 delinquent, 2 not known; 3, a securitisation tranche, in a
 //!   re-securitisation and only there);
-//! - the number of tranches, 1 to 32, then for each: amount (1 to 10^13), class, final legal maturity in months (1 to
-//!   1200), amount held (0 to the amount), three rating codes (0 for none, else [`Rating::code`]).
+//! - the number of tranches, 1 to [`MOST_TRANCHES`], then for each: amount (1 to 10^13), class, final legal maturity in
+//!   months (1 to 1200), amount held (0 to the amount), [`MOST_RATINGS`] rating codes (0 for none, else
+//!   [`Rating::code`]).
 //!
 //! The class is the rank: class 1 is the senior class, which bears losses last. Tranches stand from senior to junior:
 //! the first has class 1, each next the class of the one before it, with which it ranks pari passu, or one more.
@@ -107,7 +108,10 @@ mod tranche;
 pub use calls::{reply_to_file, reply_to_words, report, report_into, weigh_file, weigh_words};
 pub use deal::{Approach, Deal, Line};
 pub use facts::Facts;
-pub use limits::{LINE_WORDS, MOST_ROWS, MOST_TRANCHES, RESULT_WORDS, TEXT_ROOM};
+pub use limits::{
+    BYTES_PER_WORD, FILE_BYTES, LINE_WORDS, MOST_FACTS, MOST_RATINGS, MOST_ROWS, MOST_TRANCHES, NUMBER_DIGITS,
+    RESULT_WORDS, ROW_WORDS, SHEET_WORDS, TEXT_ROOM, TRANCHE_WORDS,
+};
 pub use numbers::{Months, PoolAmount, RiskWeight, TrancheAmount};
 pub use pool::{Row, Status};
 pub use rating::{LongTerm, Rating, ShortTerm};

@@ -1,10 +1,40 @@
-//! The limits of a sheet's counts and numbers, and the sizes of what a caller lends (document 01, "The deal sheet").
+//! The parts of a sheet, of a line and of a report, with the sizes that follow from them, and the limits of a sheet's
+//! numbers (document 01, "The deal sheet" and "Checked deals").
+//!
+//! A size that has parts is worked out from them, so that each number stands here once.
+
+/// The most facts that a sheet states, one word each. Now every sheet states so many.
+pub const MOST_FACTS: usize = 4;
 
 /// The most rows that a pool has; the fewest is 1.
 pub const MOST_ROWS: usize = 1000;
 
+/// The words of a pool row: exposure amount, nominal amount, risk weight, status.
+pub const ROW_WORDS: usize = 4;
+
 /// The most tranches that a deal has; the fewest is 1.
 pub const MOST_TRANCHES: usize = 32;
+
+/// The ratings that a tranche can have, one word each.
+pub const MOST_RATINGS: usize = 3;
+
+/// The words of a tranche: amount, class, maturity, amount held, then its ratings.
+pub const TRANCHE_WORDS: usize = 4 + MOST_RATINGS;
+
+/// The most words of a sheet: three sections, each after the word that counts its rows.
+pub const SHEET_WORDS: usize =
+    section_words(MOST_FACTS, 1) + section_words(MOST_ROWS, ROW_WORDS) + section_words(MOST_TRANCHES, TRANCHE_WORDS);
+
+/// The words of a section with so many rows of so many words each.
+const fn section_words(rows: usize, row_words: usize) -> usize {
+    1 + rows * row_words
+}
+
+/// The bytes of a word in a sheet's file.
+pub const BYTES_PER_WORD: usize = 8;
+
+/// The most bytes of a sheet's file.
+pub const FILE_BYTES: usize = BYTES_PER_WORD * SHEET_WORDS;
 
 /// The result words of one tranche, in the order of the fields of [`Line`](crate::Line).
 pub const LINE_WORDS: usize = 6;
@@ -12,9 +42,21 @@ pub const LINE_WORDS: usize = 6;
 /// Result words that are enough for every sheet: the lines of the most tranches.
 pub const RESULT_WORDS: usize = MOST_TRANCHES * LINE_WORDS;
 
-/// Bytes of a report's text that are always enough: 32 lines of seven numbers, the first and the last line, with every
-/// number of 20 digits.
-pub const TEXT_ROOM: usize = 4810;
+/// The most digits of a number of 64 bits.
+pub const NUMBER_DIGITS: usize = u64::MAX.ilog10() as usize + 1;
+
+/// The most bytes of a number in a report's text, with the space or the line's end after it.
+const NUMBER_BYTES: usize = NUMBER_DIGITS + 1;
+
+/// Bytes of a report's text that are always enough: the first line, with charge and count, a line for each of the most
+/// tranches, with its number before its words, and the last line, with two sums; every number of the most digits.
+pub const TEXT_ROOM: usize = "charge ".len()
+    + NUMBER_BYTES
+    + "tranches ".len()
+    + NUMBER_BYTES
+    + MOST_TRANCHES * (1 + LINE_WORDS) * NUMBER_BYTES
+    + "total ".len()
+    + 2 * NUMBER_BYTES;
 
 /// The lowest and the highest exposure amount or nominal amount of a pool row.
 pub(crate) const POOL_AMOUNT: (u64, u64) = (1, 10_000_000_000);

@@ -1,5 +1,6 @@
 //! The pool's rows (document 01, "The deal sheet").
 
+use crate::limits::ROW_WORDS;
 use crate::numbers::{PoolAmount, RiskWeight};
 
 /// A row of the pool, without its status.
@@ -27,9 +28,9 @@ impl Row {
         }
     }
 
-    /// The first three words of the row in the sheet; its status follows them.
-    pub(crate) const fn words(&self) -> [u64; 3] {
-        [self.exposure.get(), self.nominal.get(), self.risk_weight.get()]
+    /// The words of the row in the sheet, with the status word given.
+    pub(crate) const fn words(&self, status: u64) -> [u64; ROW_WORDS] {
+        [self.exposure.get(), self.nominal.get(), self.risk_weight.get(), status]
     }
 }
 

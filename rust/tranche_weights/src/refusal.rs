@@ -36,7 +36,8 @@ pub enum Reason {
     ThinTranche,
     /// 14: fewer result words lent than the tranches' lines take; place 0.
     Room,
-    /// 15: a file's length is no multiple of 8, or above 33,848 bytes; place 0.
+    /// 15: a file's length is no multiple of [`BYTES_PER_WORD`](crate::BYTES_PER_WORD), or above
+    /// [`FILE_BYTES`](crate::FILE_BYTES); place 0.
     FileLength,
     /// A number that is not listed. The library never gives one; one would mean that another archive was linked in its
     /// place. The number is kept here, so that nothing false is said of it.
@@ -75,8 +76,8 @@ impl fmt::Display for Reason {
     }
 }
 
-/// Every listed reason with what is wrong, in the words of the repository's README ("Refusals").
-const LISTED: [(Reason, &str); 15] = [
+/// Every listed reason with what is wrong, in the words of the repository's README ("Refusals"), by number from 1.
+const LISTED: &[(Reason, &str)] = &[
     (Reason::MissingWord, "the sheet ends too early; the place is its length"),
     (
         Reason::Count,
@@ -158,6 +159,10 @@ impl Error for Refusal {}
 #[cfg(test)]
 mod tests {
     use super::{Reason, Refusal, LISTED};
+    use crate::limits::{
+        BYTES_PER_WORD, FILE_BYTES, MONTHS, MOST_FACTS, MOST_ROWS, MOST_TRANCHES, POOL_AMOUNT, RISK_WEIGHT,
+        TRANCHE_AMOUNT,
+    };
 
     /// The repository's README.
     const README: &str = include_str!(concat!(env!("CARGO_MANIFEST_DIR"), "/../../README.md"));
@@ -178,10 +183,45 @@ mod tests {
     /// The README's table has just these numbers, each with just this text.
     #[test]
     fn the_readme_says_the_same() {
-        assert_eq!(readme_table(), LISTED.map(|(reason, wrong)| (reason.number(), wrong)));
+        let listed = LISTED.iter().map(|(reason, wrong)| (reason.number(), *wrong));
+        assert_eq!(readme_table(), listed.collect::<Vec<_>>());
     }
 
-    /// The list has the numbers 1 to 15 in order, and each gives its own reason.
+    /// A number with a comma between thousands.
+    fn grouped(number: usize) -> String {
+        format!("{},{:03}", number / 1000, number % 1000)
+    }
+
+    /// The power of ten that a limit is, as a text writes it.
+    fn power(limit: u64) -> String {
+        let exponent = limit.ilog10();
+        assert_eq!(limit, 10u64.pow(exponent));
+        format!("10^{exponent}")
+    }
+
+    /// A text that names limits names those of the crate.
+    #[test]
+    fn texts_name_the_limits() {
+        let (pool, tranche, (shortest, longest)) = (power(POOL_AMOUNT.1), power(TRANCHE_AMOUNT.1), MONTHS);
+        let (rows, bytes) = (grouped(MOST_ROWS), grouped(FILE_BYTES));
+        let counts = format!("{MOST_FACTS} facts, 1 to {rows} pool rows, 1 to {MOST_TRANCHES} tranches");
+        let parts = [
+            (Reason::Count, counts),
+            (Reason::PoolAmount, format!("above {pool}")),
+            (Reason::RiskWeight, format!("above {}", RISK_WEIGHT.1)),
+            (Reason::TrancheAmount, format!("above {tranche}, ")),
+            (Reason::Maturity, format!("outside {shortest} to {longest} months")),
+            (
+                Reason::FileLength,
+                format!("multiple of {BYTES_PER_WORD}, or above {bytes} bytes; "),
+            ),
+        ];
+        for (reason, part) in parts {
+            assert!(reason.to_string().contains(&part), "{reason}: {part}");
+        }
+    }
+
+    /// The list has the numbers from 1 on in order, and each gives its own reason.
     #[test]
     fn the_list_has_each_number_once() {
         for ((reason, wrong), number) in LISTED.iter().zip(1..) {
@@ -194,7 +234,7 @@ mod tests {
     /// A number that document 01 does not list is kept and said to be none that is listed.
     #[test]
     fn an_unlisted_number_is_kept() {
-        for number in [0, 16, u64::MAX] {
+        for number in [0, LISTED.len() as u64 + 1, u64::MAX] {
             let refusal = Refusal::new(number, 3);
             assert_eq!(refusal.reason(), Reason::Unlisted(number));
             assert_eq!(refusal.reason().number(), number);

@@ -5,7 +5,7 @@ use std::marker::PhantomData;
 use crate::calls::weigh_sheet;
 use crate::deal::Deal;
 use crate::facts::Facts;
-use crate::limits::{MOST_ROWS, MOST_TRANCHES};
+use crate::limits::{MOST_FACTS, MOST_ROWS, MOST_TRANCHES, ROW_WORDS, TRANCHE_WORDS};
 use crate::pool::{Row, Status};
 use crate::refusal::Refusal;
 use crate::sheet_error::SheetError;
@@ -19,6 +19,9 @@ pub enum Ordinary {}
 #[derive(Debug, Clone, Copy, PartialEq, Eq, Hash)]
 pub enum Resecuritisation {}
 
+/// The pool kind of every deal: a pool under the standardised approach, SA.
+const SA: u64 = 0;
+
 /// The status word of every row in a re-securitisation: a securitisation tranche.
 const SECURITISATION_TRANCHE: u64 = 3;
 
@@ -27,10 +30,10 @@ const SECURITISATION_TRANCHE: u64 = 3;
 /// A method that answers with an error leaves the builder as it was.
 #[derive(Debug, Clone, PartialEq, Eq)]
 pub struct SheetBuilder<Kind> {
-    /// Four rows of one word each.
-    facts: [[u64; 1]; 4],
-    rows: Vec<[u64; 4]>,
-    tranches: Vec<[u64; 7]>,
+    /// Rows of one word each.
+    facts: [[u64; 1]; MOST_FACTS],
+    rows: Vec<[u64; ROW_WORDS]>,
+    tranches: Vec<[u64; TRANCHE_WORDS]>,
     /// The class of the last tranche placed; 0 before the first.
     class: u64,
     kind: PhantomData<Kind>,
@@ -69,16 +72,16 @@ impl SheetBuilder<Resecuritisation> {
 }
 
 impl<Kind> SheetBuilder<Kind> {
-    /// Starts a deal of either kind. The first fact is the pool kind: 0, SA.
+    /// Starts a deal of either kind, with the facts in the sheet's order.
     fn start(resecuritisation: bool, facts: Facts) -> Self {
-        let flags = [
-            false,
-            resecuritisation,
-            facts.due_diligence_held,
-            facts.pool_composition_known,
+        let words = [
+            SA,
+            u64::from(resecuritisation),
+            u64::from(facts.due_diligence_held),
+            u64::from(facts.pool_composition_known),
         ];
         SheetBuilder {
-            facts: flags.map(|flag| [u64::from(flag)]),
+            facts: words.map(|word| [word]),
             rows: Vec::new(),
             tranches: Vec::new(),
             class: 0,
@@ -91,8 +94,7 @@ impl<Kind> SheetBuilder<Kind> {
         if self.rows.len() == MOST_ROWS {
             return Err(SheetError::TooManyRows);
         }
-        let [exposure, nominal, risk_weight] = row.words();
-        self.rows.push([exposure, nominal, risk_weight, status]);
+        self.rows.push(row.words(status));
         Ok(self)
     }
 

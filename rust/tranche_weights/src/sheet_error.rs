@@ -32,11 +32,11 @@ pub enum SheetError {
     NoTrancheBefore,
     /// A pool without rows (refusal 2).
     NoRows,
-    /// One more row for a pool that has all of its 1,000 (refusal 2).
+    /// One more row for a pool that has all of its [`MOST_ROWS`] (refusal 2).
     TooManyRows,
     /// A deal without tranches (refusal 2).
     NoTranches,
-    /// One more tranche for a deal that has all of its 32 (refusal 2).
+    /// One more tranche for a deal that has all of its [`MOST_TRANCHES`] (refusal 2).
     TooManyTranches,
 }
 

@@ -1,5 +1,6 @@
 //! A tranche (document 01, "The deal sheet").
 
+use crate::limits::{MOST_RATINGS, TRANCHE_WORDS};
 use crate::numbers::{Months, TrancheAmount};
 use crate::rating::Rating;
 use crate::sheet_error::SheetError;
@@ -10,7 +11,7 @@ pub struct Tranche {
     amount: TrancheAmount,
     maturity: Months,
     held: u64,
-    ratings: [Option<Rating>; 3],
+    ratings: [Option<Rating>; MOST_RATINGS],
 }
 
 impl Tranche {
@@ -31,7 +32,7 @@ impl Tranche {
             amount,
             maturity,
             held,
-            ratings: [None; 3],
+            ratings: [None; MOST_RATINGS],
         })
     }
 
@@ -39,12 +40,12 @@ impl Tranche {
     ///
     /// In a re-securitisation they stand in the sheet and are not used.
     #[must_use]
-    pub const fn with_ratings(self, ratings: [Option<Rating>; 3]) -> Tranche {
+    pub const fn with_ratings(self, ratings: [Option<Rating>; MOST_RATINGS]) -> Tranche {
         Tranche { ratings, ..self }
     }
 
-    /// The seven words of the tranche's row in the sheet, in the class given.
-    pub(crate) fn words(&self, class: u64) -> [u64; 7] {
+    /// The words of the tranche's row in the sheet, in the class given.
+    pub(crate) fn words(&self, class: u64) -> [u64; TRANCHE_WORDS] {
         let [first, second, third] = self.ratings.map(|rating| rating.map_or(0, Rating::code));
         [
             self.amount.get(),

@@ -5,7 +5,7 @@ use Prim.Native.Nat.{ℕ, _+_, _*_, _-_, _/_, _^_, _≤_}
 use native.Mathlib.Nat.{mul-le-mul, mul-le-mul-left}
 use native.Mathlib.Omega.{arith}
 use borrow.Author.Needs.{needs}
-use Rattle.formula.proofs.StepBounds.{entry-at-most}
+use Rattle.series.proofs.EntryBounds.{entry-at-most}
 use Rattle.formula.proofs.coarse_decay.Statement.{statement}
 use Rattle.formula.proofs.coarse_decay.Tie as tie
 

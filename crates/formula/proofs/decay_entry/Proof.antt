@@ -5,11 +5,12 @@ use borrow.Author.Needs.{needs}
 use borrow.Table.Row.{get}
 use mathlib.Core.Path.{_≡_, sym, subst}
 use Prim.Native.Nat.{ℕ}
-use Rattle.formula.specs.Formula.{low, factorial, DecayEntry}
-use Rattle.formula.specs.FixedPoint.{entry}
+use Rattle.series.specs.Series.{low, factorial}
+use Rattle.series.specs.DecayTable.{DecayEntry}
+use Rattle.series.specs.TableEntry.{entry}
 use Rattle.numbers.proofs.Table.{entry-is}
-use Rattle.formula.proofs.StepBounds.{entry-zero}
-use Rattle.formula.proofs.Entries.{whole-part}
+use Rattle.series.proofs.EntryBounds.{entry-zero}
+use Rattle.series.proofs.Entries.{whole-part}
 use Rattle.formula.proofs.decay_entry.Statement.{statement}
 use Rattle.formula.proofs.decay_entry.Tie as tie
 use Rattle.formula.proofs.decay_entry.Reads as reads

@@ -3,7 +3,8 @@ use Prim.Native.Nat.{_*_, _-_, _^_, _/_, _≤_}
 use native.Mathlib.Omega.{arith}
 use borrow.Author.Needs.{needs}
 use Rattle.formula.specs.FixedPoint.{fineDecay}
-use Rattle.formula.proofs.StepBounds.{fine-entry-at-least, square-at-most, fine-fall-at-most}
+use Rattle.series.proofs.EntryBounds.{fine-entry-at-least}
+use Rattle.formula.proofs.StepBounds.{square-at-most, fine-fall-at-most}
 use Rattle.formula.proofs.fine_decay.Statement.{statement}
 use Rattle.formula.proofs.fine_decay.Tie as tie
 

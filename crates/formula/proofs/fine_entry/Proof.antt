@@ -4,9 +4,9 @@ use Prim.Native.Nat.{_+_, _^_}
 use native.Mathlib.Omega.{arith}
 use borrow.Author.Needs.{needs}
 use borrow.Table.Row.{get}
-use Rattle.formula.specs.Formula.{low, factorial}
-use Rattle.formula.specs.FixedPoint.{entry}
-use Rattle.formula.proofs.Entries.{loss-and-entry}
+use Rattle.series.specs.Series.{low, factorial}
+use Rattle.series.specs.TableEntry.{entry}
+use Rattle.series.proofs.Entries.{loss-and-entry}
 use Rattle.formula.proofs.fine_entry.Statement.{statement}
 use Rattle.formula.proofs.fine_entry.Tie as tie
 use Rattle.formula.proofs.fine_entry.Reads as reads

@@ -3,9 +3,9 @@ use mathlib.Core.Path.{_≡_}
 use Prim.Native.Nat.{_+_, _^_}
 use borrow.Author.Needs.{needs}
 use borrow.Table.Row.{get}
-use Rattle.formula.specs.Formula.{low, factorial}
-use Rattle.formula.specs.FixedPoint.{entry}
-use Rattle.formula.proofs.Entries.{loss-and-entry}
+use Rattle.series.specs.Series.{low, factorial}
+use Rattle.series.specs.TableEntry.{entry}
+use Rattle.series.proofs.Entries.{loss-and-entry}
 use Rattle.formula.proofs.sixteenth_loss.Statement.{statement}
 use Rattle.formula.proofs.sixteenth_loss.Tie as tie
 use Rattle.formula.proofs.sixteenth_loss.Reads as reads

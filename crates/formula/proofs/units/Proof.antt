@@ -4,7 +4,7 @@ use native.Mathlib.Nat.{div-le-self, mod-lt}
 use native.Mathlib.Omega.{arith}
 use borrow.Author.Needs.{needs}
 use Rattle.formula.specs.FixedPoint.{units}
-use Rattle.formula.proofs.Numbers.{quotient-at-most, long-division}
+use Rattle.series.proofs.Numbers.{quotient-at-most, long-division}
 use Rattle.formula.proofs.units.Statement.{statement}
 use Rattle.formula.proofs.units.Tie as tie
 

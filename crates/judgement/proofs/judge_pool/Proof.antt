@@ -6,7 +6,7 @@ use borrow.Author.Needs.{needs}
 use Rattle.judgement.specs.DealSheet.{rowAt}
 use Rattle.judgement.specs.Refusals.{judged}
 use Rattle.judgement.specs.declared.Verdict.the-variants.{Sound}
-use Rattle.judgement.proofs.Judgement.{tranches-at-past-rows}
+use Rattle.judgement.proofs.NeededLaws.{tranches-at-past-rows}
 use Rattle.judgement.proofs.JudgeSteps.{sound-before, fault-stays}
 use Rattle.judgement.proofs.judge_pool.Statement.{statement}
 use Rattle.judgement.proofs.judge_pool.Tie as tie

@@ -1,8 +1,8 @@
 -- `judge_row`: a row that is there whole and passes the one test is sound; any other is judged word by word. No axioms.
-use mathlib.Core.Path.{_∙_, sym}
+use mathlib.Core.Path.{sym}
 use native.Mathlib.Omega.{arith}
 use borrow.Author.Needs.{needs}
-use Rattle.judgement.proofs.SheetLimits.{row-at-most, resecuritisation-fact}
+use Rattle.judgement.proofs.SheetLimits.{row-at-most}
 use Rattle.judgement.proofs.JudgeSteps.{sound-before}
 use Rattle.judgement.proofs.GoodRowLaw.{good-row-judged}
 use Rattle.judgement.proofs.judge_row.Statement.{statement}
@@ -54,20 +54,17 @@ shared-slice-read-row-is-good-4 : tie.Need-shared-slice-read-row-is-good-4
 shared-slice-read-row-is-good-4 c = search needs
 
 row-is-good-requires : tie.Need-row-is-good-requires
-row-is-good-requires c κs =
-    let placed = c .before .before .before .before .before in
-    let start = placed .before .before .before in
-    omega (arith, placed .before .word-at .ensures, resecuritisation-fact _ _ (start .pre .0) (omega arith))
+row-is-good-requires c κs = search needs
 
 returns : tie.Need-returns
 returns c =
     let placed = c .before .before .before .before .before .before .before in
     let start = placed .before .before .before in
-    let told = sym (c .before .row-is-good .ensures) ∙ c .if2 .taken in
     sym
     (good-row-judged (start .args .s .now) (start .args .i) (start .pre .0) (start .pre .1)
     (omega (arith, placed .row-at .ensures))
-    (rw (placed .row-at .ensures, placed .before .word-at .ensures) at told))
+    (rw (placed .row-at .ensures, placed .before .word-at .ensures) at (c .before .row-is-good .ensures))
+    (c .if2 .taken))
 
 judge-row-words-requires : tie.Need-judge-row-words-requires
 judge-row-words-requires c κs = search needs

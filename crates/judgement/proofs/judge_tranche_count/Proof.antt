@@ -2,7 +2,8 @@
 use mathlib.Core.Path.{_∙_, sym}
 use native.Mathlib.Omega.{arith}
 use borrow.Author.Needs.{needs}
-use Rattle.judgement.proofs.Judgement.{tranches-at-past-rows, fault-of-tranche-count}
+use Rattle.judgement.proofs.NeededLaws.{tranches-at-past-rows}
+use Rattle.judgement.proofs.Judgement.{fault-of-tranche-count}
 use Rattle.judgement.proofs.JudgeSteps.{sound-before, word-judged, fault-stays}
 use Rattle.judgement.proofs.judge_tranche_count.Statement.{statement}
 use Rattle.judgement.proofs.judge_tranche_count.Tie as tie

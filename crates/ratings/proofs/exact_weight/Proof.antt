@@ -3,8 +3,9 @@ use mathlib.Core.Bool.{true, false}
 use mathlib.Core.Path.{_≡_, _∙_, sym}
 use native.Mathlib.Omega.{arith}
 use borrow.Author.Needs.{needs}
-use Rattle.ratings.specs.RatingTable.{longTerm, shortTerm, exactWeight}
-use Rattle.ratings.proofs.TableLaws.{long-term-within, short-term-within}
+use Rattle.rating_codes.specs.RatingCodes.{longTerm, shortTerm}
+use Rattle.rating_codes.proofs.CodeLaws.{long-term-within, short-term-within}
+use Rattle.ratings.specs.RatingTable.{exactWeight}
 use Rattle.ratings.proofs.exact_weight.Statement.{statement}
 use Rattle.ratings.proofs.exact_weight.Tie as tie
 

@@ -6,6 +6,7 @@ use native.Mathlib.Omega.{arith}
 use borrow.Author.Needs.{needs}
 use lib.ListN.{length, length-replicate}
 use lib.Seq.{length-take-le}
+use Rattle.limits.specs.SheetSize.{wordLimit}
 use Rattle.sheet_text.specs.SheetText.{tokens}
 use Rattle.sheet_text.specs.Scanning.{Onward}
 use Rattle.sheet_text.proofs.ReadText.{answered, too-many, makes-bytes, stores-words}
@@ -28,8 +29,8 @@ all-read :
     Onward (tokens (call .before .before .before .before .args .text .now)) (c .read .given .0 .0) (call .read-words .last .1 .0) []
 all-read c = (rw (c .read .given .1) at (c .before .before .before .read-words .ensures)) .1
 
-stored-length : (c : tie.After-read) → length (c .before .before .before .read-words .last .1 .0) ≡ 4231
-stored-length c = c .before .before .before .read-words .kept .1 .0 ∙ length-replicate {A = ℕ} 4231 0
+stored-length : (c : tie.After-read) → length (c .before .before .before .read-words .last .1 .0) ≡ wordLimit
+stored-length c = c .before .before .before .read-words .kept .1 .0 ∙ length-replicate {A = ℕ} wordLimit 0
 
 returns : tie.Need-returns
 returns c =

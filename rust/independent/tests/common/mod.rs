@@ -1,14 +1,31 @@
 //! Sheets for the tests, put together from their sections.
 
+use independent::sheet::{FACTS, LINE_WORDS, ROW_WORDS, TRANCHE_WORDS};
+
+/// The words of the facts, without their count.
+pub type Facts = [u64; FACTS];
+
+/// The words of a pool row.
+pub type Row = [u64; ROW_WORDS];
+
+/// The words of a tranche row.
+pub type Tranche = [u64; TRANCHE_WORDS];
+
 /// The words of a sheet: each section after its count.
-pub fn sheet(facts: [u64; 4], pool: &[[u64; 4]], tranches: &[[u64; 7]]) -> Vec<u64> {
-    let mut words = vec![4];
+pub fn sheet(facts: Facts, pool: &[Row], tranches: &[Tranche]) -> Vec<u64> {
+    let mut words = Vec::new();
+    words.push(facts.len() as u64);
     words.extend(facts);
     words.push(pool.len() as u64);
     words.extend(pool.concat());
     words.push(tranches.len() as u64);
     words.extend(tranches.concat());
     words
+}
+
+/// The result words that so many tranches take.
+pub fn room(tranches: usize) -> u64 {
+    (LINE_WORDS * tranches) as u64
 }
 
 /// The file form of a sheet: eight bytes for each word, lowest byte first.

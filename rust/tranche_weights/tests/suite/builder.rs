@@ -1,7 +1,11 @@
 //! What the typed way in lets through and what it answers with an error (document 01, "The deal sheet").
 
 use crate::checked_deal::{ordinary, row, tranche};
-use tranche_weights::{Facts, PoolAmount, RiskWeight, Row, SheetBuilder, SheetError, Status, MOST_ROWS, MOST_TRANCHES};
+use crate::places::{affirmed, first_tranche, tranche_count, COMPOSITION, DUE_DILIGENCE, RESECURITISATION, ROW_COUNT};
+use tranche_weights::{
+    Facts, PoolAmount, RiskWeight, Row, SheetBuilder, SheetError, Status, MOST_ROWS, MOST_TRANCHES, ROW_WORDS,
+    TRANCHE_WORDS,
+};
 
 /// All of a tranche or nothing of it can be held, and no unit more than all.
 #[test]
@@ -20,15 +24,15 @@ fn facts_are_set_one_by_one() -> Result<(), SheetError> {
     let flags = |facts| -> Result<Vec<u64>, SheetError> {
         let mut builder = SheetBuilder::ordinary(facts);
         builder.row(row(1)?, Status::Paying)?.next_class(tranche(1, 1)?)?;
-        Ok(builder.build()?.words()[..5].to_vec())
+        Ok(builder.build()?.words()[..ROW_COUNT].to_vec())
     };
     let none = Facts::new();
     assert_eq!(none, Facts::default());
-    assert_eq!(flags(none)?, [4, 0, 0, 0, 0]);
-    assert_eq!(flags(none.with_due_diligence_held(true))?, [4, 0, 0, 1, 0]);
-    assert_eq!(flags(none.with_pool_composition_known(true))?, [4, 0, 0, 0, 1]);
+    assert_eq!(flags(none)?, affirmed(&[]));
+    assert_eq!(flags(none.with_due_diligence_held(true))?, affirmed(&[DUE_DILIGENCE]));
+    assert_eq!(flags(none.with_pool_composition_known(true))?, affirmed(&[COMPOSITION]));
     let both = none.with_due_diligence_held(true).with_pool_composition_known(true);
-    assert_eq!(flags(both)?, [4, 0, 0, 1, 1]);
+    assert_eq!(flags(both)?, affirmed(&[DUE_DILIGENCE, COMPOSITION]));
     assert_eq!(
         both.with_due_diligence_held(false).with_pool_composition_known(false),
         none
@@ -46,11 +50,11 @@ fn a_row_keeps_the_order_of_its_figures() -> Result<(), SheetError> {
     );
     let mut builder = ordinary();
     builder.row(row, Status::NotKnown)?.next_class(tranche(1, 1)?)?;
-    assert_eq!(builder.build()?.words()[5..10], [1, 7, 8, 9, 2]);
+    assert_eq!(builder.build()?.words()[ROW_COUNT..][..1 + ROW_WORDS], [1, 7, 8, 9, 2]);
     Ok(())
 }
 
-/// A pool takes 1,000 rows; the next is an error and changes nothing.
+/// A pool takes the most rows; the next is an error and changes nothing.
 #[test]
 fn a_pool_has_at_most_1000_rows() -> Result<(), SheetError> {
     let mut builder = ordinary();
@@ -60,7 +64,7 @@ fn a_pool_has_at_most_1000_rows() -> Result<(), SheetError> {
     let full = builder.clone();
     assert_eq!(builder.row(row(1)?, Status::Paying), Err(SheetError::TooManyRows));
     assert_eq!(builder, full);
-    assert_eq!(builder.next_class(tranche(1, 1)?)?.build()?.words()[5], 1000);
+    assert_eq!(builder.next_class(tranche(1, 1)?)?.build()?.words()[ROW_COUNT], 1000);
     Ok(())
 }
 
@@ -72,10 +76,9 @@ fn a_pool_of_tranches_has_at_most_1000_rows() -> Result<(), SheetError> {
         builder.row(row(1)?)?;
     }
     assert_eq!(builder.row(row(1)?), Err(SheetError::TooManyRows));
-    assert_eq!(
-        builder.next_class(tranche(1, 1)?)?.build()?.words()[1..6],
-        [0, 1, 1, 0, 1000]
-    );
+    let sheet = builder.next_class(tranche(1, 1)?)?.build()?;
+    assert_eq!(sheet.words()[..ROW_COUNT], affirmed(&[RESECURITISATION, DUE_DILIGENCE]));
+    assert_eq!(sheet.words()[ROW_COUNT], 1000);
     Ok(())
 }
 
@@ -91,7 +94,7 @@ fn a_deal_has_at_most_32_tranches() -> Result<(), SheetError> {
     assert_eq!(builder.next_class(tranche(1, 1)?), Err(SheetError::TooManyTranches));
     assert_eq!(builder.same_class(tranche(1, 1)?), Err(SheetError::TooManyTranches));
     assert_eq!(builder, full);
-    assert_eq!(builder.build()?.words()[10], 32);
+    assert_eq!(builder.build()?.words()[tranche_count(1)], 32);
     Ok(())
 }
 
@@ -107,7 +110,8 @@ fn classes_follow_from_the_order() -> Result<(), SheetError> {
         .next_class(tranche(1, 1)?)?
         .same_class(tranche(1, 1)?)?;
     let sheet = builder.build()?;
-    let classes: Vec<u64> = sheet.words()[11..].chunks(7).map(|tranche| tranche[1]).collect();
+    let tranches = sheet.words()[first_tranche(1)..].chunks(TRANCHE_WORDS);
+    let classes: Vec<u64> = tranches.map(|tranche| tranche[1]).collect();
     assert_eq!(classes, [1, 1, 2, 3, 3]);
     Ok(())
 }

@@ -2,7 +2,7 @@
 
 use tranche_weights::{
     Facts, LongTerm, Months, Ordinary, PoolAmount, RiskWeight, Row, SheetBuilder, SheetError, Status, Tranche,
-    TrancheAmount,
+    TrancheAmount, LINE_WORDS,
 };
 
 /// The sheet, as document 01 prints it.
@@ -21,7 +21,7 @@ total 1049 85
 ";
 
 /// The result words of its three lines.
-pub const RESULTS: [u64; 18] = [
+pub const RESULTS: [u64; 3 * LINE_WORDS] = [
     1, 200_000, 1_000_000, 2_000, 160, 13, 1, 50_000, 200_000, 26_350, 264, 22, 2, 0, 50_000, 125_000, 625, 50,
 ];
 

@@ -1,10 +1,13 @@
 //! Sheets drawn by a seeded generator: each is built, and the library refuses none of them but by 13.
 
 use crate::checked_deal::file_of;
+use crate::places::{
+    affirmed, first_tranche, tranche_count, COMPOSITION, DUE_DILIGENCE, FIRST_ROW, RESECURITISATION, ROW_COUNT,
+};
 use crate::texts::text_of;
 use tranche_weights::{
     report, weigh_file, Facts, Months, PoolAmount, Rating, Reason, RiskWeight, Row, Sheet, SheetBuilder, SheetError,
-    Status, Tranche, TrancheAmount,
+    Status, Tranche, TrancheAmount, MOST_ROWS, MOST_TRANCHES, ROW_WORDS, TRANCHE_WORDS,
 };
 
 /// The statuses of an ordinary pool, by status word.
@@ -42,7 +45,10 @@ impl Generator {
     /// The words of a sheet that document 01 admits, of an SA pool.
     fn words(&mut self) -> Vec<u64> {
         let resecuritisation = self.below(2);
-        let mut words = vec![4, 0, resecuritisation, u64::from(self.below(8) > 0), self.below(2)];
+        let mut words = affirmed(&[]).to_vec();
+        words[RESECURITISATION] = resecuritisation;
+        words[DUE_DILIGENCE] = u64::from(self.below(8) > 0);
+        words[COMPOSITION] = self.below(2);
         self.rows(resecuritisation == 1, &mut words);
         self.tranches(&mut words);
         words
@@ -51,7 +57,7 @@ impl Generator {
     /// Adds the pool's section. A third of the ordinary pools have paying rows alone, so that the charge is low; a
     /// third have delinquent ones too; a third have all three statuses.
     fn rows(&mut self, resecuritisation: bool, words: &mut Vec<u64>) {
-        let count = self.within(1, 1000);
+        let count = self.within(1, MOST_ROWS as u64);
         let statuses = 1 + self.below(3);
         words.push(count);
         for _ in 0..count {
@@ -59,7 +65,7 @@ impl Generator {
             words.extend([
                 self.within(1, PoolAmount::HIGHEST),
                 self.within(1, PoolAmount::HIGHEST),
-                self.within(0, 1250),
+                self.within(RiskWeight::LOWEST, RiskWeight::HIGHEST),
                 status,
             ]);
         }
@@ -67,8 +73,8 @@ impl Generator {
 
     /// Adds the tranches' section. Half of the deals have tranches of any size, half such that cut the pool up.
     fn tranches(&mut self, words: &mut Vec<u64>) {
-        let nominal: u64 = words[6..].chunks(4).map(|row| row[1]).sum();
-        let count = self.within(1, 32);
+        let nominal: u64 = words[FIRST_ROW..].chunks(ROW_WORDS).map(|row| row[1]).sum();
+        let count = self.within(1, MOST_TRANCHES as u64);
         let highest = if self.below(2) == 0 {
             TrancheAmount::HIGHEST
         } else {
@@ -82,7 +88,7 @@ impl Generator {
             words.extend([
                 amount,
                 class,
-                self.within(1, 1200),
+                self.within(Months::LOWEST, Months::HIGHEST),
                 held,
                 self.rating(),
                 self.rating(),
@@ -110,7 +116,7 @@ fn rating_of(word: u64) -> Result<Option<Rating>, SheetError> {
     }
 }
 
-/// The row that four words state, without its status.
+/// The row that its words state, without its status.
 fn row_of(words: &[u64]) -> Result<Row, SheetError> {
     let (exposure, nominal) = (PoolAmount::new(words[0])?, PoolAmount::new(words[1])?);
     Ok(Row::new(exposure, nominal, RiskWeight::new(words[2])?))
@@ -119,28 +125,30 @@ fn row_of(words: &[u64]) -> Result<Row, SheetError> {
 /// Builds the sheet that the words state, by the builder of its kind.
 fn built(words: &[u64]) -> Result<Sheet, SheetError> {
     let facts = Facts::new()
-        .with_due_diligence_held(words[3] == 1)
-        .with_pool_composition_known(words[4] == 1);
-    let (rows, tranches) = words[6..].split_at(4 * words[5] as usize);
-    if words[2] == 1 {
+        .with_due_diligence_held(words[DUE_DILIGENCE] == 1)
+        .with_pool_composition_known(words[COMPOSITION] == 1);
+    let count = words[ROW_COUNT] as usize;
+    let rows = words[FIRST_ROW..tranche_count(count)].chunks(ROW_WORDS);
+    let tranches = &words[first_tranche(count)..];
+    if words[RESECURITISATION] == 1 {
         let mut builder = SheetBuilder::resecuritisation(facts);
-        for row in rows.chunks(4) {
+        for row in rows {
             builder.row(row_of(row)?)?;
         }
-        with_tranches(builder, &tranches[1..])
+        with_tranches(builder, tranches)
     } else {
         let mut builder = SheetBuilder::ordinary(facts);
-        for row in rows.chunks(4) {
+        for row in rows {
             builder.row(row_of(row)?, STATUSES[row[3] as usize])?;
         }
-        with_tranches(builder, &tranches[1..])
+        with_tranches(builder, tranches)
     }
 }
 
 /// Places the tranches that the words state and builds the sheet.
 fn with_tranches<Kind>(mut builder: SheetBuilder<Kind>, words: &[u64]) -> Result<Sheet, SheetError> {
     let mut class = 0;
-    for row in words.chunks(7) {
+    for row in words.chunks(TRANCHE_WORDS) {
         let tranche = Tranche::new(TrancheAmount::new(row[0])?, Months::new(row[2])?, row[3])?;
         let tranche = tranche.with_ratings([rating_of(row[4])?, rating_of(row[5])?, rating_of(row[6])?]);
         if row[1] == class {
@@ -163,11 +171,11 @@ fn a_built_sheet_is_refused_by_13_alone() -> Result<(), SheetError> {
         let words = generator.words();
         let sheet = built(&words)?;
         assert_eq!(sheet.words(), words);
-        let (kind, first) = (words[2] as usize, 6 + 4 * words[5] + 1);
+        let (kind, rows) = (words[RESECURITISATION] as usize, words[ROW_COUNT] as usize);
         let outcome = sheet.weigh();
         match &outcome {
             Ok(deal) => {
-                assert_eq!(deal.lines.len() as u64, words[first as usize - 1]);
+                assert_eq!(deal.lines.len() as u64, words[tranche_count(rows)]);
                 weighed[kind] += 1;
             }
             Err(refusal) => {
@@ -176,7 +184,8 @@ fn a_built_sheet_is_refused_by_13_alone() -> Result<(), SheetError> {
                     (Reason::ThinTranche, 13),
                     "{words:?}"
                 );
-                assert_eq!((refusal.place() - first) % 7, 0, "{words:?}");
+                let past = refusal.place() as usize - first_tranche(rows);
+                assert_eq!(past % TRANCHE_WORDS, 0, "{words:?}");
                 refused[kind] += 1;
             }
         }

@@ -7,6 +7,7 @@ mod builder;
 mod checked_deal;
 mod drawn;
 mod numbers;
+mod places;
 mod ratings;
 mod refusals;
 mod results;

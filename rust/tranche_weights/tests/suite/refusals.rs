@@ -2,7 +2,8 @@
 
 use crate::checked_deal::{file_of, RESULTS, WORDS};
 use tranche_weights::{
-    reply_to_file, reply_to_words, report, weigh_file, weigh_words, Reason, Refusal, Reply, RESULT_WORDS,
+    reply_to_file, reply_to_words, report, weigh_file, weigh_words, Reason, Refusal, Reply, BYTES_PER_WORD, FILE_BYTES,
+    LINE_WORDS, RESULT_WORDS,
 };
 
 /// The checked deal with one word replaced.
@@ -63,7 +64,7 @@ fn hold(refusal: Refusal, number: u64, place: u64, reason: Reason) {
 /// Words are refused with number, place and reason, as words and as a file; the results are as they were.
 #[test]
 fn refused_words_leave_the_results() {
-    let before: Vec<u64> = (900..1100).collect();
+    let before: Vec<u64> = (900..).take(RESULT_WORDS).collect();
     for (words, number, place, reason) in refused_words() {
         let mut results = before.clone();
         hold(weigh_words(&words, &mut results).unwrap_err(), number, place, reason);
@@ -81,7 +82,7 @@ fn refused_words_leave_the_results() {
 /// Too little room for the lines is 14 at 0, and the results are as they were.
 #[test]
 fn too_little_room_leaves_the_results() {
-    for room in [0, 6, RESULTS.len() - 1] {
+    for room in [0, LINE_WORDS, RESULTS.len() - 1] {
         let before: Vec<u64> = (900..).take(room).collect();
         let mut results = before.clone();
         hold(weigh_words(&WORDS, &mut results).unwrap_err(), 14, 0, Reason::Room);
@@ -91,19 +92,27 @@ fn too_little_room_leaves_the_results() {
     }
 }
 
-/// A file's length is a multiple of 8 and at most 33,848; any other is 15 at 0, before all that its words say.
+/// A file's length is a multiple of a word's bytes and at most the longest; any other is 15 at 0, before all that its
+/// words say.
 #[test]
 fn a_bad_length_of_a_file_comes_before_all() {
     let before: Vec<u64> = (900..).take(RESULT_WORDS).collect();
     let mut results = before.clone();
-    for length in [1, 7, 9, 33_847, 33_849, 33_856] {
+    for length in [
+        1,
+        BYTES_PER_WORD - 1,
+        BYTES_PER_WORD + 1,
+        FILE_BYTES - 1,
+        FILE_BYTES + 1,
+        FILE_BYTES + BYTES_PER_WORD,
+    ] {
         let file = vec![0; length];
         hold(weigh_file(&file).unwrap_err(), 15, 0, Reason::FileLength);
         assert_eq!(reply_to_file(&file, &mut results), Reply::refusing(15, 0));
         assert_eq!(reply_to_file(&file, &mut []), Reply::refusing(15, 0));
         assert_eq!(report(&file), "refused 15 at 0\n");
     }
-    for length in [8, 33_848] {
+    for length in [BYTES_PER_WORD, FILE_BYTES] {
         let file = vec![0; length];
         hold(weigh_file(&file).unwrap_err(), 2, 0, Reason::Count);
         assert_eq!(reply_to_file(&file, &mut results), Reply::refusing(2, 0));

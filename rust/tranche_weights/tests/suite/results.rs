@@ -1,9 +1,14 @@
 //! The lent results (document 01, "The deal sheet").
 
 use crate::checked_deal::{file_of, RESULTS, WORDS};
+use crate::places::DUE_DILIGENCE;
 use tranche_weights::{
-    reply_to_file, reply_to_words, weigh_file, weigh_words, Approach, Reply, LINE_WORDS, MOST_TRANCHES, RESULT_WORDS,
+    reply_to_file, reply_to_words, weigh_file, weigh_words, Approach, Reply, FILE_BYTES, LINE_WORDS, MOST_TRANCHES,
+    NUMBER_DIGITS, RESULT_WORDS, SHEET_WORDS, TEXT_ROOM,
 };
+
+/// The approaches, by their words.
+const APPROACHES: [Approach; 3] = [Approach::Fallback, Approach::SecErba, Approach::SecSa];
 
 /// Holds a call that weighs the checked deal into lent results: its lines' words are written where they just fit, and
 /// words after them are as they were.
@@ -38,29 +43,32 @@ fn an_accepted_sheet_has_number_and_place_0() {
     assert_eq!(reply.outcome(), Ok(weighed));
 }
 
-/// The sizes of what is lent: six words for each of 32 tranches.
+/// The sizes that are worked out from their parts are document 01's: six words for each of 32 tranches; a file of at
+/// most 33,848 bytes; the bytes of a report as the library has them.
 #[test]
-fn sizes_are_those_of_the_results() {
+fn sizes_are_those_of_the_paper() {
     assert_eq!((LINE_WORDS, MOST_TRANCHES, RESULT_WORDS), (6, 32, 192));
+    assert_eq!((SHEET_WORDS, FILE_BYTES), (4231, 33_848));
+    assert_eq!((NUMBER_DIGITS, TEXT_ROOM), (20, 4810));
 }
 
-/// A deal's lines hold the six result words, each in its field.
+/// A deal's lines hold the result words, each in its field.
 #[test]
-fn a_line_holds_the_six_words() {
+fn a_line_holds_its_words() {
     let deal = weigh_file(&file_of(&WORDS)).expect("the checked deal is accepted");
     assert_eq!(deal.charge, 101_000);
     assert_eq!(deal.lines.len(), 3);
-    for (line, words) in deal.lines.iter().zip(RESULTS.chunks(6)) {
-        let approach = [Approach::Fallback, Approach::SecErba, Approach::SecSa][words[0] as usize];
-        assert_eq!((line.approach, line.approach.word()), (approach, words[0]));
-        let rest = [
+    for (line, words) in deal.lines.iter().zip(RESULTS.chunks(LINE_WORDS)) {
+        assert_eq!(line.approach, APPROACHES[words[0] as usize]);
+        let fields: [u64; LINE_WORDS] = [
+            line.approach.word(),
             line.attachment,
             line.detachment,
             line.weight,
             line.risk_weighted_amount,
             line.capital,
         ];
-        assert_eq!(rest, words[1..]);
+        assert_eq!(fields, words);
     }
 }
 
@@ -68,7 +76,7 @@ fn a_line_holds_the_six_words() {
 #[test]
 fn without_due_diligence_every_line_is_the_fallback() {
     let mut words = WORDS;
-    words[3] = 0;
+    words[DUE_DILIGENCE] = 0;
     let deal = weigh_file(&file_of(&words)).expect("the sheet is accepted");
     let seen: Vec<_> = deal.lines.iter().map(|line| (line.approach, line.weight)).collect();
     assert_eq!(seen, [(Approach::Fallback, 125_000); 3]);
@@ -77,6 +85,6 @@ fn without_due_diligence_every_line_is_the_fallback() {
 /// An approach prints as the standard names it, to the width asked for.
 #[test]
 fn approaches_have_names() {
-    let names = [Approach::Fallback, Approach::SecErba, Approach::SecSa].map(|approach| format!("{approach:>8}"));
+    let names = APPROACHES.map(|approach| format!("{approach:>8}"));
     assert_eq!(names, ["fallback", "SEC-ERBA", "  SEC-SA"]);
 }

@@ -1,8 +1,12 @@
 //! The report's text and the lent room for it (document 01, "Checked deals").
 
 use crate::checked_deal::{file_of, TEXT, WORDS};
+use crate::places::{affirmed, COMPOSITION, DUE_DILIGENCE};
 use std::error::Error;
-use tranche_weights::{report, report_into, weigh_file, Deal, Refusal, MOST_ROWS, MOST_TRANCHES, TEXT_ROOM};
+use tranche_weights::{
+    report, report_into, weigh_file, Deal, Refusal, FILE_BYTES, MOST_ROWS, MOST_TRANCHES, ROW_WORDS, TEXT_ROOM,
+    TRANCHE_WORDS,
+};
 
 /// The report's text that document 01 describes for an answer.
 pub fn text_of(outcome: &Result<Deal, Refusal>) -> String {
@@ -30,16 +34,25 @@ fn the_report_on_the_checked_deal_is_the_papers() {
 #[test]
 fn the_report_on_a_refused_file_names_number_and_place() {
     assert_eq!(report(&[]), "refused 1 at 0\n");
-    assert_eq!(report(&file_of(&WORDS)[..287]), "refused 15 at 0\n");
+    let file = file_of(&WORDS);
+    assert_eq!(report(&file[..file.len() - 1]), "refused 15 at 0\n");
 }
 
 /// The file of a deal with the most rows and tranches, every amount at its limit and all of it held.
 pub fn largest_file() -> Vec<u8> {
-    let rows = [[10_000_000_000, 10_000_000_000, 1250, 0]; MOST_ROWS];
-    let tranches = [[10_000_000_000_000, 1, 1200, 10_000_000_000_000, 0, 0, 0]; MOST_TRANCHES];
+    let rows: [[u64; ROW_WORDS]; MOST_ROWS] = [[10_000_000_000, 10_000_000_000, 1250, 0]; MOST_ROWS];
+    let tranche: [u64; TRANCHE_WORDS] = [10_000_000_000_000, 1, 1200, 10_000_000_000_000, 0, 0, 0];
+    let tranches = [tranche; MOST_TRANCHES];
     let counts = [rows.len() as u64, tranches.len() as u64];
-    let pool = [&[4, 0, 0, 1, 1, counts[0]], rows.as_flattened()].concat();
+    let facts = affirmed(&[DUE_DILIGENCE, COMPOSITION]);
+    let pool = [&facts, &counts[..1], rows.as_flattened()].concat();
     file_of(&[&pool, &counts[1..], tranches.as_flattened()].concat())
+}
+
+/// The largest deal's file is the longest that is read.
+#[test]
+fn the_largest_deal_fills_the_longest_file() {
+    assert_eq!(largest_file().len(), FILE_BYTES);
 }
 
 /// Lends a room of a longer list and holds all of the list: the text stands at its start where it fits the room, and

@@ -11,7 +11,7 @@ use Rattle.deal.proofs.lines.line_of.Statement.{statement}
 use Rattle.deal.proofs.lines.line_of.Tie as tie
 
 tranche-of-requires : tie.Need-tranche-of-requires
-tranche-of-requires c κs = let start = c .before in (start .pre .0, start .pre .1, start .pre .3, start .pre .4)
+tranche-of-requires c κs = let start = c .before in (start .pre .0, start .pre .2, start .pre .3)
 
 weight-requires : tie.Need-weight-requires
 weight-requires c κs = search needs
@@ -26,7 +26,7 @@ within :
 unfolding tranche
 within c =
     let start = c .before .before .before in
-    let limits = good-tranche (start .args .s .now) (start .args .i) (start .pre .0) (start .pre .4) in (
+    let limits = good-tranche (start .args .s .now) (start .args .i) (start .pre .0 .good) (start .pre .3) in (
       omega (arith, ap (λ (t : Tranche). t .held) (c .before .tranche-of .ensures), limits),
       rw (c .weight .ensures .0) (weight-at-most _ _),
     )
@@ -47,7 +47,7 @@ returns c =
       c .before .before .approach .ensures,
       c .before .before .before .weight .ensures .0,
       after-tranche .tranche-of .ensures,
-      after-tranche .before .before .pre .2,
+      after-tranche .before .before .pre .1,
     )
 
 pub line-of-spec : {M : Type 1} → statement M

@@ -6,40 +6,40 @@ use native.Mathlib.Nat.{add-zero}
 use native.Mathlib.Omega.{arith}
 use Rattle.judgement.specs.DealSheet.{trancheCount, amount, class}
 use Rattle.judgement.proofs.SheetLimits.{tranches-counted, tranches-within, class-within, good-tranche}
-use Rattle.deal.proofs.PlacesLaws.{count-is}
-use Rattle.deal.proofs.PoolLaws.{nominal-within}
+use Rattle.judgement.proofs.LayoutLaws.{tranches-is}
+use Rattle.pool.proofs.PoolLaws.{nominal-within}
 use Rattle.deal.proofs.ClassPointsLaw.{Filled, filled-none, filled-put, filled-all, amount-to-most}
 use Rattle.deal.proofs.tranches.class_points.Statement.{statement}
 use Rattle.deal.proofs.tranches.class_points.Tie as tie
 
 abbrev Inv-loop : tie.InvT-loop
-Inv-loop s p nominal tranches points₀ sum₀ j₀ points sum j = (j ≤ trancheCount s) × Filled s nominal points sum j
+Inv-loop s l nominal tranches points₀ sum₀ j₀ points sum j = (j ≤ trancheCount s) × Filled s nominal points sum j
 
 abbrev μ-loop : tie.MeasureT-loop
-μ-loop s p nominal tranches points₀ sum₀ j₀ points sum j = tranches - j
+μ-loop s l nominal tranches points₀ sum₀ j₀ points sum j = tranches - j
 
 -- the pool's nominal is at least 1 and at most 10^13
 nominal-limits : (c : tie.Start Inv-loop μ-loop) → (0 < c .args .nominal) × (c .args .nominal ≤ 10000000000000)
 nominal-limits c =
-    let limits = nominal-within (c .args .s .now) (c .pre .0) in
-    (omega (arith, c .pre .2, limits), omega (arith, c .pre .2, limits))
+    let limits = nominal-within (c .args .s .now) (c .pre .0 .good) in
+    (omega (arith, c .pre .1, limits), omega (arith, c .pre .1, limits))
 
 loop-holds : tie.Need-loop-holds Inv-loop μ-loop
 loop-holds c = (omega arith, filled-none _ _ (nominal-limits (c .before) .0))
 
 -- the turn's tranche is one of the sheet's
 row : (c : tie.In-loop Inv-loop μ-loop) → c .before .loop .j < trancheCount (c .before .before .before .args .s .now)
-row c = omega (arith, count-is _ _ (c .before .before .before .pre .1))
+row c = omega (arith, tranches-is _ _ (c .before .before .before .pre .0))
 
 tranche-word-requires : tie.Need-tranche-word-requires Inv-loop μ-loop
 tranche-word-requires c κs =
     let start = c .before .before .before in
-    (start .pre .0, start .pre .1, row c, omega arith)
+    (start .pre .0, row c, omega arith)
 
 tranche-word-requires-2 : tie.Need-tranche-word-requires-2 Inv-loop μ-loop
 tranche-word-requires-2 c κs =
     let start = c .before .before .before .before in
-    (start .pre .0, start .pre .1, row (c .before), omega arith)
+    (start .pre .0, row (c .before), omega arith)
 
 -- the tranche's class and amount are what was read
 own-class : (c : tie.After-tranche-word Inv-loop μ-loop) →
@@ -58,9 +58,9 @@ class-low c =
     omega (
       arith,
       own-class c,
-      class-within s (c .before .before .loop .j) (start .pre .0) (row (c .before)) .1,
+      class-within s (c .before .before .loop .j) (start .pre .0 .good) (row (c .before)) .1,
       row (c .before),
-      tranches-within s (tranches-counted s (start .pre .0)),
+      tranches-within s (tranches-counted s (start .pre .0 .good)),
     )
 
 add-sum : tie.Need-add-sum Inv-loop μ-loop
@@ -73,10 +73,10 @@ add-sum c =
       arith,
       own-amount c,
       at .loop .inv .1 .total-is,
-      good-tranche s (at .loop .j) (start .pre .0) turn .amount-most,
+      good-tranche s (at .loop .j) (start .pre .0 .good) turn .amount-most,
       turn,
-      tranches-within s (tranches-counted s (start .pre .0)),
-      amount-to-most s (start .pre .0) (at .loop .j) (omega arith),
+      tranches-within s (tranches-counted s (start .pre .0 .good)),
+      amount-to-most s (start .pre .0 .good) (at .loop .j) (omega arith),
     )
 
 point-requires : tie.Need-point-requires Inv-loop μ-loop
@@ -94,7 +94,7 @@ array-write-points c = omega (arith, class-low (c .before .before))
 add-j : tie.Need-add-j Inv-loop μ-loop
 add-j c =
     let start = c .before .before .before .before .before .before in
-    omega (arith, row (c .before .before .before), tranches-within _ (tranches-counted _ (start .pre .0)))
+    omega (arith, row (c .before .before .before), tranches-within _ (tranches-counted _ (start .pre .0 .good)))
 
 loop-less : tie.Need-loop-less Inv-loop μ-loop
 loop-less c = omega arith
@@ -105,15 +105,15 @@ loop-again c =
     let start = at .before .before in
     let turn = row (c .before .before .before) in (
       omega (arith, turn),
-      filled-put (start .args .s .now) (start .pre .0) (start .args .nominal) (at .loop .points) (at .loop .sum) (at .loop .j) (at .loop .inv .1) turn _ _ _
+      filled-put (start .args .s .now) (start .pre .0 .good) (start .args .nominal) (at .loop .points) (at .loop .sum) (at .loop .j) (at .loop .inv .1) turn _ _ _
           (omega (arith, own-class (c .before .before))) (omega (arith, own-amount (c .before))) (c .point .ensures),
     )
 
 returns : tie.Need-returns Inv-loop μ-loop
 returns c =
     let start = c .before .before .before in
-    let all : c .before .loop .j ≡ trancheCount (start .args .s .now) = omega (arith, count-is _ _ (start .pre .1)) in
-    filled-all (start .pre .2) (rw all at (c .before .loop .inv .1))
+    let all : c .before .loop .j ≡ trancheCount (start .args .s .now) = omega (arith, tranches-is _ _ (start .pre .0)) in
+    filled-all (start .pre .1) (rw all at (c .before .loop .inv .1))
 
 pub class-points-spec : {M : Type 1} → statement M
 class-points-spec =

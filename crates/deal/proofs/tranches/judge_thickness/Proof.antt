@@ -6,6 +6,7 @@ use mathlib.Core.Path.{_≡_, refl, sym, _∙_}
 use Prim.Native.Nat.{ℕ, _+_, _*_, _-_, _≤_, _<_}
 use native.Mathlib.Omega.{arith}
 use borrow.Author.Needs.{needs}
+use Rattle.limits.specs.SheetSize.{placeLimit}
 use Rattle.judgement.specs.DealSheet.{trancheCount, trancheAt}
 use Rattle.weights.specs.ApproachFloorCap.{thin}
 use Rattle.deal.specs.Lines.{terms, tranche}
@@ -14,7 +15,7 @@ use Rattle.deal.specs.Refusals.{thinVerdict}
 use Rattle.judgement.specs.declared.Verdict.the-variants.{Sound}
 use Rattle.judgement.proofs.FirstFault.{first-of-next, first-of-stays}
 use Rattle.judgement.proofs.SheetLimits.{tranches-counted, tranches-within}
-use Rattle.deal.proofs.PlacesLaws.{count-is, tranche-place}
+use Rattle.judgement.proofs.LayoutLaws.{tranches-is, tranche-place}
 use Rattle.deal.proofs.tranches.judge_thickness.Statement.{statement}
 use Rattle.deal.proofs.tranches.judge_thickness.Tie as tie
 
@@ -34,14 +35,14 @@ next-faulty s i place found before row place-is =
     (first-of-next (λ i. thinVerdict s i) i before ∙ rw (found, place-is)))
 
 abbrev Inv-loop : tie.InvT-loop
-Inv-loop s p d points tranches i₀ i = (i ≤ trancheCount s) × (firstOf (λ i. thinVerdict s i) i ≡ Sound)
+Inv-loop s l d points tranches i₀ i = (i ≤ trancheCount s) × (firstOf (λ i. thinVerdict s i) i ≡ Sound)
 
 abbrev μ-loop : tie.MeasureT-loop
-μ-loop s p d points tranches i₀ i = tranches - i
+μ-loop s l d points tranches i₀ i = tranches - i
 
 -- the turn's tranche is one of the sheet's
 row : (c : tie.In-loop Inv-loop μ-loop) → c .before .loop .i < trancheCount (c .before .before .before .args .s .now)
-row c = omega (arith, count-is _ _ (c .before .before .before .pre .1))
+row c = omega (arith, tranches-is _ _ (c .before .before .before .pre .0))
 
 -- what `is_thin` told of the tranche
 told : (c : tie.After-is-thin Inv-loop μ-loop) →
@@ -49,7 +50,7 @@ told : (c : tie.After-is-thin Inv-loop μ-loop) →
     thin (tranche s (c .before .before .before .loop .i)) (terms s) ≡ c .is-thin .result
 told c =
     let start = c .before .before .before .before .before in
-    simp (← start .pre .2, ← c .before .tranche-of .ensures, c .is-thin .ensures)
+    simp (← start .pre .1, ← c .before .tranche-of .ensures, c .is-thin .ensures)
 
 loop-holds : tie.Need-loop-holds Inv-loop μ-loop
 unfolding firstOf
@@ -58,7 +59,7 @@ loop-holds c = (omega arith, refl)
 tranche-of-requires : tie.Need-tranche-of-requires Inv-loop μ-loop
 tranche-of-requires c κs =
     let start = c .before .before .before in
-    (start .pre .0, start .pre .1, start .pre .3, row c)
+    (start .pre .0, start .pre .2, row c)
 
 is-thin-requires : tie.Need-is-thin-requires Inv-loop μ-loop
 is-thin-requires c κs = search needs
@@ -66,18 +67,18 @@ is-thin-requires c κs = search needs
 -- the tranche's place, as a low number
 place :
     (c : tie.In-loop Inv-loop μ-loop) → let start = c .before .before .before in
-    (start .args .p .tranches + 7 * c .before .loop .i ≡ trancheAt (start .args .s .now) (c .before .loop .i)) ×
-    (trancheAt (start .args .s .now) (c .before .loop .i) ≤ 4231)
+    (start .args .l .«first_tranche» + 7 * c .before .loop .i ≡ trancheAt (start .args .s .now) (c .before .loop .i)) ×
+    (trancheAt (start .args .s .now) (c .before .loop .i) ≤ placeLimit)
 place c =
     let start = c .before .before .before in
-    let at = tranche-place (start .args .s .now) (start .args .p) (start .pre .1) (start .pre .0) (c .before .loop .i) 0 (row c) (omega arith) in
+    let at = tranche-place (start .args .s .now) (start .args .l) (start .pre .0) (c .before .loop .i) 0 (row c) (omega arith) in
     (omega (arith, at .0), at .1 .1)
 
-mul-t11 : tie.Need-mul-t11 Inv-loop μ-loop
-mul-t11 c = omega (arith, place (c .before .before .before))
+mul-t12 : tie.Need-mul-t12 Inv-loop μ-loop
+mul-t12 c = omega (arith, place (c .before .before .before))
 
-add-t12 : tie.Need-add-t12 Inv-loop μ-loop
-add-t12 c = omega (arith, place (c .before .before .before))
+add-t13 : tie.Need-add-t13 Inv-loop μ-loop
+add-t13 c = omega (arith, place (c .before .before .before))
 
 returns : tie.Need-returns Inv-loop μ-loop
 returns c =
@@ -91,7 +92,7 @@ returns c =
 add-i : tie.Need-add-i Inv-loop μ-loop
 add-i c =
     let start = c .before .before .before .before .before .before in
-    omega (arith, row (c .before .before .before), tranches-within _ (tranches-counted _ (start .pre .0)))
+    omega (arith, row (c .before .before .before), tranches-within _ (tranches-counted _ (start .pre .0 .good)))
 
 loop-less : tie.Need-loop-less Inv-loop μ-loop
 loop-less c = omega arith
@@ -106,7 +107,7 @@ loop-again c =
 returns-2 : tie.Need-returns-2 Inv-loop μ-loop
 returns-2 c =
     let start = c .before .before .before in
-    let all : c .before .loop .i ≡ trancheCount (start .args .s .now) = omega (arith, count-is _ _ (start .pre .1)) in
+    let all : c .before .loop .i ≡ trancheCount (start .args .s .now) = omega (arith, tranches-is _ _ (start .pre .0)) in
     sym (rw all at (c .before .loop .inv .1))
 
 pub judge-thickness-spec : {M : Type 1} → statement M
@@ -118,8 +119,8 @@ judge-thickness-spec =
     loop-holds
     tranche-of-requires
     is-thin-requires
-    mul-t11
-    add-t12
+    mul-t12
+    add-t13
     returns
     add-i
     loop-less

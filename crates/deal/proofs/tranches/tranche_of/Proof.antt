@@ -7,7 +7,7 @@ use lib.Dec.{eqb}
 use lib.ListN.{getD}
 use Rattle.judgement.specs.DealSheet.{trancheCount, class, months, held, firstRating, secondRating, thirdRating}
 use Rattle.judgement.proofs.SheetLimits.{tranches-counted, tranches-within, class-within}
-use Rattle.deal.specs.PointsAndCharge.{attachmentPoint, detachmentPoint}
+use Rattle.deal.specs.Points.{attachmentPoint, detachmentPoint}
 use Rattle.deal.specs.Lines.{tranche}
 use Rattle.deal.specs.ClassPoints.{ClassPoints}
 use Rattle.weights.specs.declared.Tranche.{Tranche}
@@ -51,12 +51,12 @@ class-low c =
     omega (
       arith,
       c .tranche-word .ensures,
-      class-within s (start .args .i) (start .pre .0) (start .pre .3) .1,
-      tranches-within s (tranches-counted s (start .pre .0)),
+      class-within s (start .args .i) (start .pre .0 .good) (start .pre .2) .1,
+      tranches-within s (tranches-counted s (start .pre .0 .good)),
     )
 
 tranche-word-requires : tie.Need-tranche-word-requires
-tranche-word-requires c κs = let start = c .before in (start .pre .0, start .pre .1, start .pre .3, omega arith)
+tranche-word-requires c κs = let start = c .before in (start .pre .0, start .pre .2, omega arith)
 
 add-t6 : tie.Need-add-t6
 add-t6 c = omega (arith, class-low c)
@@ -76,33 +76,33 @@ element-copy-out-t16 c = omega (arith, class-low (c .before))
 tranche-word-requires-2 : tie.Need-tranche-word-requires-2
 tranche-word-requires-2 c κs =
     let start = c .before .before .before .before in
-    (start .pre .0, start .pre .1, start .pre .3, omega arith)
+    (start .pre .0, start .pre .2, omega arith)
 
 tranche-word-requires-3 : tie.Need-tranche-word-requires-3
 tranche-word-requires-3 c κs =
     let start = c .before .before .before .before .before in
-    (start .pre .0, start .pre .1, start .pre .3, omega arith)
+    (start .pre .0, start .pre .2, omega arith)
 
 tranche-word-requires-4 : tie.Need-tranche-word-requires-4
 tranche-word-requires-4 c κs =
     let start = c .before .before .before .before .before .before in
-    (start .pre .0, start .pre .1, start .pre .3, omega arith)
+    (start .pre .0, start .pre .2, omega arith)
 
 tranche-word-requires-5 : tie.Need-tranche-word-requires-5
 tranche-word-requires-5 c κs =
     let start = c .before .before .before .before .before .before .before in
-    (start .pre .0, start .pre .1, start .pre .3, omega arith)
+    (start .pre .0, start .pre .2, omega arith)
 
 tranche-word-requires-6 : tie.Need-tranche-word-requires-6
 tranche-word-requires-6 c κs =
     let start = c .before .before .before .before .before .before .before .before in
-    (start .pre .0, start .pre .1, start .pre .3, omega arith)
+    (start .pre .0, start .pre .2, omega arith)
 
 returns : tie.Need-returns
 returns c =
     let own = c .before .before .before .before .before .before .before in
     let start = own .before .before in
-    made (start .args .s .now) (start .args .i) _ _ _ _ _ _ (start .pre .2) (start .pre .3) (own .tranche-word .ensures)
+    made (start .args .s .now) (start .args .i) _ _ _ _ _ _ (start .pre .1) (start .pre .2) (own .tranche-word .ensures)
     (c .before .before .before .before .tranche-word2 .ensures) (c .before .before .before .tranche-word3 .ensures)
     (c .before .before .tranche-word4 .ensures) (c .before .tranche-word5 .ensures) (c .tranche-word6 .ensures)
 

@@ -1,8 +1,8 @@
--- `pool_at` meets its contract: where the count of facts is good, it is 4. No axioms.
+-- `pool_at` meets its contract: where the count of facts is good, it is small. No axioms.
 use native.Mathlib.Omega.{arith}
 use borrow.Author.Needs.{needs}
 use Rattle.judgement.specs.DealSheet.{poolAt}
-use Rattle.judgement.proofs.SheetLimits.{four-facts}
+use Rattle.judgement.proofs.SheetLimits.{facts-within}
 use Rattle.judgement.proofs.sheet.pool_at.Statement.{statement}
 use Rattle.judgement.proofs.sheet.pool_at.Tie as tie
 
@@ -10,7 +10,7 @@ word-at-requires : tie.Need-word-at-requires
 word-at-requires c κs = search needs
 
 add-result : tie.Need-add-result
-add-result c = omega (arith, four-facts (c .before .before .args .s .now) (c .before .before .pre))
+add-result c = omega (arith, facts-within (c .before .before .args .s .now) (c .before .before .pre))
 
 returns : tie.Need-returns
 unfolding poolAt

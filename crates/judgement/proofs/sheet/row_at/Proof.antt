@@ -1,4 +1,4 @@
--- `row_at` meets its contract: no place of the pool is above 4,006. No axioms.
+-- `row_at` meets its contract: no place of the pool is above `placeLimit`. No axioms.
 use native.Mathlib.Omega.{arith}
 use Rattle.judgement.proofs.SheetLimits.{facts-counted-before, row-at-most}
 use Rattle.judgement.proofs.sheet.row_at.Statement.{statement}

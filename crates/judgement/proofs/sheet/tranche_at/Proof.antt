@@ -1,4 +1,4 @@
--- `tranche_at` meets its contract: no place of the tranches is above 4,231. No axioms.
+-- `tranche_at` meets its contract: no place of the tranches is above `placeLimit`. No axioms.
 use native.Mathlib.Omega.{arith}
 use Rattle.judgement.proofs.SheetLimits.{pool-counted-before, tranche-at-most}
 use Rattle.judgement.proofs.sheet.tranche_at.Statement.{statement}

@@ -3,8 +3,9 @@ use mathlib.Core.Path.{_≡_, refl}
 use Prim.Native.Nat.{ℕ, _+_, _*_, _-_, _≤_}
 use native.Mathlib.Omega.{arith}
 use lib.ListN.{getD}
-use Rattle.deal.specs.Sum.{sum}
-use Rattle.deal.proofs.SumLaws.{sum-next, sum-at-most}
+use Rattle.limits.specs.SheetSize.{lineSize}
+use Rattle.numbers.specs.Sum.{sum}
+use Rattle.numbers.proofs.SumLaws.{sum-next, sum-at-most}
 use Rattle.report.specs.ReportText.{columnSum}
 use Rattle.report.proofs.lines.column_sum.Statement.{statement}
 use Rattle.report.proofs.lines.column_sum.Tie as tie
@@ -36,7 +37,7 @@ add-sum-2 c =
     let l = c .before .before in
     let x = l .before .args in
     let held = l .before .pre .3 in
-    let column : ℕ → ℕ = λ i. getD (x .results .now) (6 * i + x .column) 0 in
+    let column : ℕ → ℕ = λ i. getD (x .results .now) (lineSize * i + x .column) 0 in
     let so-far = sum-at-most column 125000000000000 (l .loop .i) (λ i below. held i (omega arith)) in
     omega (arith, l .loop .inv .1, so-far, held (l .loop .i) (omega arith))
 
@@ -50,7 +51,7 @@ loop-again : tie.Need-loop-again Inv-loop μ-loop
 loop-again c =
     let l = c .before .before in
     let x = l .before .args in
-    (omega arith, omega (arith, l .loop .inv .1, sum-next (λ i. getD (x .results .now) (6 * i + x .column) 0) (l .loop .i)))
+    (omega arith, omega (arith, l .loop .inv .1, sum-next (λ i. getD (x .results .now) (lineSize * i + x .column) 0) (l .loop .i)))
 
 returns : tie.Need-returns Inv-loop μ-loop
 returns c =

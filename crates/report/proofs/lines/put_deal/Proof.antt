@@ -7,7 +7,8 @@ use native.Mathlib.Omega.{arith}
 use borrow.Author.Needs.{needs}
 use lib.ListN.{length, getD, length-append}
 use lib.Seq.{sets, length-sets}
-use Rattle.report.specs.ReportText.{ascii, labelled, trancheLines, columnSum, totalLine, dealText}
+use Rattle.limits.specs.SheetSize.{lineSize}
+use Rattle.report.specs.ReportText.{ascii, labelled, trancheLines, rwaColumn, capitalColumn, columnSum, totalLine, dealText}
 use Rattle.report.proofs.TextLaws.{put-behind, length-labelled, length-tranche-lines}
 use Rattle.report.proofs.lines.put_deal.Statement.{statement}
 use Rattle.report.proofs.lines.put_deal.Tie as tie
@@ -47,7 +48,7 @@ start-of-rwa c = start-of-lines (c .before .before .before)
 
 rwa-summed :
     (c : tie.After-column-sum) →
-    c .column-sum .result ≡ columnSum (start-of-rwa c .args .results .now) 4 (start-of-rwa c .args .n)
+    c .column-sum .result ≡ columnSum (start-of-rwa c .args .results .now) rwaColumn (start-of-rwa c .args .n)
 rwa-summed c = c .column-sum .ensures
 
 abbrev start-of-capital : tie.After-column-sum2 → tie.Start
@@ -55,7 +56,7 @@ start-of-capital c = start-of-rwa (c .before)
 
 capital-summed :
     (c : tie.After-column-sum2) →
-    c .column-sum2 .result ≡ columnSum (start-of-capital c .args .results .now) 5 (start-of-capital c .args .n)
+    c .column-sum2 .result ≡ columnSum (start-of-capital c .args .results .now) capitalColumn (start-of-capital c .args .n)
 capital-summed c = c .column-sum2 .ensures
 
 abbrev start-of-total : tie.After-put-labelled2 → tie.Start
@@ -82,8 +83,8 @@ text-stands c =
 -- the two columns that are summed hold no word above 1.25 × 10^14
 columns-held :
     (s : tie.Start) (i : ℕ) → i < s .args .n →
-    (getD (s .args .results .now) (6 * i + 4) 0 ≤ 125000000000000) × (getD (s .args .results .now) (6 * i + 5) 0 ≤ 125000000000000)
-columns-held s i below = (s .pre .3 i 4 below (omega arith) (omega arith), s .pre .3 i 5 below (omega arith) (omega arith))
+    (getD (s .args .results .now) (lineSize * i + rwaColumn) 0 ≤ 125000000000000) × (getD (s .args .results .now) (lineSize * i + capitalColumn) 0 ≤ 125000000000000)
+columns-held s i below = (s .pre .3 i rwaColumn below (omega arith) (omega arith), s .pre .3 i capitalColumn below (omega arith) (omega arith))
 
 slice-aggregate-put-labelled : tie.Need-slice-aggregate-put-labelled
 slice-aggregate-put-labelled c = search needs

@@ -2,6 +2,7 @@
 use Prim.Native.Nat.{_+_, _*_}
 use native.Mathlib.Omega.{arith}
 use borrow.Author.Needs.{needs}
+use Rattle.limits.specs.SheetSize.{lineSize}
 use Rattle.report.proofs.LineSteps.{tranche-line-put}
 use Rattle.report.proofs.lines.put_line.Statement.{statement}
 use Rattle.report.proofs.lines.put_line.Tie as tie
@@ -35,8 +36,8 @@ same-length c = search needs
 
 returns : tie.Need-returns
 returns c =
-    let first = 6 * c .before .before .before .before .before .before .before .args .i in
-    tranche-line-put _ _ _ _ first (first + 6) _ (c .before .before .put-spaced .ensures) (omega arith) (omega arith) (omega arith)
+    let first = lineSize * c .before .before .before .before .before .before .before .args .i in
+    tranche-line-put _ _ _ _ first (first + lineSize) _ (c .before .before .put-spaced .ensures) (omega arith) (omega arith) (omega arith)
 
 pub put-line-spec : {M : Type 1} → statement M
 put-line-spec =

@@ -1,0 +1,4 @@
+pub mod SumLimitsLaw
+pub mod PoolLaws
+pub mod ChargeLaws
+pub mod FiguresLaws

@@ -1,0 +1,18 @@
+-- What a deal reads of its pool, on all sums.
+use mathlib.Core.Bool.{false, cond}
+use Rattle.charge.specs.PoolCharge.{mostlyKnown, poolCharge, poolAverage}
+use Rattle.charge.specs.SumLimits.{sumsWithin}
+use Rattle.charge.specs.declared.Figures.{Figures}
+use Rattle.charge.specs.declared.Sums.{Sums}
+
+-- 01's figures
+abbrev pub poolFigures : Sums → Figures
+poolFigures q = record { known = mostlyKnown q; charge = poolCharge q; average = poolAverage q }
+
+-- the highest that 01's figures can be
+abbrev pub highestFigures : Figures
+highestFigures = record { known = false; charge = 1000000; average = 125000 }
+
+-- 01's figures within the limits; outside them, where no sheet's sums are, the highest, so that nobody gets one that is too low
+unfoldable pub figures : Sums → Figures
+figures q = cond (sumsWithin q) (poolFigures q) highestFigures

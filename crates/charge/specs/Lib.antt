@@ -1,0 +1,3 @@
+pub mod PoolCharge
+pub mod SumLimits
+pub mod Figures

@@ -1,0 +1,147 @@
+// The charge of a pool and its average risk weight, from the pool's sums.
+ghost use mathlib.Core.Path.{_≡_};
+ghost use Rattle.charge.specs.PoolCharge.{baseCharge, lateShare, knownCharge, mostlyKnown, poolCharge, poolAverage};
+ghost use Rattle.charge.specs.SumLimits.{sumsWithin, SumLimits};
+ghost use Rattle.charge.specs.Figures.{figures};
+use numbers::rounded_up;
+
+// Sums over rows of a pool: exposure, nominal, and exposure × risk weight, the risk weight in percent.
+pub struct Totals {
+    pub exposure: u64,
+    pub nominal: u64,
+    pub weighted: u64,
+}
+
+// A pool's seven sums: over all rows, over the rows with known status, and the nominal of delinquent rows.
+pub struct Sums {
+    pub all: Totals,
+    pub known: Totals,
+    pub late: u64,
+}
+
+// What a deal reads of its pool: whether unknown rows are at most 5% of exposure, the pool charge in millionths, and the average risk weight in hundredths of
+// a percent, which is the senior cap.
+pub struct Figures {
+    pub known: bool,
+    pub charge: u64,
+    pub average: u64,
+}
+
+// 1 in the units of shares and charges, millionths. It is also the highest charge.
+const MILLION: u64 = 1000000;
+
+// One half, the charge of the late share.
+const LATE_CHARGE: u64 = 500000;
+
+// The largest sum of amounts: 1,000 rows of 10^10.
+const LARGEST_SUM: u64 = 10000000000000;
+
+// The highest risk weight of a row, in the unit of the rows' weights, percent.
+const HIGHEST_WEIGHT: u64 = 1250;
+
+// The charge of a risk weight of one unit: 8% of a percent, in millionths.
+const UNIT_CHARGE: u64 = 800;
+
+// The weight of one unit in hundredths of a percent, in which averages are counted.
+const UNIT_AVERAGE: u64 = 100;
+
+// 1250%, the highest average.
+const HIGHEST_AVERAGE: u64 = 125000;
+
+// Whether the sums are within the limits under which nothing overflows. The first two tests keep the products of the next two small.
+fn sums_within(q: Sums) -> bool
+    ensures { λ r. ⌜ r ≡ sumsWithin q ⌝ }
+{
+    if LARGEST_SUM < q.all.exposure {
+        return false;
+    }
+    if q.all.exposure < q.known.exposure {
+        return false;
+    }
+    if HIGHEST_WEIGHT * q.all.exposure < q.all.weighted {
+        return false;
+    }
+    if HIGHEST_WEIGHT * q.known.exposure < q.known.weighted {
+        return false;
+    }
+    if LARGEST_SUM < q.known.nominal {
+        return false;
+    }
+    q.late <= q.known.nominal
+}
+
+// The base charge: 8% of the average risk weight of the rows with known status, rounded up.
+fn base_charge(q: Sums) -> u64
+    requires { ⌜ SumLimits q ⌝ }
+    ensures { λ r. ⌜ r ≡ baseCharge q ⌝ }
+{
+    rounded_up(UNIT_CHARGE * q.known.weighted, q.known.exposure)
+}
+
+// The share of delinquent nominal in the nominal of the rows with known status, rounded up.
+fn late_share(q: Sums) -> u64
+    requires { ⌜ SumLimits q ⌝ }
+    ensures { λ r. ⌜ r ≡ lateShare q ⌝ }
+{
+    rounded_up(q.late * MILLION, q.known.nominal)
+}
+
+// The charge of the rows with known status: one half for the late share, the base charge for the rest.
+fn known_charge(q: Sums) -> u64
+    requires { ⌜ SumLimits q ⌝ }
+    ensures { λ r. ⌜ r ≡ knownCharge q ⌝ }
+{
+    let base = base_charge(q);
+    let late = late_share(q);
+    rounded_up((MILLION - late) * base + LATE_CHARGE * late, MILLION)
+}
+
+// Whether unknown rows are up to 5% of all exposure.
+fn mostly_known(q: Sums) -> bool
+    requires { ⌜ SumLimits q ⌝ }
+    ensures { λ r. ⌜ r ≡ mostlyKnown q ⌝ }
+{
+    20 * (q.all.exposure - q.known.exposure) <= q.all.exposure
+}
+
+// The pool charge: unknown rows up to 5% are charged in full; above that the whole pool is.
+fn pool_charge(q: Sums) -> u64
+    requires { ⌜ SumLimits q ⌝ }
+    ensures { λ r. ⌜ r ≡ poolCharge q ⌝ }
+{
+    if !mostly_known(q) {
+        return MILLION;
+    }
+    let unknown = q.all.exposure - q.known.exposure;
+    rounded_up(
+        q.known.exposure * known_charge(q) + unknown * MILLION,
+        q.all.exposure,
+    )
+}
+
+// The average risk weight of all rows, which is the senior cap.
+fn pool_average(q: Sums) -> u64
+    requires { ⌜ SumLimits q ⌝ }
+    ensures { λ r. ⌜ r ≡ poolAverage q ⌝ }
+{
+    rounded_up(UNIT_AVERAGE * q.all.weighted, q.all.exposure)
+}
+
+// The figures of a pool with these sums; the highest where the sums are outside their limits, which no sheet's are, so that no caller gets one that is too
+// low.
+pub fn figures_of(q: Sums) -> Figures
+    ensures { λ r. ⌜ r ≡ figures q ⌝ }
+{
+    if !sums_within(q) {
+        return Figures {
+            known: false,
+            charge: MILLION,
+            average: HIGHEST_AVERAGE,
+        };
+    }
+    Figures {
+        known: mostly_known(q),
+        charge: pool_charge(q),
+        average: pool_average(q),
+    }
+}

@@ -1,0 +1,166 @@
+// What is not kept as a written sheet: results that are too short (14), files of a bad length (15), and the two largest deals.
+use crate::examples::print_report;
+use deal::Answer;
+use libc::STDOUT_FILENO;
+use limits::BYTE_LIMIT;
+use limits::FACTS_MOST;
+use limits::LINE_SIZE;
+use limits::ROW_SIZE;
+use limits::ROWS_MOST;
+use limits::TRANCHE_SIZE;
+use limits::TRANCHES_MOST;
+use limits::WORD_LIMIT;
+
+// A deal whose second tranche is too thin for the formula: 13 at place 22, where the results have room for three lines.
+const THIN: [u64; 36] = [
+    4,
+    0,
+    0,
+    1,
+    1, //
+    2,
+    6000000,
+    6000000,
+    100,
+    0,
+    4000000,
+    4000000,
+    100,
+    0, //
+    3,
+    8999991,
+    1,
+    60,
+    0,
+    1,
+    0,
+    0,
+    5,
+    2,
+    60,
+    5,
+    0,
+    0,
+    0,
+    1000004,
+    3,
+    60,
+    0,
+    0,
+    0,
+    0,
+];
+
+// Writes the answer to the thin deal with the results that are lent for it.
+fn print_answer(results: &mut [u64]) {
+    let sheet = THIN;
+    let answer = deal::weigh(&sheet, results);
+    match answer {
+        Answer::Weighed {
+            count: _,
+            charge: _,
+        } => {
+            io::write_all(STDOUT_FILENO, b"weighed\n");
+        }
+        Answer::Refused(r) => {
+            io::write_all(STDOUT_FILENO, b"refused ");
+            io::print_decimal(STDOUT_FILENO, r.number);
+            io::write_all(STDOUT_FILENO, b" at ");
+            io::print_decimal(STDOUT_FILENO, r.place);
+            io::write_all(STDOUT_FILENO, b"\n");
+        }
+    }
+}
+
+// Writes how many words are lent to the thin deal, and the answer to it.
+fn print_thin(results: &mut [u64]) {
+    io::write_all(STDOUT_FILENO, b"thin tranche, results of ");
+    io::print_decimal(STDOUT_FILENO, results.len() as u64);
+    io::write_all(STDOUT_FILENO, b" words: ");
+    print_answer(results);
+}
+
+// The words of the thin deal's lines.
+const THIN_WORDS: usize = 3 * LINE_SIZE;
+
+// With one word fewer than its lines need the thin deal gets 14, which comes before 13, and with all of them it gets 13.
+pub(crate) fn print_short_results() {
+    let mut short = [0u64; THIN_WORDS - 1];
+    print_thin(&mut short);
+    let mut enough = [0u64; THIN_WORDS];
+    print_thin(&mut enough);
+}
+
+// Writes the report on a file of that many bytes, all of them 0.
+fn print_length(n: u64) {
+    let file = [0u8; BYTE_LIMIT + 8];
+    let length = buffers::within(n, &file);
+    io::write_all(STDOUT_FILENO, b"file of zeros, bytes ");
+    io::print_decimal(STDOUT_FILENO, n);
+    io::write_all(STDOUT_FILENO, b": ");
+    print_report(&file[..length]);
+}
+
+// The empty file lacks its first word. Of the other lengths only that of the longest sheet gets past 15; a fact count of 0 is then the fault.
+pub(crate) fn print_lengths() {
+    let longest = BYTE_LIMIT as u64;
+    print_length(0);
+    print_length(7);
+    print_length(longest - 1);
+    print_length(longest);
+    print_length(longest + 1);
+    print_length(longest + 8);
+}
+
+// The place of the pool's count in the largest sheets, and that of the tranches' count.
+const POOL_AT: usize = 1 + FACTS_MOST;
+
+const TRANCHES_AT: usize = POOL_AT + 1 + ROW_SIZE * ROWS_MOST;
+
+// The places of the first pool row and of the first tranche.
+const FIRST_ROW: usize = POOL_AT + 1;
+
+const FIRST_TRANCHE: usize = TRANCHES_AT + 1;
+
+// A sheet with the most pool rows, equal ones of 10^10 and that risk weight.
+fn with_rows(sheet: [u64; WORD_LIMIT], weight: u64) -> [u64; WORD_LIMIT] {
+    let mut filled = sheet;
+    filled[POOL_AT] = ROWS_MOST as u64;
+    for i in 0..ROWS_MOST {
+        let at = FIRST_ROW + ROW_SIZE * i;
+        filled[at] = 10000000000;
+        filled[at + 1] = 10000000000;
+        filled[at + 2] = weight;
+    }
+    filled
+}
+
+// A sheet with the most tranches, each 1/32 of the pool, in classes 1 to 32, held in full, unrated, of 1,200 months.
+fn with_tranches(sheet: [u64; WORD_LIMIT]) -> [u64; WORD_LIMIT] {
+    let mut filled = sheet;
+    filled[TRANCHES_AT] = TRANCHES_MOST as u64;
+    for i in 0..TRANCHES_MOST {
+        let at = FIRST_TRANCHE + TRANCHE_SIZE * i;
+        filled[at] = 312500000000;
+        filled[at + 1] = i as u64 + 1;
+        filled[at + 2] = 1200;
+        filled[at + 3] = 312500000000;
+    }
+    filled
+}
+
+// Writes the report on the largest deal, as many words as a sheet has, with that risk weight of all rows.
+pub(crate) fn print_largest(weight: u64) {
+    let mut facts = [0u64; WORD_LIMIT];
+    facts[0] = FACTS_MOST as u64;
+    facts[3] = 1;
+    facts[4] = 1;
+    let sheet = with_tranches(with_rows(facts, weight));
+    let mut file = [0u8; BYTE_LIMIT];
+    io::write_all(STDOUT_FILENO, b"largest deal, risk weight ");
+    io::print_decimal(STDOUT_FILENO, weight);
+    io::write_all(STDOUT_FILENO, b"\n");
+    if files::store(&sheet, &mut file) {
+        print_report(&file);
+    }
+}

@@ -1,0 +1,108 @@
+-- `weigh_pool`: each refusal is the sheet's verdict and leaves the results; where there is none, the lines are written. No axioms.
+use mathlib.Core.Path.{_≡_, _∙_, sym, ap}
+use Prim.Native.Nat.{_≤_}
+use native.Mathlib.Omega.{arith}
+use borrow.Author.Needs.{needs}
+use Rattle.charge.specs.SumLimits.{SumLimits}
+use Rattle.charge.specs.declared.Sums.{Sums}
+use Rattle.judgement.specs.DealSheet.{trancheCount}
+use Rattle.judgement.specs.LaidOut.{LaidOut}
+use Rattle.judgement.proofs.LayoutLaws.{tranches-is}
+use Rattle.judgement.proofs.SheetLimits.{tranches-counted, tranches-within}
+use Rattle.pool.proofs.PoolLaws.{sum-limits}
+use Rattle.weights.specs.declared.Terms.{Terms}
+use Rattle.deal.specs.Lines.{terms}
+use Rattle.deal.proofs.WeighSteps.{open-laid-out, open-terms, refused-for-room, decided-by-thickness, refused-answer, weighed-answer}
+use Rattle.deal.proofs.weigh_pool.Statement.{statement}
+use Rattle.deal.proofs.weigh_pool.Tie as tie
+
+-- ---- what an opened pool gives
+
+laid : (c : tie.Start) → LaidOut (c .args .sheet .now) (c .args .l)
+laid c = open-laid-out _ _ _ (c .pre)
+
+limits : (c : tie.Start) → SumLimits (c .args .sums)
+limits c = rw (c .pre .are-sums) (sum-limits (c .args .sheet .now) (laid c .good))
+
+-- the layout's number of tranches is the sheet's, and small
+counted : (c : tie.Start) → c .args .l .tranches ≡ trancheCount (c .args .sheet .now)
+counted c = tranches-is _ _ (laid c)
+
+few : (c : tie.Start) → trancheCount (c .args .sheet .now) ≤ 32
+few c = tranches-within _ (tranches-counted _ (laid c .good)) .1
+
+mul-if1 : tie.Need-mul-if1
+mul-if1 c = let start = c .before .before in omega (arith, counted start, few start)
+
+returns : tie.Need-returns
+returns c =
+    let start = c .before .before .before in
+    refused-answer _ _ (refused-for-room _ _ (start .pre .sound) (omega (arith, counted start)))
+
+terms-of-requires : tie.Need-terms-of-requires
+terms-of-requires c κs = limits (c .before .before .before)
+
+class-points-requires : tie.Need-class-points-requires
+class-points-requires c κs =
+    let start = c .before .before .before .before in
+    (laid start, ap (λ (q : Sums). q .all .nominal) (start .pre .are-sums))
+
+judge-thickness-requires : tie.Need-judge-thickness-requires
+judge-thickness-requires c κs =
+    let start = c .before .before .before .before .before .before in
+    (laid start, c .before .before .terms-of .ensures ∙ open-terms _ _ _ (start .pre), c .before .class-points .ensures)
+
+enum-known-thickness : tie.Need-enum-known-thickness
+enum-known-thickness c = search needs
+
+returns-2 : tie.Need-returns-2
+returns-2 c =
+    let start = c .before .before .before .before .before .before .before .before .before .before in
+    let room = c .before .before .before .before .before .before .before in
+    refused-answer _ _
+    (decided-by-thickness _ _ (start .pre .sound) (omega (arith, room .if1 .left, counted start)) (c .before .before .before .judge-thickness .ensures) ∙
+    c .before .thickness .given .1)
+
+enum-told : tie.Need-enum-told
+enum-told c = search needs
+
+write-lines-requires : tie.Need-write-lines-requires
+write-lines-requires c κs =
+    let start = c .before .before .before .before .before .before .before .before .before .before .before in
+    let room = c .before .before .before .before .before .before .before .before in (
+      laid start,
+      c .before .before .before .before .before .before .before .terms-of .ensures ∙ open-terms _ _ _ (start .pre),
+      c .before .before .before .before .before .before .class-points .ensures,
+      omega (arith, room .if1 .left, counted start),
+    )
+
+same-length : tie.Need-same-length
+same-length c = search needs
+
+returns-3 : tie.Need-returns-3
+returns-3 c =
+    let thickness = c .before .before .before .before .before in
+    let start = c .before .before .before .before .before .before .before .before .before .before .before .before .before .before in
+    let room = c .before .before .before .before .before .before .before .before .before .before .before in
+    weighed-answer _ _
+    (decided-by-thickness _ _ (start .pre .sound) (omega (arith, room .if1 .left, counted start)) (thickness .before .before .judge-thickness .ensures) ∙
+    thickness .enum-told .given .1)
+    (counted start)
+    (ap (λ (d : Terms). d .charge) (c .before .before .before .before .before .before .before .before .before .before .terms-of .ensures ∙ open-terms _ _ _ (start .pre)))
+    (c .before .before .write-lines .ensures)
+
+pub weigh-pool-spec : {M : Type 1} → statement M
+weigh-pool-spec =
+    tie.close
+    (tie.spec
+    mul-if1
+    returns
+    terms-of-requires
+    class-points-requires
+    judge-thickness-requires
+    enum-known-thickness
+    returns-2
+    enum-told
+    write-lines-requires
+    same-length
+    returns-3)

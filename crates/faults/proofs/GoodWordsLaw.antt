@@ -1,0 +1,143 @@
+-- A fact, a pool row, a tranche row and a class keep the limits of 01's "The deal sheet" just where their words have no fault. No axioms.
+use mathlib.Core.Bool.{Bool, true, false, cond}
+use mathlib.Core.Logic.{inl, inr, ⊎-elim}
+use mathlib.Core.Path.{_≡_, refl, ap, _∙_}
+use Prim.Native.Nat.{ℕ, zero, suc, _+_, _≤_, _<_}
+use native.Mathlib.Omega.{arith}
+use lib.Dec.{leb, eqb}
+use borrow.Author.Tests.{leb-true, eqb-true, le-leb, eq-eqb, ne-eqb}
+use Rattle.numbers.proofs.Tests.{either-true, true-either}
+use Rattle.rating_codes.specs.RatingCodes.{listed}
+use Rattle.faults.specs.WordFaults.{yesOrNo, factFault, riskWeightInLimits, statusAllowed, rowFault, classInOrder, heldInLimits, trancheFault}
+use Rattle.faults.specs.GoodWords.{GoodFact, GoodRow, GoodTranche, NextClass, GoodClass}
+use Rattle.faults.proofs.FaultLaws.{unless-zero, within-is, no-fault-within}
+
+-- ---- facts
+
+zero-alone : (b c : Bool) → _≡_ {A = ℕ} (cond b 0 (cond c 12 4)) 0 → b ≡ true
+zero-alone true c e = refl
+zero-alone false true e = absurd (omega arith)
+zero-alone false false e = absurd (omega arith)
+
+kind-code : (p w : ℕ) → p ≡ 1 → factFault p w ≡ 0 → w ≡ 0
+kind-code p w is e = eqb-true w 0 (zero-alone (eqb w 0) (leb w 2) (rw (eq-eqb p 1 is) at e))
+
+yes-or-no : (p w : ℕ) → 1 < p → factFault p w ≡ 0 → w ≤ 1
+yes-or-no p w h e = omega (arith, leb-true w _ (unless-zero 4 (yesOrNo w) (omega arith) (rw (ne-eqb p 1 (λ z. omega arith)) at e)))
+
+pub good-fact : (p w : ℕ) → factFault p w ≡ 0 → GoodFact p w
+good-fact p w e = record { pool-kind = λ is. kind-code p w is e; code = λ h. yes-or-no p w h e }
+
+pub fact-good : (p w : ℕ) → 1 ≤ p → GoodFact p w → factFault p w ≡ 0
+fact-good zero w least g = absurd (omega arith)
+fact-good (suc zero) w least g = simp (g .pool-kind refl)
+fact-good (suc (suc p)) w least g =
+    let other : suc (suc p) ≡ 1 → ⊥ = (λ e. omega arith) in
+    simp (ne-eqb (suc (suc p)) 1 other, le-leb w 1 (g .code (omega arith)))
+
+-- ---- pool rows
+
+module _ (resecuritised : Bool) (e n w t : ℕ) where
+  pub good-row :
+      rowFault resecuritised 0 e ≡ 0 → rowFault resecuritised 1 n ≡ 0 → rowFault resecuritised 2 w ≡ 0 → rowFault resecuritised 3 t ≡ 0 →
+      GoodRow resecuritised e n w t
+  good-row first second third fourth =
+      let exposures = no-fault-within 5 1 10000000000 e (omega arith) first in
+      let nominals = no-fault-within 5 1 10000000000 n (omega arith) second in
+      let allowed = unless-zero 7 (statusAllowed resecuritised t) (omega arith) fourth in
+      record {
+        exposure-least = exposures .0;
+        exposure-most = exposures .1;
+        nominal-least = nominals .0;
+        nominal-most = nominals .1;
+        weight-most = omega (arith, leb-true w _ (unless-zero 6 (riskWeightInLimits w) (omega arith) third));
+        status-ordinary = λ r. omega (arith, leb-true t _ (rw r at allowed));
+        status-resecuritised = λ r. eqb-true t 3 (rw r at allowed);
+      }
+
+status-good :
+    (resecuritised : Bool) (w : ℕ) → (resecuritised ≡ false → w ≤ 2) → (resecuritised ≡ true → w ≡ 3) →
+    statusAllowed resecuritised w ≡ true
+status-good true w ordinary tranches = eq-eqb w 3 (tranches refl)
+status-good false w ordinary tranches = le-leb w 2 (ordinary refl)
+
+module _ (resecuritised : Bool) (e n w t : ℕ) (g : GoodRow resecuritised e n w t) where
+  pub exposure-good : rowFault resecuritised 0 e ≡ 0
+  exposure-good = simp (within-is 1 10000000000 e (g .exposure-least) (g .exposure-most))
+
+  pub nominal-good : rowFault resecuritised 1 n ≡ 0
+  nominal-good = simp (within-is 1 10000000000 n (g .nominal-least) (g .nominal-most))
+
+  pub weight-good : rowFault resecuritised 2 w ≡ 0
+  weight-good = simp (le-leb w 1250 (g .weight-most))
+
+  pub row-status-good : rowFault resecuritised 3 t ≡ 0
+  row-status-good = simp (status-good resecuritised t (g .status-ordinary) (g .status-resecuritised))
+
+-- ---- tranche rows; i is the row's number and b the class of the row before it
+
+module _ (i b : ℕ) where
+  next-class : (w : ℕ) → 0 < i → classInOrder i b w ≡ true → NextClass b w
+  next-class w h e =
+      ⊎-elim
+      (λ same. inl (eqb-true w b same))
+      (λ more. let q = eqb-true w _ more in inr (omega arith))
+      (either-true (eqb w b) _ (rw (ne-eqb i 0 (λ z. omega arith)) at e))
+
+  pub good-class : (a w : ℕ) → trancheFault i b a 1 w ≡ 0 → GoodClass i b w
+  good-class a w e =
+      let allowed = unless-zero 9 (classInOrder i b w) (omega arith) e in
+      record {
+        of-first = λ is. eqb-true w 1 (rw (eq-eqb i 0 is) at allowed);
+        of-next = λ h. next-class w h allowed;
+      }
+
+  pub good-tranche :
+      (a m h x y z : ℕ) → trancheFault i b a 0 a ≡ 0 → trancheFault i b a 2 m ≡ 0 → trancheFault i b a 3 h ≡ 0 → trancheFault i b a 4 x ≡ 0 →
+      trancheFault i b a 5 y ≡ 0 → trancheFault i b a 6 z ≡ 0 → GoodTranche a m h x y z
+  good-tranche a m h x y z amounts maturities holdings first second third =
+      let amount = no-fault-within 8 1 10000000000000 a (omega arith) amounts in
+      let maturity = no-fault-within 10 1 1200 m (omega arith) maturities in
+      record {
+        amount-least = amount .0;
+        amount-most = amount .1;
+        months-least = maturity .0;
+        months-most = maturity .1;
+        held-most = omega (arith, leb-true h _ (unless-zero 8 (heldInLimits a h) (omega arith) holdings));
+        first-listed = unless-zero 11 (listed x) (omega arith) first;
+        second-listed = unless-zero 11 (listed y) (omega arith) second;
+        third-listed = unless-zero 11 (listed z) (omega arith) third;
+      }
+
+  class-allowed : (w : ℕ) → GoodClass i b w → classInOrder i b w ≡ true
+  class-allowed w g = by-row i refl
+    where
+      by-row : (j : ℕ) → j ≡ i → classInOrder i b w ≡ true
+      by-row zero e = rw (← e) (eq-eqb w 1 (g .of-first (omega arith)))
+      by-row (suc j) e =
+          let other : i ≡ 0 → ⊥ = (λ z. omega arith) in
+          rw (ne-eqb i 0 other)
+          (true-either (eqb w b) (eqb w (b + 1))
+          (⊎-elim (λ same. inl (eq-eqb _ _ same)) (λ more. inr (eq-eqb _ _ more)) (g .of-next (omega arith))))
+
+  pub class-good : (a w : ℕ) → GoodClass i b w → trancheFault i b a 1 w ≡ 0
+  class-good a w g = simp (class-allowed w g)
+
+  module _ (a m h x y z : ℕ) (g : GoodTranche a m h x y z) where
+    pub amount-good : trancheFault i b a 0 a ≡ 0
+    amount-good = simp (within-is 1 10000000000000 a (g .amount-least) (g .amount-most))
+
+    pub months-good : trancheFault i b a 2 m ≡ 0
+    months-good = simp (within-is 1 1200 m (g .months-least) (g .months-most))
+
+    pub held-good : trancheFault i b a 3 h ≡ 0
+    held-good = simp (le-leb h a (g .held-most))
+
+    pub first-good : trancheFault i b a 4 x ≡ 0
+    first-good = simp (g .first-listed)
+
+    pub second-good : trancheFault i b a 5 y ≡ 0
+    second-good = simp (g .second-listed)
+
+    pub third-good : trancheFault i b a 6 z ≡ 0
+    third-good = simp (g .third-listed)

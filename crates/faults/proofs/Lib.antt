@@ -1,0 +1,4 @@
+pub mod FaultLaws
+pub mod FaultNumbers
+pub mod GoodWordsLaw
+pub mod RowTestLaw

@@ -1,0 +1,43 @@
+-- 01, "The deal sheet", in plain relations: the limits that a good fact, pool row and tranche row keep. That a word keeps them just where it has no fault
+-- (WordFaults.antt; a fact stands at place 1 or after) is proved in proofs/GoodWordsLaw.antt.
+use mathlib.Core.Bool.{Bool, true, false}
+use mathlib.Core.Logic.{_⊎_}
+use mathlib.Core.Path.{_≡_}
+use Prim.Native.Nat.{ℕ, _+_, _≤_, _<_}
+use Rattle.rating_codes.specs.RatingCodes.{listed}
+
+-- "pool kind (0 SA, 1 IRB, 2 mixed); re-securitisation; due diligence held; pool composition known. The last three are 0 no, 1 yes." Of the kinds, "12: pool
+-- kind 1 or 2" leaves SA. The kind is at place 1.
+pub record GoodFact (p w : ℕ) : Type 0 where
+  pub pool-kind : p ≡ 1 → w ≡ 0
+  pub code : 1 < p → w ≤ 1
+
+-- "A row: exposure amount and nominal amount, each 1 to 10^10; risk weight in whole percent, 0 to 1250; status (0 paying, 1 delinquent, 2 not known,
+-- 3 securitisation tranche).": a 3 in a re-securitisation and nowhere else
+pub record GoodRow (resecuritised : Bool) (exposure nominal weight status : ℕ) : Type 0 where
+  pub exposure-least : 1 ≤ exposure
+  pub exposure-most : exposure ≤ 10000000000
+  pub nominal-least : 1 ≤ nominal
+  pub nominal-most : nominal ≤ 10000000000
+  pub weight-most : weight ≤ 1250
+  pub status-ordinary : resecuritised ≡ false → status ≤ 2
+  pub status-resecuritised : resecuritised ≡ true → status ≡ 3
+
+-- "A row: amount, 1 to 10^13; class; final legal maturity in months, 1 to 1200; amount held, 0 to the tranche amount; three rating words."
+pub record GoodTranche (amount months held first second third : ℕ) : Type 0 where
+  pub amount-least : 1 ≤ amount
+  pub amount-most : amount ≤ 10000000000000
+  pub months-least : 1 ≤ months
+  pub months-most : months ≤ 1200
+  pub held-most : held ≤ amount
+  pub first-listed : listed first ≡ true
+  pub second-listed : listed second ≡ true
+  pub third-listed : listed third ≡ true
+
+-- "The first row has class 1; each next row has the class before it or one more."
+abbrev pub NextClass : ℕ → ℕ → Type 0
+NextClass before w = (w ≡ before) ⊎ (w ≡ before + 1)
+
+pub record GoodClass (i before w : ℕ) : Type 0 where
+  pub of-first : i ≡ 0 → w ≡ 1
+  pub of-next : 0 < i → NextClass before w

@@ -1,0 +1,2 @@
+pub mod WordFaults
+pub mod GoodWords

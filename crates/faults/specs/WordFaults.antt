@@ -1,0 +1,81 @@
+-- 01, "Refusals, by who can cause them": the fault of one word by its value and its column, the refusal's number, or 0 where it has none. Which word of a sheet
+-- stands where, and which fault decides, is in DealSheet.antt and Refusals.antt of `judgement`.
+use mathlib.Core.Bool.{Bool, cond, _&&_, _||_}
+use Prim.Native.Nat.{ℕ, _+_}
+use lib.Dec.{leb, ltb, eqb}
+use Rattle.rating_codes.specs.RatingCodes.{listed}
+
+-- the number, unless the word is good
+abbrev pub unless : ℕ → Bool → ℕ
+unless number good = cond good 0 number
+
+abbrev pub within : ℕ → ℕ → ℕ → Bool
+within least most w = leb least w && leb w most
+
+-- "2: a count is outside its limits."
+abbrev pub countFault : ℕ → ℕ → ℕ → ℕ
+countFault least most w = unless 2 (within least most w)
+
+-- "0 no, 1 yes"
+abbrev pub yesOrNo : ℕ → Bool
+yesOrNo w = leb w 1
+
+-- "4: a fact outside its codes", "12: pool kind 1 or 2." The kind is at place 1.
+abbrev pub factFault : ℕ → ℕ → ℕ
+factFault p w = cond (eqb p 1) (cond (eqb w 0) 0 (cond (leb w 2) 12 4)) (unless 4 (yesOrNo w))
+
+-- ---- a pool row
+
+-- "exposure amount and nominal amount, each 1 to 10^10; risk weight in whole percent, 0 to 1250"
+abbrev pub poolAmountInLimits : ℕ → Bool
+poolAmountInLimits w = within 1 10000000000 w
+
+abbrev pub riskWeightInLimits : ℕ → Bool
+riskWeightInLimits w = leb w 1250
+
+-- "a status above 3; a 3 in an ordinary deal; any other in a re-securitisation", turned round
+abbrev pub statusAllowed : Bool → ℕ → Bool
+statusAllowed resecuritised w = cond resecuritised (eqb w 3) (leb w 2)
+
+-- "5: a pool amount outside 1 to 10^10. 6: a risk weight above 1250. 7: a status ..." The columns of a pool row, from 0: exposure amount, nominal
+-- amount, risk weight, status
+abbrev pub rowFault : Bool → ℕ → ℕ → ℕ
+rowFault resecuritised column w =
+    cond (ltb column 2) (unless 5 (poolAmountInLimits w))
+    (cond (eqb column 2) (unless 6 (riskWeightInLimits w))
+    (unless 7 (statusAllowed resecuritised w)))
+
+-- whether none of a row's four words has a fault
+abbrev pub rowIsGood : Bool → ℕ → ℕ → ℕ → ℕ → Bool
+rowIsGood resecuritised exposure nominal weight status =
+    eqb (rowFault resecuritised 0 exposure) 0 &&
+    (eqb (rowFault resecuritised 1 nominal) 0 &&
+    (eqb (rowFault resecuritised 2 weight) 0 &&
+    eqb (rowFault resecuritised 3 status) 0))
+
+-- ---- a tranche row
+
+-- "The first row has class 1; each next row has the class before it or one more."
+abbrev pub classInOrder : ℕ → ℕ → ℕ → Bool
+classInOrder i before w = cond (eqb i 0) (eqb w 1) (eqb w before || eqb w (before + 1))
+
+-- "amount, 1 to 10^13", "final legal maturity in months, 1 to 1200"
+abbrev pub trancheAmountInLimits : ℕ → Bool
+trancheAmountInLimits w = within 1 10000000000000 w
+
+abbrev pub monthsInLimits : ℕ → Bool
+monthsInLimits w = within 1 1200 w
+
+-- "amount held, 0 to the tranche amount"
+abbrev pub heldInLimits : ℕ → ℕ → Bool
+heldInLimits trancheAmount w = leb w trancheAmount
+
+-- "8: a tranche amount outside its limits, or held above the amount. 9: a class out of order. 10: a maturity outside 1 to 1200. 11: a rating code
+-- not listed." The columns of tranche i, from 0: amount, class, months, held, three ratings; `before` is the class of the row before
+abbrev pub trancheFault : ℕ → ℕ → ℕ → ℕ → ℕ → ℕ
+trancheFault i before trancheAmount column w =
+    cond (eqb column 0) (unless 8 (trancheAmountInLimits w))
+    (cond (eqb column 1) (unless 9 (classInOrder i before w))
+    (cond (eqb column 2) (unless 10 (monthsInLimits w))
+    (cond (eqb column 3) (unless 8 (heldInLimits trancheAmount w))
+    (unless 11 (listed w)))))

@@ -1,0 +1,56 @@
+-- 01, "The deal sheet": how many words a sheet, its rows and its results have, and "Refusals": how long a sheet's file may be. Every limit that follows from
+-- another is worked out here from its parts.
+use Prim.Native.Nat.{ℕ, _+_, _*_}
+
+-- ---- "Facts, count 4"
+
+abbrev pub factsLeast : ℕ
+factsLeast = 4
+
+abbrev pub factsMost : ℕ
+factsMost = 4
+
+-- ---- "Pool, count 1 to 1,000. A row: exposure amount and nominal amount, ...; risk weight in whole percent, ...; status ..."
+
+abbrev pub rowsMost : ℕ
+rowsMost = 1000
+
+-- the words of a pool row
+abbrev pub rowSize : ℕ
+rowSize = 4
+
+-- ---- "Tranches, count 1 to 32. A row: amount, ...; class; final legal maturity in months, ...; amount held, ...; three rating words."
+
+abbrev pub tranchesMost : ℕ
+tranchesMost = 32
+
+-- the words of a tranche row
+abbrev pub trancheSize : ℕ
+trancheSize = 7
+
+-- ---- "Three sections in this order, each after its count"
+
+-- the words of the longest sheet: three counts, facts, pool rows and tranches; 4,231
+abbrev pub wordLimit : ℕ
+wordLimit = 3 + factsMost + rowSize * rowsMost + trancheSize * tranchesMost
+
+-- "The file form is the same words, eight bytes each"; "15 (reading a file only): length not a multiple of 8 or over 33,848 bytes": the bytes of the longest
+-- sheet. That they are 33,848 is `byte-limit-is` (proofs/SheetSizeLaws.antt).
+abbrev pub byteLimit : ℕ
+byteLimit = 8 * wordLimit
+
+-- ---- "Results are a lent list of words, six per tranche"
+
+-- the words of a tranche's line
+abbrev pub lineSize : ℕ
+lineSize = 6
+
+-- the words of the lines of the most tranches: with that much room for its results no sheet is refused with 14
+abbrev pub resultRoom : ℕ
+resultRoom = lineSize * tranchesMost
+
+-- ---- for the proofs
+
+-- no place of a sheet is above it, by a wide margin: by this one bound nothing that is worked out of a place overflows
+abbrev pub placeLimit : ℕ
+placeLimit = 1000000

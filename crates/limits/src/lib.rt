@@ -1,0 +1,29 @@
+// How many words a sheet, its rows and its results have, and how long a sheet's file may be: 01's limits, each under one name for all crates. Those that
+// follow from others are worked out from them. specs/SheetSize.antt has the same for the definitions.
+
+// The least and the most facts that a sheet has.
+pub const FACTS_LEAST: usize = 4;
+
+pub const FACTS_MOST: usize = 4;
+
+// The most pool rows, and the words of one.
+pub const ROWS_MOST: usize = 1000;
+
+pub const ROW_SIZE: usize = 4;
+
+// The most tranches, and the words of a tranche's row.
+pub const TRANCHES_MOST: usize = 32;
+
+pub const TRANCHE_SIZE: usize = 7;
+
+// The words of a tranche's line in the results.
+pub const LINE_SIZE: usize = 6;
+
+// The most words that a sheet has: three counts, facts, pool rows and tranches.
+pub const WORD_LIMIT: usize = 3 + FACTS_MOST + ROW_SIZE * ROWS_MOST + TRANCHE_SIZE * TRANCHES_MOST;
+
+// The most bytes that a sheet's file has, eight for each word.
+pub const BYTE_LIMIT: usize = 8 * WORD_LIMIT;
+
+// Result words that hold the lines of every sheet.
+pub const RESULT_ROOM: usize = LINE_SIZE * TRANCHES_MOST;

@@ -1,0 +1,4 @@
+pub mod TotalsLaws
+pub mod PoolLaws
+pub mod SameSums
+pub mod SummedPoolLaw

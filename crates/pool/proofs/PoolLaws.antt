@@ -1,0 +1,136 @@
+-- Limits of a pool's sums. The sums of a sheet with good words are within the limits that its charge asks for, its nominal is 1 to 10^13, and what is divided by is
+-- never 0. No axioms.
+use mathlib.Core.Bool.{Bool, true, false, not}
+use mathlib.Core.List.{List}
+use mathlib.Core.Path.{_≡_, refl, ap}
+use Prim.Native.Nat.{ℕ, _+_, _*_, _-_, _≤_, _<_}
+use native.Mathlib.Nat.{le-refl, mul-le-mul-left}
+use native.Mathlib.Omega.{arith}
+use borrow.Author.Tests.{leb-true, eqb-true, ne-eqb}
+use Rattle.numbers.specs.Sum.{whereCounted}
+use Rattle.numbers.proofs.SumLaws.{sum-at-most, sum-at-least, sum-ordered, sum-scaled}
+use Rattle.charge.specs.PoolCharge.{unknownExposure, mostlyKnown}
+use Rattle.charge.specs.SumLimits.{SumLimits}
+use Rattle.judgement.specs.DealSheet.{rows, exposure, nominal, status, needed}
+use Rattle.judgement.specs.Refusals.{judged}
+use Rattle.judgement.specs.declared.Verdict.the-variants.{Sound}
+use Rattle.judgement.proofs.SheetLimits.{good-row, rows-within, pool-counted}
+use Rattle.pool.specs.PoolSums.{known, delinquent, weightedExposure, totalsTo, sumsTo, poolSums}
+use Rattle.pool.specs.RowTotals.{TotalLimits}
+
+-- ---- a number where it counts
+
+pub counted-at-most : (counts : Bool) (x : ℕ) → whereCounted counts x ≤ x
+counted-at-most true x = le-refl x
+counted-at-most false x = omega arith
+
+pub counted-within : (counts : Bool) (x m : ℕ) → x ≤ m → whereCounted counts x ≤ m
+counted-within counts x m h = omega (arith, counted-at-most counts x)
+
+pub counted-scaled : (counts : Bool) (x y m : ℕ) → x ≤ m * y → whereCounted counts x ≤ m * whereCounted counts y
+counted-scaled true x y m h = h
+counted-scaled false x y m h = omega arith
+
+pub counted-among : (some more : Bool) (x : ℕ) → (some ≡ true → more ≡ true) → whereCounted some x ≤ whereCounted more x
+counted-among true more x h = rw (h refl) (le-refl x)
+counted-among false more x h = omega arith
+
+-- ---- the sums of the first n rows of an accepted sheet
+
+module _ (s : List ℕ) (accepted : judged s (needed s) ≡ Sound) where
+  row-weighted : (i : ℕ) → i < rows s → weightedExposure s i ≤ 1250 * exposure s i
+  row-weighted i row = omega (arith, mul-le-mul-left (exposure s i) (good-row s i accepted row .weight-most))
+
+  late-known : (i : ℕ) → delinquent s i ≡ true → known s i ≡ true
+  late-known i e =
+      let one : status s i ≡ 1 = eqb-true (status s i) 1 e in
+      ap not (ne-eqb (status s i) 2 (λ two. omega arith))
+
+  -- the totals of some of the first n rows
+  pub total-limits : (counts : ℕ → Bool) (n : ℕ) → n ≤ rows s → TotalLimits (totalsTo s counts n) n
+  total-limits counts n within = record {
+    exposure-most =
+        sum-at-most (λ i. whereCounted (counts i) (exposure s i)) 10000000000 n
+        (λ i l. counted-within (counts i) (exposure s i) 10000000000 (good-row s i accepted (omega arith) .exposure-most));
+    nominal-most =
+        sum-at-most (λ i. whereCounted (counts i) (nominal s i)) 10000000000 n
+        (λ i l. counted-within (counts i) (nominal s i) 10000000000 (good-row s i accepted (omega arith) .nominal-most));
+    weighted-most =
+        sum-at-most (λ i. whereCounted (counts i) (weightedExposure s i)) 12500000000000 n
+        (λ i l.
+        counted-within (counts i) (weightedExposure s i) 12500000000000
+        (omega (arith, row-weighted i (omega arith), good-row s i accepted (omega arith) .exposure-most)));
+  }
+
+  pub sum-limits-to : (n : ℕ) → n ≤ rows s → SumLimits (sumsTo s n)
+  sum-limits-to n within =
+      let counts = rows-within s (pool-counted s accepted) in
+      record {
+        exposure-most =
+            omega (arith, sum-at-most (λ i. exposure s i) 10000000000 n (λ i l. good-row s i accepted (omega arith) .exposure-most));
+        known-among-all =
+            sum-ordered (λ i. whereCounted (known s i) (exposure s i)) (λ i. exposure s i) n
+            (λ i l. counted-at-most (known s i) (exposure s i));
+        weighted-most =
+            sum-scaled (λ i. weightedExposure s i) (λ i. exposure s i) 1250 n (λ i l. row-weighted i (omega arith));
+        known-weighted-most =
+            sum-scaled (λ i. whereCounted (known s i) (weightedExposure s i)) (λ i. whereCounted (known s i) (exposure s i)) 1250 n
+            (λ i l. counted-scaled (known s i) (weightedExposure s i) (exposure s i) 1250 (row-weighted i (omega arith)));
+        known-nominal-most =
+            omega (
+              arith,
+              sum-at-most (λ i. whereCounted (known s i) (nominal s i)) 10000000000 n
+                  (λ i l. counted-within (known s i) (nominal s i) 10000000000 (good-row s i accepted (omega arith) .nominal-most)),
+            );
+        late-among-known =
+            sum-ordered (λ i. whereCounted (delinquent s i) (nominal s i)) (λ i. whereCounted (known s i) (nominal s i)) n
+            (λ i l. counted-among (delinquent s i) (known s i) (nominal s i) (late-known i));
+      }
+
+  pub nominal-most-to : (n : ℕ) → n ≤ rows s → sumsTo s n .all .nominal ≤ 10000000000000
+  nominal-most-to n within =
+      let counts = rows-within s (pool-counted s accepted) in
+      omega (arith, sum-at-most (λ i. nominal s i) 10000000000 n (λ i l. good-row s i accepted (omega arith) .nominal-most))
+
+-- ---- the pool of an accepted sheet
+
+pub sum-limits : (s : List ℕ) → judged s (needed s) ≡ Sound → SumLimits (poolSums s)
+unfolding poolSums
+sum-limits s accepted = sum-limits-to s accepted (rows s) (le-refl (rows s))
+
+pub nominal-within : (s : List ℕ) → judged s (needed s) ≡ Sound → (1 ≤ poolSums s .all .nominal) × (poolSums s .all .nominal ≤ 10000000000000)
+unfolding poolSums
+nominal-within s accepted =
+    let counts = rows-within s (pool-counted s accepted) in (
+      omega (arith, sum-at-least (λ i. nominal s i) 1 (rows s) (λ i l. good-row s i accepted l .nominal-least)),
+      nominal-most-to s accepted (rows s) (le-refl (rows s)),
+    )
+
+-- what the average and the pool charge are divided by
+pub exposure-positive : (s : List ℕ) → judged s (needed s) ≡ Sound → 1 ≤ poolSums s .all .exposure
+unfolding poolSums
+exposure-positive s accepted =
+    omega (
+      arith,
+      rows-within s (pool-counted s accepted),
+      sum-at-least (λ i. exposure s i) 1 (rows s) (λ i l. good-row s i accepted l .exposure-least),
+    )
+
+-- what the base charge and the late share are divided by, where they count: a pool of which at most 5% of the exposure is not known has known rows
+pub known-positive :
+    (s : List ℕ) → judged s (needed s) ≡ Sound → mostlyKnown (poolSums s) ≡ true →
+    (1 ≤ poolSums s .known .exposure) × (1 ≤ poolSums s .known .nominal)
+unfolding poolSums
+known-positive s accepted most =
+    let all = exposure-positive s accepted in
+    let few = leb-true (20 * unknownExposure (poolSums s)) (poolSums s .all .exposure) most in
+    let positive : 1 ≤ poolSums s .known .exposure = omega arith in (
+      positive,
+      omega (
+        arith,
+        sum-scaled (λ i. whereCounted (known s i) (exposure s i)) (λ i. whereCounted (known s i) (nominal s i)) 10000000000 (rows s)
+            (λ i l.
+            counted-scaled (known s i) (exposure s i) (nominal s i) 10000000000
+            (omega (arith, good-row s i accepted l))),
+      ),
+    )

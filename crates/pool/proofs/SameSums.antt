@@ -1,0 +1,51 @@
+-- Two sheets of the same counts whose pool rows are the same, in whatever order, have the same sums. No axioms.
+use mathlib.Core.Bool.{not}
+use mathlib.Core.List.{List}
+use mathlib.Core.Path.{_≡_, ap, _∙_}
+use Prim.Native.Nat.{ℕ, _+_, _*_, _<_}
+use native.Mathlib.Nat.{add-zero}
+use native.Mathlib.Omega.{arith}
+use lib.Dec.{eqb}
+use Rattle.numbers.specs.Sum.{sum, whereCounted}
+use Rattle.numbers.specs.Permutation.{Permutation}
+use Rattle.numbers.proofs.SumLaws.{sum-same}
+use Rattle.numbers.proofs.SumPermuted.{sum-permuted}
+use Rattle.judgement.specs.DealSheet.{word, rows, rowAt, exposure, nominal, riskWeight, status}
+use Rattle.judgement.proofs.SameLayout.{SameCounts}
+use Rattle.pool.specs.PoolSums.{poolSums}
+
+module _ (s s′ : List ℕ) (π σ : ℕ → ℕ) (counts : SameCounts s s′) (order : Permutation (rows s) π σ)
+    (moved : (i c : ℕ) → i < rows s → c < 4 → word s′ (rowAt s i + c) ≡ word s (rowAt s (π i) + c)) where
+  at-row : (i c : ℕ) → i < rows s → c < 4 → word s′ (rowAt s′ i + c) ≡ word s (rowAt s (π i) + c)
+  at-row i c row column = rw (counts .pool-at) (moved i c row column)
+
+  exposure-moved : (i : ℕ) → i < rows s → exposure s′ i ≡ exposure s (π i)
+  exposure-moved i row = simp add-zero at (at-row i 0 row (omega arith))
+
+  -- the sum of any number f that a row's four words decide
+  sum-moved :
+      (f : ℕ → ℕ → ℕ → ℕ → ℕ) →
+      sum (λ i. f (exposure s′ i) (nominal s′ i) (riskWeight s′ i) (status s′ i)) (rows s′) ≡
+      sum (λ i. f (exposure s i) (nominal s i) (riskWeight s i) (status s i)) (rows s)
+  sum-moved f =
+      ap (sum (λ i. f (exposure s′ i) (nominal s′ i) (riskWeight s′ i) (status s′ i))) (counts .row-count) ∙
+      sum-same
+      (λ i. f (exposure s′ i) (nominal s′ i) (riskWeight s′ i) (status s′ i))
+      (λ i. f (exposure s (π i)) (nominal s (π i)) (riskWeight s (π i)) (status s (π i)))
+      (rows s)
+      (λ i row.
+      rw (exposure-moved i row, at-row i 1 row (omega arith), at-row i 2 row (omega arith), at-row i 3 row (omega arith))) ∙
+      sum-permuted (λ i. f (exposure s i) (nominal s i) (riskWeight s i) (status s i)) (rows s) π σ order
+
+  pub same-sums : poolSums s′ ≡ poolSums s
+  unfolding poolSums
+  same-sums =
+      rw (
+        sum-moved (λ e n w t. e),
+        sum-moved (λ e n w t. n),
+        sum-moved (λ e n w t. e * w),
+        sum-moved (λ e n w t. whereCounted (not (eqb t 2)) e),
+        sum-moved (λ e n w t. whereCounted (not (eqb t 2)) n),
+        sum-moved (λ e n w t. whereCounted (not (eqb t 2)) (e * w)),
+        sum-moved (λ e n w t. whereCounted (eqb t 1) n),
+      )

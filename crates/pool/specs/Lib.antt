@@ -1,0 +1,4 @@
+pub mod PoolSums
+pub mod RowTotals
+pub mod SummedPool
+pub mod OrderOfRows

@@ -1,0 +1,43 @@
+// Which codes are ratings, and of what kind. A crate of their own, since a sheet's words are judged by the codes alone, whatever the rating table says.
+ghost use mathlib.Core.Path.{_≡_};
+ghost use Rattle.rating_codes.specs.RatingCodes.{longTerm, shortTerm, present, listed};
+
+// Whether a code is a row of the rating table.
+pub fn long_term(code: u64) -> bool
+    ensures { λ r. ⌜ r ≡ longTerm code ⌝ }
+{
+    if code < 1 {
+        return false;
+    }
+    code <= 18
+}
+
+// Whether a code is a short-term grade.
+pub fn short_term(code: u64) -> bool
+    ensures { λ r. ⌜ r ≡ shortTerm code ⌝ }
+{
+    if code < 21 {
+        return false;
+    }
+    code <= 24
+}
+
+// Whether a code is a rating, long-term or short-term.
+pub fn is_present(code: u64) -> bool
+    ensures { λ r. ⌜ r ≡ present code ⌝ }
+{
+    if long_term(code) {
+        return true;
+    }
+    short_term(code)
+}
+
+// Whether a code is listed: none, or a rating.
+pub fn is_listed(code: u64) -> bool
+    ensures { λ r. ⌜ r ≡ listed code ⌝ }
+{
+    if code == 0 {
+        return true;
+    }
+    is_present(code)
+}

@@ -1,0 +1,15 @@
+pub mod Numbers
+pub mod FractionLaws
+pub mod SeriesLaws
+pub mod WholePartLaw
+pub mod EntryBounds
+pub mod Convolution
+pub mod Exponents
+pub mod EndLaws
+pub mod DecayBounds
+pub mod Entries
+pub mod Rest
+pub mod MeanDecayBounds
+pub mod Eventually
+pub mod Gap
+pub mod GapToEnds

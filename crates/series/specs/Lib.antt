@@ -1,0 +1,5 @@
+pub mod Fraction
+pub mod Series
+pub mod Ends
+pub mod DecayTable
+pub mod TableEntry

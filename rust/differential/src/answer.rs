@@ -1,0 +1,121 @@
+//! The numbers of an answer, by "The deal sheet" and "Refusals, by who can cause them" of document 01: the words of a
+//! line, the approaches, the refusals.
+
+use crate::sheet::TRANCHES;
+
+/// The words of a line, by their places.
+#[derive(Debug, Clone, Copy, PartialEq, Eq)]
+pub enum LineWord {
+    /// The approach's word.
+    Approach,
+    /// A.
+    Attachment,
+    /// D.
+    Detachment,
+    /// The weight.
+    Weight,
+    /// The risk-weighted amount.
+    RiskWeighted,
+    /// The capital.
+    Capital,
+}
+
+impl LineWord {
+    /// Its name.
+    pub const fn name(self) -> &'static str {
+        match self {
+            LineWord::Approach => "approach",
+            LineWord::Attachment => "attachment point",
+            LineWord::Detachment => "detachment point",
+            LineWord::Weight => "weight",
+            LineWord::RiskWeighted => "risk-weighted amount",
+            LineWord::Capital => "capital",
+        }
+    }
+}
+
+/// Result words for each tranche.
+pub const LINE_WORDS: usize = LineWord::Capital as usize + 1;
+/// Result words for the most tranches.
+pub const MOST_RESULTS: usize = LINE_WORDS * TRANCHES as usize;
+
+/// The approaches, by their words.
+#[derive(Debug, Clone, Copy, PartialEq, Eq)]
+pub enum Approach {
+    /// The fallback of 1250%.
+    Fallback,
+    /// The rating table.
+    SecErba,
+    /// The formula.
+    SecSa,
+}
+
+impl Approach {
+    /// All approaches with their names, in the order of the enum.
+    pub const TABLE: &'static [(Approach, &'static str)] = &[
+        (Approach::Fallback, "fallback"),
+        (Approach::SecErba, "SEC-ERBA"),
+        (Approach::SecSa, "SEC-SA"),
+    ];
+
+    /// The word that a line has for the approach.
+    pub const fn word(self) -> u64 {
+        self as u64
+    }
+}
+
+/// The refusals, by number.
+pub mod refusal {
+    /// SEC-SA applies, A equals D, and D is above the pool charge.
+    pub const THIN: u64 = 13;
+    /// Results shorter than the lines.
+    pub const ROOM: u64 = 14;
+    /// A file's length is no multiple of a word's bytes, or above the longest.
+    pub const FILE_LENGTH: u64 = 15;
+
+    /// The numbers that a run must meet.
+    pub const MET: &[u64] = &[1, 2, 3, 4, 5, 6, 7, 8, 9, 10, 11, 12, THIN, ROOM, FILE_LENGTH];
+
+    /// The place of a number in the list.
+    pub fn place(number: u64) -> usize {
+        let place = MET.iter().position(|&met| met == number);
+        place.unwrap_or_else(|| panic!("refusal {number} is not in the list of those that a run meets"))
+    }
+
+    /// Whether a sheet's words alone, or the deal that they state, are refused by this number: neither the room nor the
+    /// length of a file.
+    pub fn is_of_words(number: u64) -> bool {
+        MET.contains(&number) && number != ROOM && number != FILE_LENGTH
+    }
+}
+
+#[cfg(test)]
+mod tests {
+    use super::*;
+
+    /// An approach's word is its place in the enum, so the table must follow it.
+    #[test]
+    fn table_follows_the_enum() {
+        assert!((0..)
+            .zip(Approach::TABLE)
+            .all(|(place, entry)| entry.0 as usize == place));
+    }
+
+    /// The approaches have document 01's words.
+    #[test]
+    fn words_are_those_of_the_paper() {
+        let words = [Approach::Fallback, Approach::SecErba, Approach::SecSa].map(Approach::word);
+        assert_eq!(words, [0, 1, 2]);
+    }
+
+    /// Each number that a run must meet is in the list once, and 0, which accepts, is not.
+    #[test]
+    fn numbers_are_listed_once() {
+        assert!(refusal::MET.is_sorted_by(|one, next| one < next));
+        assert!((0..)
+            .zip(refusal::MET)
+            .all(|(place, &number)| refusal::place(number) == place));
+        assert!(!refusal::is_of_words(0) && refusal::is_of_words(1) && refusal::is_of_words(refusal::THIN));
+        assert!(!refusal::is_of_words(refusal::ROOM) && !refusal::is_of_words(refusal::FILE_LENGTH));
+    }
+}

@@ -1,0 +1,56 @@
+//! "The deal sheet" and "Refusals": how many words there are of each sort, the highest values, and the numbers of the
+//! refusals.
+
+/// The facts of a sheet.
+pub const FACTS: u64 = 4;
+/// The most rows that a pool can hold.
+pub const MOST_ROWS: u64 = 1_000;
+/// The most tranches that a sheet can hold.
+pub const MOST_TRANCHES: usize = 32;
+/// The ratings of a tranche.
+pub const RATINGS: usize = 3;
+/// Words of a tranche's row: amount, class, months, amount held, ratings.
+pub const TRANCHE_WORDS: usize = 4 + RATINGS;
+/// Result words for each tranche: approach, A, D, weight, risk-weighted amount, capital.
+pub const LINE_WORDS: usize = 6;
+
+/// The highest amount of a pool row.
+pub const MOST_POOL_AMOUNT: u64 = 10_000_000_000;
+/// The highest risk weight, in percent.
+pub const MOST_RISK_WEIGHT: u64 = 1_250;
+/// The highest amount of a tranche.
+pub const MOST_TRANCHE_AMOUNT: u64 = 10_000_000_000_000;
+/// The longest maturity, in months.
+pub const MOST_MONTHS: u64 = 1_200;
+
+/// The numbers of the refusals.
+pub mod refusal {
+    /// A needed word is missing.
+    pub const MISSING: u64 = 1;
+    /// A count is outside its limits.
+    pub const COUNT: u64 = 2;
+    /// Words follow the last section.
+    pub const FOLLOWS: u64 = 3;
+    /// A fact outside its codes.
+    pub const FACT: u64 = 4;
+    /// A pool amount outside its limits.
+    pub const POOL_AMOUNT: u64 = 5;
+    /// A risk weight above its limit.
+    pub const RISK_WEIGHT: u64 = 6;
+    /// A status that the deal can't have.
+    pub const STATUS: u64 = 7;
+    /// A tranche amount outside its limits, or held above the amount.
+    pub const TRANCHE_AMOUNT: u64 = 8;
+    /// A class out of order.
+    pub const CLASS: u64 = 9;
+    /// A maturity outside its limits.
+    pub const MATURITY: u64 = 10;
+    /// A rating code not listed.
+    pub const RATING: u64 = 11;
+    /// An IRB or mixed pool.
+    pub const POOL_KIND: u64 = 12;
+    /// A tranche without thickness under SEC-SA, above the pool charge.
+    pub const NO_THICKNESS: u64 = 13;
+    /// Results shorter than the lines.
+    pub const ROOM: u64 = 14;
+}
