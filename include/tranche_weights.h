@@ -34,10 +34,15 @@ extern "C" {
 #endif
 
 /* The version of the interface. */
-#define TRANCHE_WEIGHTS_INTERFACE 1
+#define TRANCHE_WEIGHTS_INTERFACE 2
 
-/* The parts of a sheet: the most facts, of one word each; the most pool rows and the words of one; the most tranches and the words of one. */
-#define TRANCHE_WEIGHTS_MOST_FACTS 4
+/*
+ * The parts of a sheet: the fewest and the most facts, of one word each; the most pool rows and the words of one; the most tranches and the words of one. The facts in
+ * their order: pool kind, re-securitisation, due diligence held, pool composition known, STC mark (a simple, transparent and comparable deal). A fact that the sheet
+ * leaves out at the end of its list counts as 0. The README says what each word of a sheet may be.
+ */
+#define TRANCHE_WEIGHTS_FEWEST_FACTS 4
+#define TRANCHE_WEIGHTS_MOST_FACTS 5
 #define TRANCHE_WEIGHTS_MOST_ROWS 1000
 #define TRANCHE_WEIGHTS_ROW_WORDS 4
 #define TRANCHE_WEIGHTS_MOST_TRANCHES 32
@@ -75,7 +80,7 @@ enum {
 /* The approaches. */
 enum {
     TRANCHE_WEIGHTS_BY_FALLBACK = 0, /* the fallback of 1250% */
-    TRANCHE_WEIGHTS_BY_SEC_ERBA = 1, /* the rating table */
+    TRANCHE_WEIGHTS_BY_SEC_ERBA = 1, /* the deal's rating table */
     TRANCHE_WEIGHTS_BY_SEC_SA = 2    /* the formula */
 };
 
@@ -96,15 +101,16 @@ enum {
     TRANCHE_WEIGHTS_REFUSED_POOL_KIND = 12,     /* an IRB or mixed pool */
     TRANCHE_WEIGHTS_REFUSED_THIN_TRANCHE = 13,  /* a tranche too thin for the formula; the place of its amount */
     TRANCHE_WEIGHTS_REFUSED_ROOM = 14,          /* too few result words; place 0 */
-    TRANCHE_WEIGHTS_REFUSED_FILE_LENGTH = 15    /* a file's length is no multiple of TRANCHE_WEIGHTS_BYTES_PER_WORD or above TRANCHE_WEIGHTS_FILE_BYTES; place 0 */
+    TRANCHE_WEIGHTS_REFUSED_FILE_LENGTH = 15,   /* a file's length is no multiple of TRANCHE_WEIGHTS_BYTES_PER_WORD or above TRANCHE_WEIGHTS_FILE_BYTES; place 0 */
+    TRANCHE_WEIGHTS_REFUSED_STC_MARK = 16       /* an STC mark on a re-securitisation */
 };
 
 /* The functions as the archive names them. They take what the functions below take, and no null pointer. */
-uint64_t tranche_weights_weigh_v1(const uint64_t *sheet, size_t words, uint64_t *results, size_t room, uint64_t *place, uint64_t *count,
+uint64_t tranche_weights_weigh_v2(const uint64_t *sheet, size_t words, uint64_t *results, size_t room, uint64_t *place, uint64_t *count,
                                   uint64_t *charge);
-uint64_t tranche_weights_weigh_file_v1(const uint8_t *file, size_t size, uint64_t *results, size_t room, uint64_t *place, uint64_t *count,
+uint64_t tranche_weights_weigh_file_v2(const uint8_t *file, size_t size, uint64_t *results, size_t room, uint64_t *place, uint64_t *count,
                                        uint64_t *charge);
-uint64_t tranche_weights_report_v1(const uint8_t *file, size_t size, uint8_t *text, size_t room);
+uint64_t tranche_weights_report_v2(const uint8_t *file, size_t size, uint8_t *text, size_t room);
 
 /*
  * Weighs every tranche of a deal sheet.
@@ -122,7 +128,7 @@ static inline uint64_t tranche_weights_weigh(const uint64_t *sheet, size_t words
                                              uint64_t *count, uint64_t *charge)
 {
     uint64_t nothing = 0;
-    return tranche_weights_weigh_v1(words ? sheet : &nothing, words, room ? results : &nothing, room, place, count, charge);
+    return tranche_weights_weigh_v2(words ? sheet : &nothing, words, room ? results : &nothing, room, place, count, charge);
 }
 
 /*
@@ -138,7 +144,7 @@ static inline uint64_t tranche_weights_weigh_file(const uint8_t *file, size_t si
 {
     uint8_t no_byte = 0;
     uint64_t nothing = 0;
-    return tranche_weights_weigh_file_v1(size ? file : &no_byte, size, room ? results : &nothing, room, place, count, charge);
+    return tranche_weights_weigh_file_v2(size ? file : &no_byte, size, room ? results : &nothing, room, place, count, charge);
 }
 
 /*
@@ -153,7 +159,7 @@ static inline uint64_t tranche_weights_weigh_file(const uint8_t *file, size_t si
 static inline uint64_t tranche_weights_report(const uint8_t *file, size_t size, uint8_t *text, size_t room)
 {
     uint8_t nothing = 0;
-    return tranche_weights_report_v1(size ? file : &nothing, size, room ? text : &nothing, room);
+    return tranche_weights_report_v2(size ? file : &nothing, size, room ? text : &nothing, room);
 }
 
 #ifdef __cplusplus

@@ -1,7 +1,7 @@
 /*
  * Calls the functions of the header as a program in C does, on threads with small stacks, and prints the report on a file's bytes. Held here: lent memory that must
- * be as it was, the answer where the room is one byte short and where it is just enough, the four numbers of an accepted and of a refused sheet and file, and a null
- * pointer for every list of length 0. Stops with status 1 and one line where something is not what is due. tests/c_example.sh runs it.
+ * be as it was, the answer where the room is one byte short and where it is just enough, the four numbers of an accepted and of a refused sheet and file, the STC mark,
+ * and a null pointer for every list of length 0. Stops with status 1 and one line where something is not what is due. tests/c_example.sh runs it.
  */
 #include <pthread.h>
 #include <stdio.h>
@@ -30,6 +30,12 @@ static const uint64_t lines[TRANCHE_WEIGHTS_LINE_WORDS + 1] = {
     [TRANCHE_WEIGHTS_LINE_WORDS] = WORD_BEFORE,
 };
 #define WORDS (sizeof sheet / sizeof *sheet)
+
+/* The same sheet with a fifth fact, the STC mark, and the weight of its line; the facts of a re-securitisation with that mark, and its place. */
+static const uint64_t stc_sheet[WORDS + 1] = {5, 0, 0, 1, 1, 1, 1, 100, 100, 100, 0, 1, 80, 1, 60, 80, 1, 0, 0};
+#define STC_WEIGHT 1000
+static const uint64_t stc_resecuritisation[] = {5, 0, 1, 1, 1, 1};
+#define STC_PLACE 5
 
 static unsigned char file[TRANCHE_WEIGHTS_FILE_BYTES + 1];
 static size_t size;
@@ -80,11 +86,11 @@ struct given {
 /* What is there before a call; main fills in the results. */
 static struct given before = {.number = 9, .place = 9, .count = 9, .charge = 9};
 
-/* One call on so many words of the sheet, with so much room. */
-static struct given weigh(size_t words, size_t room)
+/* One call on so many words of a sheet, with so much room. */
+static struct given weigh(const uint64_t *from, size_t words, size_t room)
 {
     struct given g = before;
-    g.number = tranche_weights_weigh(sheet, words, g.results, room, &g.place, &g.count, &g.charge);
+    g.number = tranche_weights_weigh(from, words, g.results, room, &g.place, &g.count, &g.charge);
     return g;
 }
 
@@ -113,9 +119,19 @@ static void accepted(struct given g, const char *what)
 /* The sheet with just enough room, with a word too little, and with a word missing. */
 static void *try_weigh(void *unused)
 {
-    accepted(weigh(WORDS, TRANCHE_WEIGHTS_LINE_WORDS), "an accepted sheet");
-    refused(weigh(WORDS, TRANCHE_WEIGHTS_LINE_WORDS - 1), TRANCHE_WEIGHTS_REFUSED_ROOM, 0, "a sheet with too little room");
-    refused(weigh(WORDS - 1, TRANCHE_WEIGHTS_LINE_WORDS), TRANCHE_WEIGHTS_REFUSED_MISSING_WORD, WORDS - 1, "a sheet with a word missing");
+    accepted(weigh(sheet, WORDS, TRANCHE_WEIGHTS_LINE_WORDS), "an accepted sheet");
+    refused(weigh(sheet, WORDS, TRANCHE_WEIGHTS_LINE_WORDS - 1), TRANCHE_WEIGHTS_REFUSED_ROOM, 0, "a sheet with too little room");
+    refused(weigh(sheet, WORDS - 1, TRANCHE_WEIGHTS_LINE_WORDS), TRANCHE_WEIGHTS_REFUSED_MISSING_WORD, WORDS - 1, "a sheet with a word missing");
+    return unused;
+}
+
+/* The STC mark, on an ordinary deal and on a re-securitisation. */
+static void *try_stc(void *unused)
+{
+    struct given g = weigh(stc_sheet, WORDS + 1, TRANCHE_WEIGHTS_LINE_WORDS);
+    due(g.number == TRANCHE_WEIGHTS_ACCEPTED && g.results[TRANCHE_WEIGHTS_WORD_WEIGHT] == STC_WEIGHT, "an STC deal");
+    g = weigh(stc_resecuritisation, STC_PLACE + 1, TRANCHE_WEIGHTS_LINE_WORDS);
+    refused(g, TRANCHE_WEIGHTS_REFUSED_STC_MARK, STC_PLACE, "an STC mark on a re-securitisation");
     return unused;
 }
 
@@ -170,6 +186,7 @@ int main(int argc, char **argv)
     for (size_t i = 0; i <= TRANCHE_WEIGHTS_LINE_WORDS; i++)
         before.results[i] = WORD_BEFORE;
     on_stack(WEIGH_STACK, try_weigh);
+    on_stack(WEIGH_STACK, try_stc);
     on_stack(FILE_STACK, try_weigh_file);
     on_stack(FILE_STACK, try_null);
     on_stack(FILE_STACK, try_report);

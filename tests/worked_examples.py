@@ -1,11 +1,14 @@
 #!/usr/bin/env python3
-"""The text that crates/checked_examples must print, worked out from the scope paper (01) alone: exact fractions, exponentials to a hundred digits.
+"""The text that crates/checked_examples must print, worked out from the papers alone: 01, S-1 of 02, and Tables 3 and 4 of source document 001. Exact
+fractions, exponentials to a hundred digits.
 
     python3 tests/worked_examples.py | cmp - crates/checked_examples/stdout
 
-Where two raw weights pass, this prints the lower, the exact value rounded up. It needs Python's standard library and is no part of the gate.
+Where two raw weights pass, this prints the lower, the exact value rounded up. It fails where a figure of the rating tables is missing from the examples' weights.
+It needs Python's standard library and is no part of the gate.
 """
 import os
+import sys
 from decimal import ROUND_CEILING, Decimal, getcontext
 from fractions import Fraction
 
@@ -16,21 +19,30 @@ MILLION = 10**6
 TOP = 125_000
 FALLBACK, ERBA, SA = 0, 1, 2
 
-# "Facts, count 4", "Pool, count 1 to 1,000", "Tranches, count 1 to 32"; the words of a pool row, of a tranche and of a line.
-FACTS, ROWS, TRANCHES = 4, 1000, 32
+# Four facts, and a fifth that may be left out; "Pool, count 1 to 1,000", "Tranches, count 1 to 32"; the words of a pool row, of a tranche and of a line.
+FACTS_LEAST, FACTS_MOST, ROWS, TRANCHES = 4, 5, 1000, 32
 ROW_SIZE, TRANCHE_SIZE, LINE_SIZE = 4, 7, 6
 # The bytes of the longest sheet: three counts, facts, rows and tranches, eight bytes each.
-MOST_BYTES = 8 * (3 + FACTS + ROW_SIZE * ROWS + TRANCHE_SIZE * TRANCHES)
+MOST_BYTES = 8 * (3 + FACTS_MOST + ROW_SIZE * ROWS + TRANCHE_SIZE * TRANCHES)
 
-SHORT_TERM = {21: 15, 22: 50, 23: 100, 24: 1250}
-
-# Senior 1 year, senior 5 years, non-senior 1 year, non-senior 5 years, in percent.
-RATINGS = {
+# Senior 1 year, senior 5 years, non-senior 1 year, non-senior 5 years, in percent; one figure for a short-term grade.
+ORDINARY = {
     1: (15, 20, 15, 70), 2: (15, 30, 15, 90), 3: (25, 40, 30, 120), 4: (30, 45, 40, 140), 5: (40, 50, 60, 160), 6: (50, 65, 80, 180),
     7: (60, 70, 120, 210), 8: (75, 90, 170, 260), 9: (90, 105, 220, 310), 10: (120, 140, 330, 420), 11: (140, 160, 470, 580),
     12: (160, 180, 620, 760), 13: (200, 225, 750, 860), 14: (250, 280, 900, 950), 15: (310, 340, 1050, 1050), 16: (380, 420, 1130, 1130),
-    17: (460, 505, 1250, 1250), 18: (1250, 1250, 1250, 1250),
+    17: (460, 505, 1250, 1250), 18: (1250, 1250, 1250, 1250), 21: (15,), 22: (50,), 23: (100,), 24: (1250,),
 }
+
+# The same of an STC deal: Table 4 of source document 001, and Table 3 for the short-term grades.
+STC = {
+    1: (10, 10, 15, 40), 2: (10, 15, 15, 55), 3: (15, 20, 15, 70), 4: (15, 25, 25, 80), 5: (20, 30, 35, 95), 6: (30, 40, 60, 135),
+    7: (35, 40, 95, 170), 8: (45, 55, 150, 225), 9: (55, 65, 180, 255), 10: (70, 85, 270, 345), 11: (120, 135, 405, 500),
+    12: (135, 155, 535, 655), 13: (170, 195, 645, 740), 14: (225, 250, 810, 855), 15: (280, 305, 945, 945), 16: (340, 380, 1015, 1015),
+    17: (415, 455, 1250, 1250), 18: (1250, 1250, 1250, 1250), 21: (10,), 22: (30,), 23: (60,), 24: (1250,),
+}
+
+# By the STC mark.
+TABLES = (ORDINARY, STC)
 
 
 class Refused(Exception):
@@ -62,9 +74,10 @@ def judged(words):
     def within(least, most, number):
         return lambda w: 0 if least <= w <= most else number
 
-    take(within(FACTS, FACTS, 2))
+    facts = take(within(FACTS_LEAST, FACTS_MOST, 2))
     take(lambda w: 4 if w > 2 else 12 if w else 0)
     resecuritised, diligence, composition = (take(within(0, 1, 4)) for _ in range(3))
+    stc = take(lambda w: 4 if w > 1 else 16 if w and resecuritised else 0) if facts == FACTS_MOST else 0
     rows, tranches, last = [], [], 0
     for _ in range(take(within(1, ROWS, 2))):
         exposure, nominal = take(within(1, 10**10, 5)), take(within(1, 10**10, 5))
@@ -75,11 +88,11 @@ def judged(words):
         amount = take(within(1, 10**13, 8))
         last = take(within(max(last, 1), last + 1, 9))
         months, held = take(within(1, 1200, 10)), take(within(0, amount, 8))
-        codes = [take(lambda w: 0 if w == 0 or w in RATINGS or w in SHORT_TERM else 11) for _ in range(3)]
+        codes = [take(lambda w: 0 if w == 0 or w in ORDINARY else 11) for _ in range(3)]
         tranches.append((at, amount, last, months, held, codes))
     if place < len(words):
         raise Refused(3, place)
-    return resecuritised, diligence, composition, rows, tranches
+    return resecuritised, diligence, composition, stc, rows, tranches
 
 
 # ---- points and pool charge
@@ -104,20 +117,22 @@ def pool_charge(rows):
     return up(exposure * charge + (every - exposure) * MILLION, every), True
 
 
-# ---- the rating table
+# ---- the rating tables
 
 
 def maturity(months):
     return max(60, min(300, 4 * months + 12))
 
 
-def weight_by_rating(code, senior, months, thickness):
-    """The weight by one rating, rounded up once."""
-    if code in SHORT_TERM:
-        return 100 * SHORT_TERM[code]
+def weight_by_rating(code, stc, senior, months, thickness):
+    """The weight by one rating, rounded up once. A non-senior weight is no lower than the senior figure, but in an STC deal it may be (CRE42.14)."""
+    row = TABLES[stc][code]
+    if len(row) == 1:
+        return 100 * row[0]
     fifths = maturity(months)
-    run = [Fraction(one * (300 - fifths) + five * (fifths - 60), 240) for one, five in (RATINGS[code][:2], RATINGS[code][2:])]
-    exact = run[0] if senior else max(run[1] * (1 - Fraction(min(thickness, 500_000), MILLION)), run[0])
+    run = [Fraction(one * (300 - fifths) + five * (fifths - 60), 240) for one, five in (row[:2], row[2:])]
+    thin = run[1] * (1 - Fraction(min(thickness, 500_000), MILLION))
+    exact = run[0] if senior else thin if stc else max(thin, run[0])
     return up((100 * exact).numerator, (100 * exact).denominator)
 
 
@@ -150,17 +165,25 @@ def raw_weight(a, d, k, p):
 # ---- the report
 
 
+def parameter_and_floor(resecuritised, stc, senior):
+    if resecuritised:
+        return 1_500_000, 10_000
+    if stc:
+        return 500_000, 1_000 if senior else 1_500
+    return MILLION, 1_500
+
+
 def line(tranche, a, d, charge, known, deal):
     """The six words of a tranche, or refusal 13."""
-    resecuritised, diligence, composition, rows, _ = deal
+    resecuritised, diligence, composition, stc, rows, _ = deal
     at, _, rank, months, held, codes = tranche
-    parameter, floor = (1_500_000, 10_000) if resecuritised else (MILLION, 1_500)
+    parameter, floor = parameter_and_floor(resecuritised, stc, rank == 1)
     approach = FALLBACK if not diligence else SA if resecuritised else ERBA if any(codes) else SA if known else FALLBACK
     if approach == SA and a == d and d > charge:
         raise Refused(13, at)
     weight = TOP
     if approach != FALLBACK:
-        table = [weight_by_rating(c, rank == 1, months, d - a) for c in codes if c]
+        table = [weight_by_rating(c, stc, rank == 1, months, d - a) for c in codes if c]
         weight = max(floor, max(table) if approach == ERBA else raw_weight(a, d, charge, parameter))
         if rank == 1 and not resecuritised and composition:
             weight = min(weight, up(100 * sum(e * w for e, _, w, _ in rows), sum(e for e, _, _, _ in rows)))
@@ -171,7 +194,7 @@ def report(words):
     """The text of a sheet's file."""
     try:
         deal = judged(words)
-        rows, tranches = deal[3:]
+        rows, tranches = deal[-2:]
         charge, known = pool_charge(rows)
         lines = []
         for t in tranches:
@@ -195,6 +218,10 @@ INPUTS = (
     (0, 1000000, 500000, 1500000), (660000, 660001, 160000, 1000000), (190000, 200000, 50000, 1000000), (0, 1000000, 1, 1000000),
     (999999, 1000000, 1, 1000000), (1, 2, 1, 1000000), (0, 1000000, 999999, 1000000), (999999, 1000000, 999999, 1500000),
     (999999, 1000000, 500000, 1500000),
+    (50000, 100000, 100000, 500000), (0, 1000000, 0, 500000), (100000, 200000, 100000, 500000), (50000, 150000, 100000, 500000),
+    (0, 1000000, 160000, 500000), (0, 1000000, 500000, 500000), (100000, 300000, 68000, 500000), (120000, 320000, 68000, 500000),
+    (80000, 280000, 68000, 500000), (660000, 660001, 160000, 500000), (1, 2, 1, 500000), (999999, 1000000, 1, 500000),
+    (999999, 1000000, 999999, 500000),
 )
 PLACES = (0, 1, 16, 50, 354, 355)
 THIN = [4, 0, 0, 1, 1, 2, 6000000, 6000000, 100, 0, 4000000, 4000000, 100, 0]
@@ -211,27 +238,40 @@ def print_figures():
 
 
 def print_limits():
-    """14 before 13, files of zeros, and the largest deals: 1,000 rows of 10^10, 32 tranches of a 32nd of the pool."""
+    """14 before 13, files of zeros, and the largest deals: five facts, 1,000 rows of 10^10, 32 tranches of a 32nd of the pool."""
     print("thin tranche, results of %d words: refused 14 at 0" % (3 * LINE_SIZE - 1))
     print("thin tranche, results of %d words: %s" % (3 * LINE_SIZE, report(THIN)))
     for length in (0, 7, MOST_BYTES - 1, MOST_BYTES, MOST_BYTES + 1, MOST_BYTES + 8):
         text = "refused 15 at 0" if length % 8 or length > MOST_BYTES else report([0] * (length // 8))
         print("file of zeros, bytes %d: %s" % (length, text))
-    for weight in (1250, 100):
-        sheet = [FACTS, 0, 0, 1, 1, ROWS] + [10**10, 10**10, weight, 0] * ROWS + [TRANCHES]
+    for weight, stc in ((1250, 0), (100, 0), (100, 1)):
+        sheet = [FACTS_MOST, 0, 0, 1, 1, stc, ROWS] + [10**10, 10**10, weight, 0] * ROWS + [TRANCHES]
         for rank in range(1, TRANCHES + 1):
             sheet += [312500000000, rank, 1200, 312500000000, 0, 0, 0]
-        print("largest deal, risk weight %d\n%s" % (weight, report(sheet)))
+        print("largest deal, risk weight %d, STC mark %d\n%s" % (weight, stc, report(sheet)))
 
 
 def print_examples(folder):
+    """Prints the report on each example, and returns the reports by name."""
+    texts = {}
     for name in open(os.path.join(folder, "args")).read().split():
         text = open(os.path.join(folder, "data", name)).read()
-        words = [int(w) for l in text.splitlines() for w in l.split("#")[0].split()]
-        print("%s\n%s" % (name, report(words)))
+        texts[name] = report([int(w) for l in text.splitlines() for w in l.split("#")[0].split()])
+        print("%s\n%s" % (name, texts[name]))
+    return texts
+
+
+def check_tables(texts):
+    """Each column of each table is the last weights of one example; the first column's has the short-term grades too."""
+    for kind, table in zip(("erba", "stc"), TABLES):
+        for column, name in enumerate(("senior_1_year", "senior_5_years", "non_senior_1_year", "non_senior_5_years")):
+            weights = [int(l.split()[4]) for l in texts["%s_table_%s.txt" % (kind, name)].splitlines()[1:-1]]
+            due = [100 * row[column] for row in table.values() if column < len(row)]
+            if weights[-len(due):] != due:
+                sys.exit("%s_table_%s.txt: not the column of the table" % (kind, name))
 
 
 if __name__ == "__main__":
     print_figures()
     print_limits()
-    print_examples(os.path.join(os.path.dirname(os.path.abspath(__file__)), "..", "crates", "checked_examples"))
+    check_tables(print_examples(os.path.join(os.path.dirname(os.path.abspath(__file__)), "..", "crates", "checked_examples")))

@@ -1,4 +1,4 @@
-// What is not kept as a written sheet: results that are too short (14), files of a bad length (15), and the two largest deals.
+// What is not kept as a written sheet: results that are too short (14), files of a bad length (15), and the largest deals.
 use crate::examples::print_report;
 use deal::Answer;
 use libc::STDOUT_FILENO;
@@ -149,16 +149,19 @@ fn with_tranches(sheet: [u64; WORD_LIMIT]) -> [u64; WORD_LIMIT] {
     filled
 }
 
-// Writes the report on the largest deal, as many words as a sheet has, with that risk weight of all rows.
-pub(crate) fn print_largest(weight: u64) {
+// Writes the report on the largest deal, as many words as a sheet has, with that risk weight of all rows and that STC mark.
+pub(crate) fn print_largest(weight: u64, stc: u64) {
     let mut facts = [0u64; WORD_LIMIT];
     facts[0] = FACTS_MOST as u64;
     facts[3] = 1;
     facts[4] = 1;
+    facts[5] = stc;
     let sheet = with_tranches(with_rows(facts, weight));
     let mut file = [0u8; BYTE_LIMIT];
     io::write_all(STDOUT_FILENO, b"largest deal, risk weight ");
     io::print_decimal(STDOUT_FILENO, weight);
+    io::write_all(STDOUT_FILENO, b", STC mark ");
+    io::print_decimal(STDOUT_FILENO, stc);
     io::write_all(STDOUT_FILENO, b"\n");
     if files::store(&sheet, &mut file) {
         print_report(&file);

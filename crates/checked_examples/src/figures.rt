@@ -112,6 +112,36 @@ fn print_edge_weights() {
     print_raw_weight(999999, 1000000, 500000, 1500000);
 }
 
+// Writes raw weights at parameter 0.5, that of an STC deal: settled ones, published ones and edges.
+fn print_stc_weights() {
+    // D = K.
+    print_raw_weight(50000, 100000, 100000, 500000);
+    // K = 0 and D above 0.
+    print_raw_weight(0, 1000000, 0, 500000);
+    // About 54041.544797; 54,042 or 54,043 passes. 62,500 × (1 - e^(-2)).
+    print_raw_weight(100000, 200000, 100000, 500000);
+    // About 102007.534926; 102,008 or 102,009 passes. 62,500 × (1 + 1 - e^(-1)).
+    print_raw_weight(50000, 150000, 100000, 500000);
+    // About 29999.724635; 30,000 or 30,001 passes. Source document 002: surcharge of 50%, on loans of 200%.
+    print_raw_weight(0, 1000000, 160000, 500000);
+    // About 89520.772398; 89,521 or 89,522 passes. Source document 002: 497% above 15,000 (5.9681 times).
+    print_raw_weight(0, 1000000, 500000, 500000);
+    // About 8267.964212; 8,268 or 8,269 passes. The tranche of source document 002's figure 1 at parameter 0.5.
+    print_raw_weight(100000, 300000, 68000, 500000);
+    // About 4591.253219; 4,592 or 4,593 passes. Source document 002, two points up: about 44% less.
+    print_raw_weight(120000, 320000, 68000, 500000);
+    // About 14889.013731; 14,890 or 14,891 passes. Source document 002, two points down: about 80% more.
+    print_raw_weight(80000, 280000, 68000, 500000);
+    // About 241.305258; 242 or 243 passes. A thin tranche high above the charge: l/s = 100/16.
+    print_raw_weight(660000, 660001, 160000, 500000);
+    // About 54041.544797; 54,042 or 54,043 passes. The smallest charge, s half a millionth: 62,500 × (1 - e^(-2)).
+    print_raw_weight(1, 2, 1, 500000);
+    // About 0.000000; 1 or 2 passes. 62,500 × (e^(-1,999,996) - e^(-1,999,998)): above 0, so 1 and never 0.
+    print_raw_weight(999999, 1000000, 1, 500000);
+    // About 124999.874999; 125,000 passes. Just below 125,000 at the thinnest tranche: one number passes.
+    print_raw_weight(999999, 1000000, 999999, 500000);
+}
+
 // Writes entries of the decay table, the whole parts of 2^32 × e^(−n/16).
 fn print_decays() {
     print_decay(0); // 2^32
@@ -128,5 +158,6 @@ pub(crate) fn print_figures() {
     print_settled_weights();
     print_published_weights();
     print_edge_weights();
+    print_stc_weights();
     print_decays();
 }

@@ -1,5 +1,5 @@
 // Prints what the library gives for figures and deals whose numbers are known, to be held against the stored text: single figures, refusals that no
-// written sheet can get, the two largest deals, and the report on each example that an argument names.
+// written sheet can get, the largest deals, and the report on each example that an argument names.
 mod edges;
 mod examples;
 mod figures;
@@ -10,7 +10,8 @@ fn main() {
     figures::print_figures();
     edges::print_short_results();
     edges::print_lengths();
-    edges::print_largest(1250);
-    edges::print_largest(100);
+    edges::print_largest(1250, 0);
+    edges::print_largest(100, 0);
+    edges::print_largest(100, 1);
     examples::print_examples();
 }

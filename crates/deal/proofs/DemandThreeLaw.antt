@@ -12,12 +12,13 @@ use Rattle.series.specs.Ends.{Passes}
 use Rattle.formula.specs.Formula.{WithinLimits, RawWeightNumbers, weighing, PassingWeight, IsRawWeight}
 use Rattle.formula.specs.FixedPoint.{rawWeight}
 use Rattle.formula.proofs.RawWeightLaw.{raw-weight-is}
-use Rattle.judgement.specs.DealSheet.{trancheCount, needed}
+use Rattle.judgement.specs.DealSheet.{stc, trancheCount, needed, layout}
 use Rattle.deal.specs.Points.{attachmentPoint, detachmentPoint}
 use Rattle.weights.specs.ApproachFloorCap.{byFormula, parameter, afterFloorAndCap, weightOrHighest, formulaRawWeight, weight}
 use Rattle.deal.specs.Lines.{terms, tranche, line, lineWords}
 use Rattle.deal.specs.DemandThree.{AboveCharge, rawWeightOf, DemandThree, KeepsDemandThree}
 use Rattle.judgement.specs.Refusals.{judged}
+use Rattle.judgement.proofs.SheetLimits.{stc-ordinary}
 use Rattle.deal.specs.Refusals.{verdict}
 use Rattle.deal.specs.Results.{resultsAfter}
 use Rattle.judgement.specs.declared.Verdict.the-variants.{Sound}
@@ -127,6 +128,20 @@ demand-three s old i t =
           (sym number) (w .passes);
       at-most = subst (λ (x : ℕ). x ≤ 125000) (sym number) (w .at-most);
     }
+
+-- S-1 of 02: "The exact value is then taken with 0.5."
+pub stc-parameter : (s : List ℕ) (i : ℕ) → judged s (needed s) ≡ Sound → stc s ≡ true → parameter (tranche s i) (terms s) ≡ 500000
+unfolding terms layout
+stc-parameter s i sound marked = simp (stc-ordinary s sound marked, marked)
+
+pub stc-demand-three :
+    (s old : List ℕ) (i : ℕ) → stc s ≡ true → AboveCharge s (length old) i →
+    Passes (attachmentPoint s i) (detachmentPoint s i) (terms s .charge) 500000 (rawWeightOf s i)
+stc-demand-three s old i marked t =
+    subst
+    (λ (p : ℕ). Passes (attachmentPoint s i) (detachmentPoint s i) (terms s .charge) p (rawWeightOf s i))
+    (stc-parameter s i (accepted-judged s (length old) (t .accepted)) marked)
+    (demand-three s old i t .passes)
 
 -- Whatever results a sheet is due keep it.
 pub keeps-demand-three : (s old new : List ℕ) → new ≡ resultsAfter s old → KeepsDemandThree s (length old) new

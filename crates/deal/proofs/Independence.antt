@@ -1,6 +1,6 @@
 -- A tranche's line depends on no other tranche's ratings: two accepted sheets that are the same but for those give it the same six words. No axioms.
 use mathlib.Core.List.{List}
-use mathlib.Core.Path.{_≡_, refl, sym, _∙_}
+use mathlib.Core.Path.{_≡_, sym, _∙_}
 use Prim.Native.Nat.{ℕ, _+_, _*_, _≤_, _<_}
 use native.Mathlib.Nat.{le-refl}
 use native.Mathlib.Omega.{arith}
@@ -8,7 +8,7 @@ use lib.ListN.{length, getD}
 use Rattle.limits.specs.SheetSize.{lineSize}
 use Rattle.judgement.specs.DealSheet.{word, rowAt, tranchesAt, trancheCount, trancheAt, needed}
 use Rattle.pool.specs.PoolSums.{poolSums}
-use Rattle.pool.proofs.SameSums.{same-sums}
+use Rattle.pool.proofs.SameSums.{same-sums-in-order}
 use Rattle.deal.specs.Lines.{terms, tranche, lineWords}
 use Rattle.judgement.specs.Refusals.{judged}
 use Rattle.deal.specs.Refusals.{verdict}
@@ -16,7 +16,7 @@ use Rattle.deal.specs.Results.{resultsAfter}
 use Rattle.deal.specs.OtherRatings.{SameButOtherRatings}
 use Rattle.judgement.specs.declared.Verdict.the-variants.{Sound}
 use Rattle.judgement.proofs.NeededLaws.{tranches-at-past-rows}
-use Rattle.judgement.proofs.SameLayout.{SameCounts, same-counts, same-layout}
+use Rattle.judgement.proofs.SameLayout.{SameCounts, same-counts, same-facts}
 use Rattle.judgement.proofs.SheetLimits.{facts-counted, pool-at-within}
 use Rattle.deal.proofs.JudgedLaws.{accepted-judged}
 use Rattle.deal.proofs.LineLaws.{results-line}
@@ -45,18 +45,20 @@ module _ (s s′ : List ℕ) (i : ℕ) (same : SameButOtherRatings s s′ i) whe
 
   ratings-sums : poolSums s′ ≡ poolSums s
   ratings-sums =
-      same-sums s s′ (λ j. j) (λ j. j) ratings-counts
-      (record { forth = λ j l. l; back = λ j l. l; back-forth = λ j l. refl; forth-back = λ j l. refl })
-      (λ j c row column. same-head (rowAt s j + c) (omega (arith, tranches-at-past-rows s)))
+      same-sums-in-order s s′ (ratings-counts .row-count)
+      (λ j c row column. rw (ratings-counts .pool-at) (same-head (rowAt s j + c) (omega (arith, tranches-at-past-rows s))))
 
   pub ratings-terms : judged s (needed s) ≡ Sound → terms s′ ≡ terms s
   ratings-terms e =
       same-terms s s′
-      (same-layout s s′ ratings-counts (λ p h. same-head p (omega (arith, tranches-at-past-rows s))) (pool-at-within s (facts-counted s e) .0))
+      (same-facts s s′ (λ p h. same-head p (omega (arith, tranches-at-past-rows s))) (pool-at-within s (facts-counted s e) .0))
       ratings-sums
 
   pub ratings-tranche : i < trancheCount s → tranche s′ i ≡ tranche s i
-  ratings-tranche l = same-tranche s s′ i ratings-counts ratings-sums l (λ j c row column. same-plain j c column) same-own
+  ratings-tranche l =
+      same-tranche s s′ i ratings-count ratings-sums l
+      (λ j c row column. rw (ratings-counts .tranches-at) (same-plain j c column))
+      (λ c column. rw (ratings-counts .tranches-at) (same-own c column))
 
 -- ---- the theorem
 

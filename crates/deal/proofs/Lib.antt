@@ -11,3 +11,4 @@ pub mod WrittenLines
 pub mod WeighSteps
 pub mod AnswerLaw
 pub mod ReplyLaws
+pub mod FilledFacts

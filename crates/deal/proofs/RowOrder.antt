@@ -9,7 +9,7 @@ use native.Mathlib.Omega.{arith}
 use lib.ListN.{length}
 use borrow.Author.Tests.{lt-ltb}
 use Rattle.limits.specs.SheetSize.{factsLeast}
-use Rattle.judgement.specs.DealSheet.{word, resecuritisation, poolAt, rows, rowAt, tranchesAt, trancheCount, trancheAt, needed}
+use Rattle.judgement.specs.DealSheet.{word, poolAt, rows, rowAt, tranchesAt, trancheCount, trancheAt, needed}
 use Rattle.pool.specs.PoolSums.{poolSums}
 use Rattle.pool.specs.OrderOfRows.{Reordered}
 use Rattle.pool.proofs.SameSums.{same-sums}
@@ -22,7 +22,7 @@ use Rattle.judgement.specs.declared.Verdict.the-variants.{Sound}
 use Rattle.judgement.proofs.FirstFault.{first-of-all}
 use Rattle.judgement.proofs.NeededLaws.{tranches-at-past-rows, row-word-needed}
 use Rattle.judgement.proofs.Judgement.{good-word, fault-of-row, InSection, in-section}
-use Rattle.judgement.proofs.SameLayout.{SameCounts, same-counts, same-needed, same-layout}
+use Rattle.judgement.proofs.SameLayout.{SameCounts, same-counts, same-needed, SameFacts, same-facts}
 use Rattle.judgement.proofs.SheetLimits.{facts-counted, pool-at-within}
 use Rattle.judgement.proofs.JudgedLaws.{judged-good}
 use Rattle.deal.proofs.JudgedLaws.{accepted-means, accepted-judged, accepted-when}
@@ -39,22 +39,24 @@ module _ (s s′ : List ℕ) (π σ : ℕ → ℕ) (r : Reordered s s′ π σ) 
   order-needed = same-needed s s′ order-counts
 
   order-sums : poolSums s′ ≡ poolSums s
-  order-sums = same-sums s s′ π σ order-counts (r .permutation) (r .row-moved)
+  order-sums =
+      same-sums s s′ π σ (order-counts .row-count) (r .permutation)
+      (λ i c row column. rw (order-counts .pool-at) (r .row-moved i c row column))
 
   order-tranche : (i : ℕ) → i < trancheCount s → tranche s′ i ≡ tranche s i
   order-tranche i l =
-      same-tranche s s′ i order-counts order-sums l
-      (λ j c row column. r .same-after (trancheAt s j + c) (omega arith))
-      (λ c column. r .same-after (trancheAt s i + c) (omega arith))
+      same-tranche s s′ i (order-counts .tranche-count) order-sums l
+      (λ j c row column. rw (order-counts .tranches-at) (r .same-after (trancheAt s j + c) (omega arith)))
+      (λ c column. rw (order-counts .tranches-at) (r .same-after (trancheAt s i + c) (omega arith)))
 
   -- ---- where the first word is good, the facts are the same
 
   module _ (facts : factsLeast < poolAt s) where
-    order-terms : terms s′ ≡ terms s
-    order-terms = same-terms s s′ (same-layout s s′ order-counts (λ p h. r .same-before p (omega arith)) facts) order-sums
+    order-facts : SameFacts s s′
+    order-facts = same-facts s s′ (λ p h. r .same-before p (omega arith)) facts
 
-    order-resecuritisation : resecuritisation s′ ≡ resecuritisation s
-    order-resecuritisation = rw (r .same-before 2 (omega arith))
+    order-terms : terms s′ ≡ terms s
+    order-terms = same-terms s s′ order-facts order-sums
 
     -- ---- the faults: of a word in its place, and of a word that moved with its row
 
@@ -66,7 +68,7 @@ module _ (s s′ : List ℕ) (π σ : ℕ → ℕ) (r : Reordered s s′ π σ) 
           same,
           order-counts .pool-at,
           order-counts .tranches-at,
-          order-resecuritisation,
+          order-facts .same-resecuritisation,
           r .same-after (trancheAt s (i - 1) + 1) (omega arith),
           r .same-after (trancheAt s i) (omega arith),
         )
@@ -77,7 +79,7 @@ module _ (s s′ : List ℕ) (π σ : ℕ → ℕ) (r : Reordered s s′ π σ) 
         let many : i < rows s′ = omega (arith, order-counts .row-count) in
         ap (fault s′) (sym place) ∙
         fault-of-row s′ i c many column ∙
-        rw (place, order-resecuritisation, r .row-moved i c row column)
+        rw (place, order-facts .same-resecuritisation, r .row-moved i c row column)
         (sym (fault-of-row s (π i) c (r .permutation .forth i row) column))
 
   -- ---- the judgement

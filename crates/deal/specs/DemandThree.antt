@@ -1,5 +1,5 @@
 -- 01, "The formula and its series", demand 3: what the results hold for every accepted SEC-SA tranche with K at least 1 and D above K, where the rules
--- leave the raw weight open.
+-- leave the raw weight open. The parameter is the deal's own; S-1 of 02 for STC deals: "The exact value is then taken with 0.5."
 use mathlib.Core.Bool.{true}
 use mathlib.Core.List.{List}
 use mathlib.Core.Path.{_≡_}

@@ -6,3 +6,4 @@ pub mod Judged
 pub mod Results
 pub mod DemandThree
 pub mod OtherRatings
+pub mod FilledAnswer

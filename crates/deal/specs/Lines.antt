@@ -17,11 +17,12 @@ use Rattle.deal.specs.declared.Line.{Line}
 
 -- ---- what the tranches share, and what is a tranche's own
 
--- what the tranches of a deal share, from the sheet's facts and its pool's sums
+-- what the tranches of a deal share, from the sheet's facts (with S-1 of 02 the STC mark) and its pool's sums
 abbrev pub termsFor : Layout → Sums → Terms
 termsFor l q = record {
   diligence = l .diligence;
   resecuritisation = l .resecuritisation;
+  stc = l .stc;
   composition = l .composition;
   known = mostlyKnown q;
   charge = poolCharge q;

@@ -42,6 +42,7 @@ fn terms_of(l: Layout, q: Sums) -> Terms
     Terms {
         diligence: l.diligence,
         resecuritisation: l.resecuritisation,
+        stc: l.stc,
         composition: l.composition,
         known: figures.known,
         charge: figures.charge,

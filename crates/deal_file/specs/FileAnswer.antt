@@ -1,5 +1,5 @@
 -- 01, "Refusals, by who can cause them": the answer to a sheet's file, and the lent results as they are left. "15 (reading a file only): length not a
--- multiple of 8 or over 33,848 bytes; place 0."; "15 comes before all."
+-- multiple of 8 or over ... bytes; place 0."; "15 comes before all."
 use mathlib.Core.Bool.{true, cond}
 use mathlib.Core.List.{List}
 use mathlib.Core.Path.{_≡_}

@@ -1,11 +1,11 @@
 -- No word's fault has the number 13 or 14: these are judged after the words, by tranche and by the room for results. No axioms.
-use mathlib.Core.Bool.{Bool, true, false, cond}
+use mathlib.Core.Bool.{Bool, true, false, cond, _&&_}
 use mathlib.Core.Path.{_≡_}
 use Prim.Native.Nat.{ℕ, _<_}
 use native.Mathlib.Omega.{arith}
 use lib.Dec.{leb, ltb, eqb}
 use Rattle.rating_codes.specs.RatingCodes.{listed}
-use Rattle.faults.specs.WordFaults.{unless, within, countFault, yesOrNo, factFault, poolAmountInLimits, riskWeightInLimits, statusAllowed, rowFault, classInOrder, trancheAmountInLimits, monthsInLimits, heldInLimits, trancheFault}
+use Rattle.faults.specs.WordFaults.{unless, within, countFault, yesOrNo, codeFault, factFault, poolAmountInLimits, riskWeightInLimits, statusAllowed, rowFault, classInOrder, trancheAmountInLimits, monthsInLimits, heldInLimits, trancheFault}
 
 pub record WordNumber (n : ℕ) : Type 0 where
   pub not-thin : n ≡ 13 → ⊥
@@ -28,11 +28,16 @@ stands number good h = picked good 0 number (below-13 0 (omega arith)) (below-13
 pub count-number : (least most w : ℕ) → WordNumber (countFault least most w)
 count-number least most w = stands 2 (within least most w) (omega arith)
 
-pub fact-number : (p w : ℕ) → WordNumber (factFault p w)
-fact-number p w =
+code-number : (w : ℕ) → WordNumber (codeFault w)
+code-number w = stands 4 (yesOrNo w) (omega arith)
+
+pub fact-number : (resecuritised : Bool) (p w : ℕ) → WordNumber (factFault resecuritised p w)
+fact-number resecuritised p w =
     picked (eqb p 1) _ _
     (picked (eqb w 0) _ _ (below-13 0 (omega arith)) (picked (leb w 2) _ _ (below-13 12 (omega arith)) (below-13 4 (omega arith))))
-    (stands 4 (yesOrNo w) (omega arith))
+    (picked (eqb p 5) _ _
+    (picked (resecuritised && eqb w 1) _ _ (record { not-thin = λ e. omega arith; not-room = λ e. omega arith }) (code-number w))
+    (code-number w))
 
 pub row-number : (resecuritised : Bool) (column w : ℕ) → WordNumber (rowFault resecuritised column w)
 row-number resecuritised column w =

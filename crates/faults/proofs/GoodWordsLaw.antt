@@ -1,14 +1,14 @@
--- A fact, a pool row, a tranche row and a class keep the limits of 01's "The deal sheet" just where their words have no fault. No axioms.
-use mathlib.Core.Bool.{Bool, true, false, cond}
+-- A fact, a pool row, a tranche row and a class keep the limits of 01's "The deal sheet" and 02's S-1 just where their words have no fault. No axioms.
+use mathlib.Core.Bool.{Bool, true, false, cond, _&&_}
 use mathlib.Core.Logic.{inl, inr, ⊎-elim}
 use mathlib.Core.Path.{_≡_, refl, ap, _∙_}
 use Prim.Native.Nat.{ℕ, zero, suc, _+_, _≤_, _<_}
 use native.Mathlib.Omega.{arith}
 use lib.Dec.{leb, eqb}
-use borrow.Author.Tests.{leb-true, eqb-true, le-leb, eq-eqb, ne-eqb}
+use borrow.Author.Tests.{leb-true, eqb-true, eqb-false, le-leb, eq-eqb, ne-eqb}
 use Rattle.numbers.proofs.Tests.{either-true, true-either}
 use Rattle.rating_codes.specs.RatingCodes.{listed}
-use Rattle.faults.specs.WordFaults.{yesOrNo, factFault, riskWeightInLimits, statusAllowed, rowFault, classInOrder, heldInLimits, trancheFault}
+use Rattle.faults.specs.WordFaults.{yesOrNo, codeFault, factFault, riskWeightInLimits, statusAllowed, rowFault, classInOrder, heldInLimits, trancheFault}
 use Rattle.faults.specs.GoodWords.{GoodFact, GoodRow, GoodTranche, NextClass, GoodClass}
 use Rattle.faults.proofs.FaultLaws.{unless-zero, within-is, no-fault-within}
 
@@ -19,21 +19,61 @@ zero-alone true c e = refl
 zero-alone false true e = absurd (omega arith)
 zero-alone false false e = absurd (omega arith)
 
-kind-code : (p w : ℕ) → p ≡ 1 → factFault p w ≡ 0 → w ≡ 0
-kind-code p w is e = eqb-true w 0 (zero-alone (eqb w 0) (leb w 2) (rw (eq-eqb p 1 is) at e))
+code-of : (w : ℕ) → codeFault w ≡ 0 → w ≤ 1
+code-of w e = omega (arith, leb-true w _ (unless-zero 4 (yesOrNo w) (omega arith) e))
 
-yes-or-no : (p w : ℕ) → 1 < p → factFault p w ≡ 0 → w ≤ 1
-yes-or-no p w h e = omega (arith, leb-true w _ (unless-zero 4 (yesOrNo w) (omega arith) (rw (ne-eqb p 1 (λ z. omega arith)) at e)))
+-- where the fifth fact has no fault it is a code, and in a re-securitisation no mark
+marked : (b c : Bool) (x : ℕ) → cond (b && c) 16 x ≡ 0 → (x ≡ 0) × (b ≡ true → c ≡ false)
+marked true true x e = absurd (omega arith)
+marked true false x e = (e, λ _. refl)
+marked false c x e = (e, λ z. absurd (let y : _≡_ {A = ℕ} 0 1 = cc in omega arith))
 
-pub good-fact : (p w : ℕ) → factFault p w ≡ 0 → GoodFact p w
-good-fact p w e = record { pool-kind = λ is. kind-code p w is e; code = λ h. yes-or-no p w h e }
+no-mark : (w : ℕ) → w ≤ 1 → eqb w 1 ≡ false → w ≡ 0
+no-mark zero h e = refl
+no-mark (suc zero) h e = absurd (eqb-false 1 1 e refl)
+no-mark (suc (suc w)) h e = absurd (omega arith)
 
-pub fact-good : (p w : ℕ) → 1 ≤ p → GoodFact p w → factFault p w ≡ 0
-fact-good zero w least g = absurd (omega arith)
-fact-good (suc zero) w least g = simp (g .pool-kind refl)
-fact-good (suc (suc p)) w least g =
-    let other : suc (suc p) ≡ 1 → ⊥ = (λ e. omega arith) in
-    simp (ne-eqb (suc (suc p)) 1 other, le-leb w 1 (g .code (omega arith)))
+mark-free : (resecuritised : Bool) (w : ℕ) → (resecuritised ≡ true → w ≡ 0) → resecuritised && eqb w 1 ≡ false
+mark-free true w h = rw (h refl)
+mark-free false w h = refl
+
+module _ (resecuritised : Bool) (p w : ℕ) where
+  kind-code : p ≡ 1 → factFault resecuritised p w ≡ 0 → w ≡ 0
+  kind-code is e = eqb-true w 0 (zero-alone (eqb w 0) (leb w 2) (rw (eq-eqb p 1 is) at e))
+
+  stc-code : p ≡ 5 → factFault resecuritised p w ≡ 0 → (w ≤ 1) × (resecuritised ≡ true → w ≡ 0)
+  stc-code is e =
+      let both = marked resecuritised (eqb w 1) (codeFault w) (rw (ne-eqb p 1 (λ z. omega arith), eq-eqb p 5 is) at e) in
+      let code = code-of w (both .0) in
+      (code, λ r. no-mark w code (both .1 r))
+
+  yes-or-no : 1 < p → factFault resecuritised p w ≡ 0 → w ≤ 1
+  yes-or-no h e = by-place (eqb p 5) refl
+    where
+      by-place : (fifth : Bool) → eqb p 5 ≡ fifth → w ≤ 1
+      by-place true at = stc-code (eqb-true p 5 at) e .0
+      by-place false at = code-of w (rw (ne-eqb p 1 (λ z. omega arith), at) at e)
+
+  pub good-fact : factFault resecuritised p w ≡ 0 → GoodFact resecuritised p w
+  good-fact e = record { pool-kind = λ is. kind-code is e; code = λ h. yes-or-no h e; mark = λ is r. stc-code is e .1 r }
+
+pub fact-good : (resecuritised : Bool) (p w : ℕ) → 1 ≤ p → GoodFact resecuritised p w → factFault resecuritised p w ≡ 0
+fact-good resecuritised zero w least g = absurd (omega arith)
+fact-good resecuritised (suc zero) w least g = simp (g .pool-kind refl)
+fact-good resecuritised (suc (suc p)) w least g = by-place (eqb (suc (suc p)) 5) refl
+  where
+    other : suc (suc p) ≡ 1 → ⊥
+    other e = omega arith
+
+    by-place : (fifth : Bool) → eqb (suc (suc p)) 5 ≡ fifth → factFault resecuritised (suc (suc p)) w ≡ 0
+    by-place true at =
+        simp (
+          ne-eqb (suc (suc p)) 1 other,
+          at,
+          mark-free resecuritised w (g .mark (eqb-true (suc (suc p)) 5 at)),
+          le-leb w 1 (g .code (omega arith)),
+        )
+    by-place false at = simp (ne-eqb (suc (suc p)) 1 other, at, le-leb w 1 (g .code (omega arith)))
 
 -- ---- pool rows
 

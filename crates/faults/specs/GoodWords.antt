@@ -1,4 +1,4 @@
--- 01, "The deal sheet", in plain relations: the limits that a good fact, pool row and tranche row keep. That a word keeps them just where it has no fault
+-- 01, "The deal sheet", and 02, S-1, in plain relations: the limits that a good fact, pool row and tranche row keep. That a word keeps them just where it has no fault
 -- (WordFaults.antt; a fact stands at place 1 or after) is proved in proofs/GoodWordsLaw.antt.
 use mathlib.Core.Bool.{Bool, true, false}
 use mathlib.Core.Logic.{_⊎_}
@@ -7,10 +7,11 @@ use Prim.Native.Nat.{ℕ, _+_, _≤_, _<_}
 use Rattle.rating_codes.specs.RatingCodes.{listed}
 
 -- "pool kind (0 SA, 1 IRB, 2 mixed); re-securitisation; due diligence held; pool composition known. The last three are 0 no, 1 yes." Of the kinds, "12: pool
--- kind 1 or 2" leaves SA. The kind is at place 1.
-pub record GoodFact (p w : ℕ) : Type 0 where
+-- kind 1 or 2" leaves SA. The kind is at place 1. 02, S-1: "A fifth fact says so (0 no, 1 yes)"; "An STC mark on a re-securitisation gets 16": none is good there.
+pub record GoodFact (resecuritised : Bool) (p w : ℕ) : Type 0 where
   pub pool-kind : p ≡ 1 → w ≡ 0
   pub code : 1 < p → w ≤ 1
+  pub mark : p ≡ 5 → resecuritised ≡ true → w ≡ 0
 
 -- "A row: exposure amount and nominal amount, each 1 to 10^10; risk weight in whole percent, 0 to 1250; status (0 paying, 1 delinquent, 2 not known,
 -- 3 securitisation tranche).": a 3 in a re-securitisation and nowhere else

@@ -1,5 +1,5 @@
--- 01, "Refusals, by who can cause them": the fault of one word by its value and its column, the refusal's number, or 0 where it has none. Which word of a sheet
--- stands where, and which fault decides, is in DealSheet.antt and Refusals.antt of `judgement`.
+-- 01, "Refusals, by who can cause them", and 02, S-1, for 16: the fault of one word by its value and its column, the refusal's number, or 0 where it has none.
+-- Which word of a sheet stands where, and which fault decides, is in DealSheet.antt and Refusals.antt of `judgement`.
 use mathlib.Core.Bool.{Bool, cond, _&&_, _||_}
 use Prim.Native.Nat.{ℕ, _+_}
 use lib.Dec.{leb, ltb, eqb}
@@ -20,9 +20,24 @@ countFault least most w = unless 2 (within least most w)
 abbrev pub yesOrNo : ℕ → Bool
 yesOrNo w = leb w 1
 
--- "4: a fact outside its codes", "12: pool kind 1 or 2." The kind is at place 1.
-abbrev pub factFault : ℕ → ℕ → ℕ
-factFault p w = cond (eqb p 1) (cond (eqb w 0) 0 (cond (leb w 2) 12 4)) (unless 4 (yesOrNo w))
+-- "4: a fact outside its codes", where these are 0 and 1
+abbrev pub codeFault : ℕ → ℕ
+codeFault w = unless 4 (yesOrNo w)
+
+-- "4: a fact outside its codes", "12: pool kind 1 or 2."
+abbrev pub poolKindFault : ℕ → ℕ
+poolKindFault w = cond (eqb w 0) 0 (cond (leb w 2) 12 4)
+
+-- 02, S-1: "A fifth fact says so (0 no, 1 yes)"; "An STC mark on a re-securitisation gets 16 at the fifth fact." The mark is a 1: a word above 1 is none and gets 4.
+abbrev pub stcFault : Bool → ℕ → ℕ
+stcFault resecuritised w = cond (resecuritised && eqb w 1) 16 (codeFault w)
+
+-- the fault of the fact at place p: the pool kind is at 1, the STC mark at 5, and the others are "0 no, 1 yes"
+abbrev pub factFault : Bool → ℕ → ℕ → ℕ
+factFault resecuritised p w =
+    cond (eqb p 1) (poolKindFault w)
+    (cond (eqb p 5) (stcFault resecuritised w)
+    (codeFault w))
 
 -- ---- a pool row
 

@@ -1,6 +1,6 @@
-// The fault of one word of a sheet, by its value and its column: the number of 01's refusal, or 0. Functions of numbers alone, open to all inputs.
+// The fault of one word of a sheet, by its value and its column: the refusal's number in 01 or 02, or 0. Functions of numbers alone, open to all inputs.
 ghost use mathlib.Core.Path.{_≡_};
-ghost use Rattle.faults.specs.WordFaults.{unless, within, countFault, factFault, statusAllowed, rowFault, rowIsGood, classInOrder, trancheFault};
+ghost use Rattle.faults.specs.WordFaults.{unless, within, countFault, codeFault, poolKindFault, stcFault, factFault, statusAllowed, rowFault, rowIsGood, classInOrder, trancheFault};
 
 // The limits of 01's amounts, risk weights and maturities.
 const POOL_AMOUNT: u64 = 10000000000;
@@ -35,27 +35,60 @@ pub fn count_fault(least: u64, most: u64, w: u64) -> u64
     unless(2, within(least, most, w))
 }
 
-// The fault of the fact at place p: the pool kind at 1, a yes or no elsewhere.
-pub fn fact_fault(p: u64, w: u64) -> u64
-    ensures { λ r. ⌜ r ≡ factFault p w ⌝ }
+// The fault of a fact that is a no or a yes.
+fn code_fault(w: u64) -> u64
+    ensures { λ r. ⌜ r ≡ codeFault w ⌝ }
 {
-    if p == 1 {
-        if w == 0 {
-            return 0;
-        }
-        return if w <= 2 { 12 } else { 4 };
-    }
     unless(4, w <= 1)
 }
 
-// Whether a row may have this status.
+// The fault of the pool kind.
+fn pool_kind_fault(w: u64) -> u64
+    ensures { λ r. ⌜ r ≡ poolKindFault w ⌝ }
+{
+    if w == 0 {
+        return 0;
+    }
+    if w <= 2 { 12 } else { 4 }
+}
+
+// The fault of the fifth fact: a re-securitisation has no STC mark.
+fn stc_fault(resecuritised: bool, w: u64) -> u64
+    ensures { λ r. ⌜ r ≡ stcFault resecuritised w ⌝ }
+{
+    if !resecuritised {
+        return code_fault(w);
+    }
+    if w == 1 {
+        return 16;
+    }
+    code_fault(w)
+}
+
+// The fault of the fact at place p: the pool kind at 1, the STC mark at 5, a yes or no elsewhere.
+pub fn fact_fault(resecuritised: bool, p: u64, w: u64) -> u64
+    ensures { λ r. ⌜ r ≡ factFault resecuritised p w ⌝ }
+{
+    if p == 1 {
+        return pool_kind_fault(w);
+    }
+    if p == 5 {
+        return stc_fault(resecuritised, w);
+    }
+    code_fault(w)
+}
+
+// Whether a row may have this status. The status is asked before the deal's kind, which takes fewer steps in the loop over the rows.
 fn status_allowed(resecuritised: bool, w: u64) -> bool
     ensures { λ r. ⌜ r ≡ statusAllowed resecuritised w ⌝ }
 {
-    if resecuritised {
-        return w == 3;
+    if w <= 2 {
+        return !resecuritised;
     }
-    w <= 2
+    if w == 3 {
+        return resecuritised;
+    }
+    false
 }
 
 // The fault of a pool row's word, by its column.

@@ -1,5 +1,5 @@
 -- 01, "The deal sheet": "The file form is the same words, eight bytes each, lowest byte first."; and "Refusals": "15 (reading a file only): length
--- not a multiple of 8 or over 33,848 bytes; place 0."
+-- not a multiple of 8 or over ... bytes; place 0."
 use mathlib.Core.Bool.{Bool, cond, _&&_}
 use mathlib.Core.List.{List, [], _∷_, _++_}
 use Prim.Native.Nat.{ℕ, zero, suc, _+_, _*_, _/_, _%_}
@@ -9,7 +9,7 @@ use Rattle.limits.specs.SheetSize.{byteLimit}
 
 -- ---- the length of a file
 
--- a length that gets no 15: 33,848 is `byteLimit`
+-- a length that gets no 15: 01's 33,848, raised by 8 for each word that a sheet has gained since, is `byteLimit`, now 33,856
 abbrev pub goodLength : List ℕ → Bool
 goodLength file = eqb (length file % 8) 0 && leb (length file) byteLimit
 

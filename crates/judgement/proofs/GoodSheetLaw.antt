@@ -1,4 +1,4 @@
--- A sheet keeps the limits of 01's "The deal sheet" just when each word that it needs is there and has no fault, and none follows. No axioms.
+-- A sheet keeps the limits of 01's "The deal sheet" and 02's S-1 just when each word that it needs is there and has no fault, and none follows. No axioms.
 use mathlib.Core.List.{List}
 use mathlib.Core.Logic.{⊎-elim}
 use mathlib.Core.Path.{_≡_, ap, _∙_}
@@ -71,7 +71,7 @@ module _ (s : List ℕ) (g : GoodSheet s) where
   fact-place p before =
       ⊎-elim
       (λ first. rw first (fault-of-fact-count s ∙ simp (within-is factsLeast factsMost (word s 0) (g .facts-least) (g .facts-most))))
-      (λ later. fault-of-fact s p later before ∙ fact-good p (word s p) later (g .each-fact p later before))
+      (λ later. fault-of-fact s p later before ∙ fact-good (resecuritisation s) p (word s p) later (g .each-fact p later before))
       (eq-zero-or-pos p)
 
   pool-place : (p : ℕ) → poolAt s ≤ p → p < tranchesAt s → fault s p ≡ 0

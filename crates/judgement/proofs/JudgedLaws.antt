@@ -197,7 +197,7 @@ pub fault-number : (s : List ℕ) (p : ℕ) → WordNumber (fault s p)
 unfolding fault
 fault-number s p =
     picked (eqb p 0) _ _ (count-number factsLeast factsMost (word s p))
-    (picked (ltb p (poolAt s)) _ _ (fact-number p (word s p))
+    (picked (ltb p (poolAt s)) _ _ (fact-number (resecuritisation s) p (word s p))
     (picked (eqb p (poolAt s)) _ _ (count-number 1 rowsMost (word s p))
     (picked (ltb p (tranchesAt s)) _ _
     (row-number (resecuritisation s) (columnOf rowSize (poolAt s) p) (word s p))

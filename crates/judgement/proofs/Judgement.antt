@@ -45,7 +45,7 @@ pub fault-of-fact-count : (s : List ℕ) → fault s 0 ≡ countFault factsLeast
 unfolding fault
 fault-of-fact-count s = refl
 
-pub fault-of-fact : (s : List ℕ) (p : ℕ) → 1 ≤ p → p < poolAt s → fault s p ≡ factFault p (word s p)
+pub fault-of-fact : (s : List ℕ) (p : ℕ) → 1 ≤ p → p < poolAt s → fault s p ≡ factFault (resecuritisation s) p (word s p)
 unfolding fault
 fault-of-fact s p least before = simp (ne-eqb p 0 (λ e. omega arith), lt-ltb p (poolAt s) before)
 

@@ -10,3 +10,4 @@ pub mod JudgedLaws
 pub mod GoodSheetLaw
 pub mod GoodRowLaw
 pub mod WordsLaw
+pub mod FilledFacts

@@ -1,11 +1,13 @@
--- Two sheets whose counts are the same have their sections at the same places, and where their facts are the same too, the same layout. No axioms.
+-- Two sheets whose counts are the same have their sections at the same places; and two whose words up to the pool's count are the same have the same facts. No axioms.
 use mathlib.Core.List.{List}
-use mathlib.Core.Path.{_≡_, ap, _∙_}
+use mathlib.Core.Path.{_≡_, sym, ap, _∙_}
 use Prim.Native.Nat.{ℕ, _+_, _≤_, _<_}
 use native.Mathlib.Nat.{le-refl}
 use native.Mathlib.Omega.{arith}
+use borrow.Author.Tests.{leb-true, leb-false, lt-leb}
+use Rattle.numbers.proofs.Tests.{at-cond}
 use Rattle.limits.specs.SheetSize.{factsLeast}
-use Rattle.judgement.specs.DealSheet.{word, poolAt, rows, tranchesAt, trancheCount, needed, layout}
+use Rattle.judgement.specs.DealSheet.{word, resecuritisation, dueDiligence, compositionKnown, hasFact, fact, stc, poolAt, rows, tranchesAt, trancheCount, needed}
 use Rattle.judgement.proofs.NeededLaws.{tranches-end}
 
 pub record SameCounts (s s′ : List ℕ) : Type 0 where
@@ -31,16 +33,33 @@ same-counts s s′ before count =
 pub same-needed : (s s′ : List ℕ) → SameCounts s s′ → needed s′ ≡ needed s
 same-needed s s′ counts = omega (arith, tranches-end s, tranches-end s′, counts .tranches-at, counts .tranche-count)
 
-pub same-layout :
-    (s s′ : List ℕ) → SameCounts s s′ → ((p : ℕ) → p ≤ poolAt s → word s′ p ≡ word s p) → factsLeast < poolAt s → layout s′ ≡ layout s
-unfolding layout
-same-layout s s′ counts before facts =
-    rw (
-      before 2 (omega arith),
-      before 3 (omega arith),
-      before 4 (omega arith),
-      counts .pool-at,
-      counts .row-count,
-      counts .tranches-at,
-      counts .tranche-count,
-    )
+-- ---- facts
+
+pub record SameFacts (s s′ : List ℕ) : Type 0 where
+  pub same-resecuritisation : resecuritisation s′ ≡ resecuritisation s
+  pub same-stc : stc s′ ≡ stc s
+  pub same-diligence : dueDiligence s′ ≡ dueDiligence s
+  pub same-composition : compositionKnown s′ ≡ compositionKnown s
+
+-- a fact that not every sheet has, in a list that may be longer: the same word where both have it, and a 0 where the shorter list has ended
+pub same-fact :
+    (s s′ : List ℕ) (n : ℕ) → word s 0 ≤ word s′ 0 → (n ≤ word s 0 → word s′ n ≡ word s n) → (word s 0 < n → n ≤ word s′ 0 → word s′ n ≡ 0) →
+    fact s′ n ≡ fact s n
+same-fact s s′ n longer kept ended =
+    at-cond (λ x. x ≡ fact s n) (hasFact s′ n) (word s′ n) 0
+    (λ within.
+    at-cond (λ y. word s′ n ≡ y) (hasFact s n) (word s n) 0
+    (λ here. kept (omega (arith, leb-true n _ here)))
+    (λ past. ended (omega (arith, leb-false n _ past)) (omega (arith, leb-true n _ within))))
+    (λ past. sym (simp (lt-leb n (word s 0) (omega (arith, leb-false n _ past)))))
+
+pub same-facts : (s s′ : List ℕ) → ((p : ℕ) → p ≤ poolAt s → word s′ p ≡ word s p) → factsLeast < poolAt s → SameFacts s s′
+unfolding poolAt
+same-facts s s′ before facts =
+    let count = before 0 (omega arith) in
+    record {
+      same-resecuritisation = rw (before 2 (omega arith));
+      same-stc = rw (same-fact s s′ 5 (omega arith) (λ h. before 5 (omega arith)) (λ h l. absurd (omega arith)));
+      same-diligence = rw (before 3 (omega arith));
+      same-composition = rw (before 4 (omega arith));
+    }

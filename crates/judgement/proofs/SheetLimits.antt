@@ -1,4 +1,5 @@
 -- What a sound beginning of a sheet says of its numbers: the counts, the place of each section, and the limits of every row's words. No axioms.
+use mathlib.Core.Bool.{Bool, true, false, cond}
 use mathlib.Core.List.{List}
 use mathlib.Core.Logic.{⊎-elim}
 use mathlib.Core.Path.{_≡_, refl, sym, _∙_}
@@ -7,12 +8,13 @@ use native.Mathlib.Nat.{add-zero}
 use native.Mathlib.Numerals.{add-one}
 use native.Mathlib.Omega.{arith}
 use lib.ListN.{length}
+use borrow.Author.Tests.{leb-true, eqb-true, lt-leb}
 use Rattle.limits.specs.SheetSize.{factsLeast, factsMost, rowsMost, tranchesMost, wordLimit, placeLimit}
 use Rattle.faults.specs.WordFaults.{rowFault, trancheFault}
 use Rattle.faults.specs.GoodWords.{GoodFact, NextClass, GoodClass}
 use Rattle.faults.proofs.FaultLaws.{no-fault-within}
 use Rattle.faults.proofs.GoodWordsLaw.{good-fact, good-row as row-of-words, good-class, good-tranche as tranche-of-words}
-use Rattle.judgement.specs.DealSheet.{word, resecuritisation, poolAt, rows, rowAt, exposure, nominal, riskWeight, status, tranchesAt, trancheCount, trancheAt, amount, class, months, held, firstRating, secondRating, thirdRating, needed}
+use Rattle.judgement.specs.DealSheet.{word, resecuritisation, hasFact, fact, stc, poolAt, rows, rowAt, exposure, nominal, riskWeight, status, tranchesAt, trancheCount, trancheAt, amount, class, months, held, firstRating, secondRating, thirdRating, needed}
 use Rattle.judgement.specs.Refusals.{judge, judged}
 use Rattle.judgement.specs.GoodSheet.{GoodRowOf, GoodTrancheOf}
 use Rattle.judgement.specs.declared.Verdict.the-variants.{Sound}
@@ -89,9 +91,35 @@ needed-at-most s e =
 
 -- ---- the facts
 
-pub good-fact-of : (s : List ℕ) (p : ℕ) → judged s (needed s) ≡ Sound → 1 ≤ p → p < poolAt s → GoodFact p (word s p)
+pub good-fact-of : (s : List ℕ) (p : ℕ) → judged s (needed s) ≡ Sound → 1 ≤ p → p < poolAt s → GoodFact (resecuritisation s) p (word s p)
 good-fact-of s p e least before =
-    good-fact p (word s p) (sym (fault-of-fact s p least before) ∙ good-word s (needed s) p e (omega (arith, pool-count-needed s)) .1)
+    good-fact (resecuritisation s) p (word s p) (sym (fault-of-fact s p least before) ∙ good-word s (needed s) p e (omega (arith, pool-count-needed s)) .1)
+
+-- "a sheet with four facts counts as 0"
+pub short-list : (s : List ℕ) (n : ℕ) → word s 0 < n → fact s n ≡ 0
+short-list s n past = simp (lt-leb n (word s 0) past)
+
+pub four-facts : (s : List ℕ) → word s 0 ≡ 4 → stc s ≡ false
+four-facts s four = simp (short-list s 5 (omega arith))
+
+-- a mark is the fifth word, a 1
+mark-there : (counted : Bool) (w : ℕ) → cond counted w 0 ≡ 1 → (counted ≡ true) × (w ≡ 1)
+mark-there true w e = (refl, e)
+mark-there false w e = absurd (omega arith)
+
+-- no sheet with good words has an STC mark on a re-securitisation
+pub stc-ordinary : (s : List ℕ) → judged s (needed s) ≡ Sound → stc s ≡ true → resecuritisation s ≡ false
+unfolding poolAt
+stc-ordinary s e marked = by-kind (resecuritisation s) refl
+  where
+    mark : (hasFact s 5 ≡ true) × (word s 5 ≡ 1)
+    mark = mark-there (hasFact s 5) (word s 5) (eqb-true (fact s 5) 1 marked)
+
+    by-kind : (resecuritised : Bool) → resecuritisation s ≡ resecuritised → resecuritisation s ≡ false
+    by-kind true is =
+        let none = good-fact-of s 5 e (omega arith) (omega (arith, leb-true 5 (word s 0) (mark .0))) .mark refl is in
+        absurd (omega (arith, mark .1))
+    by-kind false is = is
 
 -- ---- the pool's rows
 

@@ -1,9 +1,9 @@
--- 01, "The deal sheet": where each word of a sheet stands. Places are counted from 0. A count is read as it stands, however wrong: a wrong count
--- is itself the first fault of its sheet (Refusals.antt).
-use mathlib.Core.Bool.{Bool}
+-- 01, "The deal sheet", and 02, S-1, for the fifth fact: where each word of a sheet stands. Places are counted from 0. A count is read as it stands, however
+-- wrong: a wrong count is itself the first fault of its sheet (Refusals.antt).
+use mathlib.Core.Bool.{Bool, cond}
 use mathlib.Core.List.{List}
 use Prim.Native.Nat.{ℕ, _+_, _*_}
-use lib.Dec.{eqb}
+use lib.Dec.{leb, eqb}
 use lib.ListN.{getD}
 use Rattle.limits.specs.SheetSize.{rowSize, trancheSize}
 use Rattle.judgement.specs.declared.Layout.{Layout}
@@ -13,7 +13,7 @@ abbrev pub word : List ℕ → ℕ → ℕ
 word s p = getD s p 0
 
 -- ---- "Facts, count 4: pool kind (0 SA, 1 IRB, 2 mixed); re-securitisation; due diligence held; pool composition known." The count is at place
--- 0, the pool kind at place 1.
+-- 0, the pool kind at place 1. These four every sheet with good words has.
 
 abbrev pub resecuritisation : List ℕ → Bool
 resecuritisation s = eqb (word s 2) 1
@@ -23,6 +23,18 @@ dueDiligence s = eqb (word s 3) 1
 
 abbrev pub compositionKnown : List ℕ → Bool
 compositionKnown s = eqb (word s 4) 1
+
+-- whether the list of facts has fact n, counted from 1
+abbrev pub hasFact : List ℕ → ℕ → Bool
+hasFact s n = leb n (word s 0)
+
+-- fact n, and 0 where the list is shorter
+abbrev pub fact : List ℕ → ℕ → ℕ
+fact s n = cond (hasFact s n) (word s n) 0
+
+-- 02, S-1: "simple, transparent and comparable deals. A fifth fact says so (0 no, 1 yes); a sheet with four facts counts as 0."
+abbrev pub stc : List ℕ → Bool
+stc s = eqb (fact s 5) 1
 
 -- ---- "Pool, count 1 to 1,000. A row: exposure amount and nominal amount, ...; risk weight in whole percent, ...; status ..."
 
@@ -95,6 +107,7 @@ needed s = trancheAt s (trancheCount s)
 unfoldable pub layout : List ℕ → Layout
 layout s = record {
   resecuritisation = resecuritisation s;
+  stc = stc s;
   diligence = dueDiligence s;
   composition = compositionKnown s;
   «first_row» = poolAt s + 1;

@@ -1,4 +1,4 @@
--- 01, "The deal sheet", in plain relations: the limits that every word of a good sheet keeps; those of a fact, a row and a tranche are in GoodWords.antt of
+-- 01, "The deal sheet", and 02, S-1, in plain relations: the limits that every word of a good sheet keeps; those of a fact, a row and a tranche are in GoodWords.antt of
 -- `faults`. That a sheet keeps them just when each word it needs is there and has no fault, and none follows (`WordsGood`, Judged.antt), is proved in
 -- proofs/GoodSheetLaw.antt.
 use mathlib.Core.List.{List}
@@ -15,11 +15,11 @@ GoodRowOf s i = GoodRow (resecuritisation s) (exposure s i) (nominal s i) (riskW
 abbrev pub GoodTrancheOf : List ℕ → ℕ → Type 0
 GoodTrancheOf s i = GoodTranche (amount s i) (months s i) (held s i) (firstRating s i) (secondRating s i) (thirdRating s i)
 
--- "Facts, count 4", "Pool, count 1 to 1,000.", "Tranches, count 1 to 32.": the limits of the counts are those of SheetSize.antt of `limits`
+-- "Facts, count 4", with S-1 four or five; "Pool, count 1 to 1,000.", "Tranches, count 1 to 32.": the limits of the counts are those of SheetSize.antt of `limits`
 pub record GoodSheet (s : List ℕ) : Type 0 where
   pub facts-least : factsLeast ≤ word s 0
   pub facts-most : word s 0 ≤ factsMost
-  pub each-fact : (p : ℕ) → 1 ≤ p → p < poolAt s → GoodFact p (word s p)
+  pub each-fact : (p : ℕ) → 1 ≤ p → p < poolAt s → GoodFact (resecuritisation s) p (word s p)
   pub rows-least : 1 ≤ rows s
   pub rows-most : rows s ≤ rowsMost
   pub each-row : (i : ℕ) → i < rows s → GoodRowOf s i

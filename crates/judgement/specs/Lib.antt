@@ -4,3 +4,4 @@ pub mod Refusals
 pub mod Judged
 pub mod GoodSheet
 pub mod LaidOut
+pub mod FilledFacts

@@ -1,4 +1,4 @@
--- 01, "Refusals, by who can cause them": the fault of each word of a sheet, and the order in which they are judged. The fault of a word by its value is in
+-- 01, "Refusals, by who can cause them", and 02, S-1, for 16: the fault of each word of a sheet, and the order in which they are judged. The fault of a word by its value is in
 -- WordFaults.antt of `faults`.
 use mathlib.Core.Bool.{cond}
 use mathlib.Core.List.{List}
@@ -28,7 +28,7 @@ columnOf size at p = (p - (at + 1)) % size
 unfoldable pub fault : List ℕ → ℕ → ℕ
 fault s p =
     cond (eqb p 0) (countFault factsLeast factsMost (word s p))
-    (cond (ltb p (poolAt s)) (factFault p (word s p))
+    (cond (ltb p (poolAt s)) (factFault (resecuritisation s) p (word s p))
     (cond (eqb p (poolAt s)) (countFault 1 rowsMost (word s p))
     (cond (ltb p (tranchesAt s)) (rowFault (resecuritisation s) (columnOf rowSize (poolAt s) p) (word s p))
     (cond (eqb p (tranchesAt s)) (countFault 1 tranchesMost (word s p))

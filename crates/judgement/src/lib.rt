@@ -30,7 +30,7 @@ use limits::TRANCHE_SIZE;
 use limits::TRANCHES_MOST;
 use numbers::excess;
 
-// A refusal: 01's number for it, and its place.
+// A refusal: its number in 01 or 02, and its place.
 pub struct Refusal {
     pub number: u64,
     pub place: u64,
@@ -45,6 +45,7 @@ pub enum Verdict {
 // What is read of a sheet whose words are good: its facts, the places of its first pool row and of its first tranche, and how many there are of each.
 pub struct Layout {
     pub resecuritisation: bool,
+    pub stc: bool,
     pub diligence: bool,
     pub composition: bool,
     pub first_row: usize,
@@ -88,10 +89,11 @@ fn judge_facts(s: &[u64]) -> Verdict
     let Verdict::Sound = count else {
         return count;
     };
+    let resecuritised = word_at(s, 2) == 1;
     let end = pool_at(s);
     let mut p = 1;
     while p < end {
-        let fact = judge_word(s, p, fact_fault(p, word_at(s, p)));
+        let fact = judge_word(s, p, fact_fault(resecuritised, p, word_at(s, p)));
         let Verdict::Sound = fact else {
             return fact;
         };

@@ -1,7 +1,7 @@
 // Where the words of a sheet stand. A place is worked out only once the counts before it are good.
 ghost use mathlib.Core.Path.{_≡_};
 ghost use Prim.Native.Nat.{_+_, _≤_};
-ghost use Rattle.judgement.specs.DealSheet.{word, poolAt, rows, rowAt, tranchesAt, trancheCount, trancheAt, needed, layout};
+ghost use Rattle.judgement.specs.DealSheet.{word, fact, poolAt, rows, rowAt, tranchesAt, trancheCount, trancheAt, needed, layout};
 ghost use Rattle.judgement.specs.Refusals.{judged};
 ghost use Rattle.judgement.specs.declared.Verdict.the-variants.{Sound};
 use crate::Layout;
@@ -13,6 +13,13 @@ pub(crate) fn word_at(s: &[u64], p: u64) -> u64
     ensures { λ r. ⌜ r ≡ word (now (s .entry)) p ⌝ }
 {
     if p < s.len() as u64 { s[p as usize] } else { 0 }
+}
+
+// Fact n, which not every sheet has; 0 where the list of facts is shorter.
+fn fact_at(s: &[u64], n: u64) -> u64
+    ensures { λ r. ⌜ r ≡ fact (now (s .entry)) n ⌝ }
+{
+    if n <= word_at(s, 0) { word_at(s, n) } else { 0 }
 }
 
 // The place of the pool's count.
@@ -63,7 +70,7 @@ pub(crate) fn tranche_at(s: &[u64], i: u64) -> u64
     tranches_at(s) + 1 + TRANCHE_SIZE as u64 * i
 }
 
-// What is read of a sheet whose words are good. Each word is there, so it is read where it stands.
+// What is read of a sheet whose words are good. Each word that every sheet has is there, so it is read where it stands.
 pub(crate) fn layout_of(s: &[u64]) -> Layout
     requires { ⌜ judged (now s) (needed (now s)) ≡ Sound ⌝ }
     ensures { λ r. ⌜ r ≡ layout (now (s .entry)) ⌝ }
@@ -73,6 +80,7 @@ pub(crate) fn layout_of(s: &[u64]) -> Layout
     let tranches = pool + 1 + ROW_SIZE * rows as usize;
     Layout {
         resecuritisation: s[2] == 1,
+        stc: fact_at(s, 5) == 1,
         diligence: s[3] == 1,
         composition: s[4] == 1,
         first_row: pool + 1,

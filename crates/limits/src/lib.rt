@@ -1,10 +1,10 @@
-// How many words a sheet, its rows and its results have, and how long a sheet's file may be: 01's limits, each under one name for all crates. Those that
+// How many words a sheet, its rows and its results have, and how long a sheet's file may be: the limits of 01 and 02, each under one name for all crates. Those that
 // follow from others are worked out from them. specs/SheetSize.antt has the same for the definitions.
 
 // The least and the most facts that a sheet has.
 pub const FACTS_LEAST: usize = 4;
 
-pub const FACTS_MOST: usize = 4;
+pub const FACTS_MOST: usize = 5;
 
 // The most pool rows, and the words of one.
 pub const ROWS_MOST: usize = 1000;

@@ -1,7 +1,7 @@
--- Two sheets of the same counts whose pool rows are the same, in whatever order, have the same sums. No axioms.
+-- Two sheets whose pool rows are the same, in whatever order and wherever they stand, have the same sums. No axioms.
 use mathlib.Core.Bool.{not}
 use mathlib.Core.List.{List}
-use mathlib.Core.Path.{_≡_, ap, _∙_}
+use mathlib.Core.Path.{_≡_, refl, ap, _∙_}
 use Prim.Native.Nat.{ℕ, _+_, _*_, _<_}
 use native.Mathlib.Nat.{add-zero}
 use native.Mathlib.Omega.{arith}
@@ -11,14 +11,10 @@ use Rattle.numbers.specs.Permutation.{Permutation}
 use Rattle.numbers.proofs.SumLaws.{sum-same}
 use Rattle.numbers.proofs.SumPermuted.{sum-permuted}
 use Rattle.judgement.specs.DealSheet.{word, rows, rowAt, exposure, nominal, riskWeight, status}
-use Rattle.judgement.proofs.SameLayout.{SameCounts}
 use Rattle.pool.specs.PoolSums.{poolSums}
 
-module _ (s s′ : List ℕ) (π σ : ℕ → ℕ) (counts : SameCounts s s′) (order : Permutation (rows s) π σ)
-    (moved : (i c : ℕ) → i < rows s → c < 4 → word s′ (rowAt s i + c) ≡ word s (rowAt s (π i) + c)) where
-  at-row : (i c : ℕ) → i < rows s → c < 4 → word s′ (rowAt s′ i + c) ≡ word s (rowAt s (π i) + c)
-  at-row i c row column = rw (counts .pool-at) (moved i c row column)
-
+module _ (s s′ : List ℕ) (π σ : ℕ → ℕ) (count : rows s′ ≡ rows s) (order : Permutation (rows s) π σ)
+    (at-row : (i c : ℕ) → i < rows s → c < 4 → word s′ (rowAt s′ i + c) ≡ word s (rowAt s (π i) + c)) where
   exposure-moved : (i : ℕ) → i < rows s → exposure s′ i ≡ exposure s (π i)
   exposure-moved i row = simp add-zero at (at-row i 0 row (omega arith))
 
@@ -28,7 +24,7 @@ module _ (s s′ : List ℕ) (π σ : ℕ → ℕ) (counts : SameCounts s s′) 
       sum (λ i. f (exposure s′ i) (nominal s′ i) (riskWeight s′ i) (status s′ i)) (rows s′) ≡
       sum (λ i. f (exposure s i) (nominal s i) (riskWeight s i) (status s i)) (rows s)
   sum-moved f =
-      ap (sum (λ i. f (exposure s′ i) (nominal s′ i) (riskWeight s′ i) (status s′ i))) (counts .row-count) ∙
+      ap (sum (λ i. f (exposure s′ i) (nominal s′ i) (riskWeight s′ i) (status s′ i))) count ∙
       sum-same
       (λ i. f (exposure s′ i) (nominal s′ i) (riskWeight s′ i) (status s′ i))
       (λ i. f (exposure s (π i)) (nominal s (π i)) (riskWeight s (π i)) (status s (π i)))
@@ -49,3 +45,12 @@ module _ (s s′ : List ℕ) (π σ : ℕ → ℕ) (counts : SameCounts s s′) 
         sum-moved (λ e n w t. whereCounted (not (eqb t 2)) (e * w)),
         sum-moved (λ e n w t. whereCounted (eqb t 1) n),
       )
+
+-- the same rows in the same order
+pub same-sums-in-order :
+    (s s′ : List ℕ) → rows s′ ≡ rows s → ((i c : ℕ) → i < rows s → c < 4 → word s′ (rowAt s′ i + c) ≡ word s (rowAt s i + c)) →
+    poolSums s′ ≡ poolSums s
+same-sums-in-order s s′ count alike =
+    same-sums s s′ (λ i. i) (λ i. i) count
+    (record { forth = λ i l. l; back = λ i l. l; back-forth = λ i l. refl; forth-back = λ i l. refl })
+    alike

@@ -1,16 +1,25 @@
--- 01, "The rating table" (source document 001: CRE42.2 for short-term grades, CRE42.4 for the table, CRE42.5 for maturity and thickness, CRE42.7 for
--- the comparison with the senior figure, CRE42.8 for several ratings; CRE40.22 and CRE40.23 for the tranche maturity). Figures are in percent, a
--- weight in hundredths of a percent, a thickness in millionths; months are those of the final legal maturity.
-use mathlib.Core.Bool.{Bool, cond}
+-- 01, "The rating table", and S-1 of 02, "STC deals" (source document 001: CRE42.2 for short-term grades, CRE42.4 for the table, CRE42.5 for maturity
+-- and thickness, CRE42.7 for the comparison with the senior figure, CRE42.8 for several ratings; CRE42.12 to CRE42.14 in place of CRE42.2, CRE42.4 and
+-- CRE42.7 for STC deals, by CRE42.11; CRE40.22 and CRE40.23 for the tranche maturity). Figures are in percent, a weight in hundredths of a percent, a thickness in
+-- millionths; months are those of the final legal maturity.
+use mathlib.Core.Bool.{Bool, true, false, cond}
 use mathlib.Core.List.{List, [], _∷_}
 use Prim.Native.Nat.{ℕ, _+_, _*_, _-_, min, max}
 use lib.ListN.{getD}
 use Rattle.numbers.specs.Rounding.{roundedUp}
 use Rattle.rating_codes.specs.RatingCodes.{longTerm, shortTerm}
 
--- ---- the table: a row for each long-term grade, four figures to a row
+-- ---- the figures from which the weight by a rating is worked out. 02, S-1: "What is shown of rows and maturities is shown once for any table of 18 rows.": what
+-- follows, and its laws (proofs/TableLaws.antt), are over any figures of this form.
 
--- "Senior 1 year, senior 5 years, non-senior 1 year, non-senior 5 years"
+-- A row for each long-term grade, "Senior 1 year, senior 5 years, non-senior 1 year, non-senior 5 years"; a figure for each short-term grade; and
+-- whether a non-senior weight is compared with the senior figure
+pub record RatingFigures : Type 0 where
+  pub longTermFigures : List (List ℕ)
+  pub shortTermFigures : List ℕ
+  pub compared : Bool
+
+-- CRE42.4, Table 2
 abbrev pub ratingTable : List (List ℕ)
 ratingTable =
     (15 ∷ 20 ∷ 15 ∷ 70 ∷ []) ∷
@@ -32,13 +41,51 @@ ratingTable =
     (460 ∷ 505 ∷ 1250 ∷ 1250 ∷ []) ∷
     (1250 ∷ 1250 ∷ 1250 ∷ 1250 ∷ []) ∷ []
 
+-- CRE42.13, Table 4
+abbrev pub stcRatingTable : List (List ℕ)
+stcRatingTable =
+    (10 ∷ 10 ∷ 15 ∷ 40 ∷ []) ∷
+    (10 ∷ 15 ∷ 15 ∷ 55 ∷ []) ∷
+    (15 ∷ 20 ∷ 15 ∷ 70 ∷ []) ∷
+    (15 ∷ 25 ∷ 25 ∷ 80 ∷ []) ∷
+    (20 ∷ 30 ∷ 35 ∷ 95 ∷ []) ∷
+    (30 ∷ 40 ∷ 60 ∷ 135 ∷ []) ∷
+    (35 ∷ 40 ∷ 95 ∷ 170 ∷ []) ∷
+    (45 ∷ 55 ∷ 150 ∷ 225 ∷ []) ∷
+    (55 ∷ 65 ∷ 180 ∷ 255 ∷ []) ∷
+    (70 ∷ 85 ∷ 270 ∷ 345 ∷ []) ∷
+    (120 ∷ 135 ∷ 405 ∷ 500 ∷ []) ∷
+    (135 ∷ 155 ∷ 535 ∷ 655 ∷ []) ∷
+    (170 ∷ 195 ∷ 645 ∷ 740 ∷ []) ∷
+    (225 ∷ 250 ∷ 810 ∷ 855 ∷ []) ∷
+    (280 ∷ 305 ∷ 945 ∷ 945 ∷ []) ∷
+    (340 ∷ 380 ∷ 1015 ∷ 1015 ∷ []) ∷
+    (415 ∷ 455 ∷ 1250 ∷ 1250 ∷ []) ∷
+    (1250 ∷ 1250 ∷ 1250 ∷ 1250 ∷ []) ∷ []
+
+-- Tables 1 and 2. "Short-term 21 to 24: 15, 50, 100, 1250"
+abbrev pub ordinaryFigures : RatingFigures
+ordinaryFigures = record {
+  longTermFigures = ratingTable;
+  shortTermFigures = 15 ∷ 50 ∷ 100 ∷ 1250 ∷ [];
+  compared = true;
+}
+
+-- Tables 3 (CRE42.12, the short-term grades) and 4. "CRE42.14 has no comparison with the senior figure, so an STC non-senior weight is not raised to it."
+abbrev pub stcFigures : RatingFigures
+stcFigures = record {
+  longTermFigures = stcRatingTable;
+  shortTermFigures = 10 ∷ 30 ∷ 60 ∷ 1250 ∷ [];
+  compared = false;
+}
+
+-- by the STC mark: "STC deals use the second table of source document 001 (Tables 3 and 4)"
+abbrev pub figuresOf : Bool → RatingFigures
+figuresOf stc = cond stc stcFigures ordinaryFigures
+
 -- the figure of a table at a grade, counted from 1, and a column, counted from 0
 abbrev pub figure : List (List ℕ) → ℕ → ℕ → ℕ
 figure table grade column = getD (getD table (grade - 1) []) column 0
-
--- "Short-term 21 to 24: 15, 50, 100, 1250"
-abbrev pub shortTermFigures : List ℕ
-shortTermFigures = 15 ∷ 50 ∷ 100 ∷ 1250 ∷ []
 
 -- ---- "Tranche maturity in fifths of a month is 4 × months + 12, held within 60 and 300 (80% rule of CRE40)."
 
@@ -61,30 +108,31 @@ nonSeniorLinear table grade fifths = linear (figure table grade 2) (figure table
 abbrev pub exactParts : ℕ
 exactParts = 240000000
 
--- the exact weight by a long-term grade, times exactParts. "Non-senior: times (1 − min(D − A, one half)), then no lower than the senior figure of
--- that rating and maturity."
-abbrev pub longTermExact : List (List ℕ) → ℕ → Bool → ℕ → ℕ → ℕ
-longTermExact table grade senior fifths thickness =
-    100 *
-    cond senior
-    (seniorLinear table grade fifths * 1000000)
-    (max
-    (nonSeniorLinear table grade fifths * (1000000 - min thickness 500000))
-    (seniorLinear table grade fifths * 1000000))
+-- a non-senior weight beside the senior one: where the two are compared, "then no lower than the senior figure of that rating and maturity" (CRE42.7);
+-- elsewhere its own (CRE42.14)
+abbrev pub besideSenior : Bool → ℕ → ℕ → ℕ
+besideSenior compared own senior = cond compared (max own senior) own
+
+-- the exact weight by a long-term grade, times exactParts. "Non-senior: times (1 − min(D − A, one half))"
+abbrev pub longTermExact : RatingFigures → ℕ → Bool → ℕ → ℕ → ℕ
+longTermExact figures grade senior fifths thickness =
+    let least = seniorLinear (figures .longTermFigures) grade fifths * 1000000 in
+    let own = nonSeniorLinear (figures .longTermFigures) grade fifths * (1000000 - min thickness 500000) in
+    100 * cond senior least (besideSenior (figures .compared) own least)
 
 -- "Short-term 21 to 24: ..., unadjusted": no maturity, no thickness, no comparison
-abbrev pub shortTermExact : ℕ → ℕ
-shortTermExact code = 100 * getD shortTermFigures (code - 21) 0 * exactParts
+abbrev pub shortTermExact : RatingFigures → ℕ → ℕ
+shortTermExact figures code = 100 * getD (figures .shortTermFigures) (code - 21) 0 * exactParts
 
 -- the exact weight by a code, times exactParts; 0 where the code is no rating
-unfoldable pub exactWeight : List (List ℕ) → ℕ → Bool → ℕ → ℕ → ℕ
-exactWeight table code senior months thickness =
-    cond (longTerm code) (longTermExact table code senior (maturityFifths months) thickness)
-    (cond (shortTerm code) (shortTermExact code) 0)
+unfoldable pub exactWeight : RatingFigures → ℕ → Bool → ℕ → ℕ → ℕ
+exactWeight figures code senior months thickness =
+    cond (longTerm code) (longTermExact figures code senior (maturityFifths months) thickness)
+    (cond (shortTerm code) (shortTermExact figures code) 0)
 
 -- "Rounded up once."
-unfoldable pub weightByRating : List (List ℕ) → ℕ → Bool → ℕ → ℕ → ℕ
-weightByRating table code senior months thickness = roundedUp (exactWeight table code senior months thickness) exactParts
+unfoldable pub weightByRating : RatingFigures → ℕ → Bool → ℕ → ℕ → ℕ
+weightByRating figures code senior months thickness = roundedUp (exactWeight figures code senior months thickness) exactParts
 
 -- ---- "With several ratings the highest weight counts."
 
@@ -92,9 +140,9 @@ abbrev pub pick : ℕ → ℕ → ℕ → ℕ
 pick first second third = max first (max second third)
 
 -- the weight by a tranche's three ratings; 0 where none is present
-unfoldable pub weightByRatings : List (List ℕ) → ℕ → ℕ → ℕ → Bool → ℕ → ℕ → ℕ
-weightByRatings table first second third senior months thickness =
+unfoldable pub weightByRatings : RatingFigures → ℕ → ℕ → ℕ → Bool → ℕ → ℕ → ℕ
+weightByRatings figures first second third senior months thickness =
     pick
-    (weightByRating table first senior months thickness)
-    (weightByRating table second senior months thickness)
-    (weightByRating table third senior months thickness)
+    (weightByRating figures first senior months thickness)
+    (weightByRating figures second senior months thickness)
+    (weightByRating figures third senior months thickness)

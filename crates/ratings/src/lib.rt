@@ -1,9 +1,9 @@
-// The weight by ratings: the rating table, the tranche maturity, the thickness, and the highest of three ratings.
+// The weight by ratings: the rating tables, the tranche maturity, the thickness, and the highest of three ratings.
 ghost use mathlib.Core.Path.{_≡_};
 ghost use mathlib.Core.List.{[]};
-ghost use Prim.Native.Nat.{_-_, _≤_, _<_};
+ghost use Prim.Native.Nat.{_-_, max, _≤_, _<_};
 ghost use lib.ListN.{getD};
-ghost use Rattle.ratings.specs.RatingTable.{ratingTable, maturityFifths, linear, longTermExact, shortTermExact, exactWeight, weightByRating, weightByRatings};
+ghost use Rattle.ratings.specs.RatingTable.{ratingTable, stcRatingTable, figuresOf, maturityFifths, linear, besideSenior, longTermExact, shortTermExact, exactWeight, weightByRating, weightByRatings};
 
 mod table;
 
@@ -12,8 +12,10 @@ use numbers::rounded_up;
 use numbers::smaller;
 use rating_codes::long_term;
 use rating_codes::short_term;
-use table::FIGURES;
+use table::LONG_TERM;
 use table::SHORT_TERM;
+use table::STC_LONG_TERM;
+use table::STC_SHORT_TERM;
 
 // 1 in the units of a thickness, millionths.
 const MILLION: u64 = 1000000;
@@ -32,12 +34,42 @@ pub fn maturity_fifths(months: u64) -> u64
     larger(60, 4 * smaller(months, 72) + 12)
 }
 
-// The row of the rating table at a grade, counted from 1. The table is written to memory at each use: a rating takes all its figures from one row.
-fn table_row(grade: u64) -> [u16; 4]
+// The row of the first table at a grade, counted from 1.
+fn ordinary_row(grade: u64) -> [u16; 4]
     requires { ⌜ (1 ≤ grade) × (grade ≤ 18) ⌝ }
     ensures { λ r. ⌜ r ≡ getD ratingTable (grade - 1) [] ⌝ }
 {
-    FIGURES[(grade - 1) as usize]
+    LONG_TERM[(grade - 1) as usize]
+}
+
+// The row of the table of STC deals at a grade, counted from 1.
+fn stc_row(grade: u64) -> [u16; 4]
+    requires { ⌜ (1 ≤ grade) × (grade ≤ 18) ⌝ }
+    ensures { λ r. ⌜ r ≡ getD stcRatingTable (grade - 1) [] ⌝ }
+{
+    STC_LONG_TERM[(grade - 1) as usize]
+}
+
+// The row of a deal's rating table at a grade, counted from 1. A table is written to memory at each use, so a rating takes all its figures from one row. Both
+// rows are read and one is picked: where each table was read in a branch of its own, the compiler wrote them figure by figure (docs/DECISIONS.md).
+fn table_row(stc: bool, grade: u64) -> [u16; 4]
+    requires { ⌜ (1 ≤ grade) × (grade ≤ 18) ⌝ }
+    ensures { λ r. ⌜ r ≡ getD (figuresOf stc .longTermFigures) (grade - 1) [] ⌝ }
+{
+    let ordinary = ordinary_row(grade);
+    let marked = stc_row(grade);
+    if stc { marked } else { ordinary }
+}
+
+// The figure of a deal's short-term grade.
+fn short_term_figure(stc: bool, code: u64) -> u16
+    requires { ⌜ (21 ≤ code) × (code ≤ 24) ⌝ }
+    ensures { λ r. ⌜ r ≡ getD (figuresOf stc .shortTermFigures) (code - 21) 0 ⌝ }
+{
+    if stc {
+        return STC_SHORT_TERM[(code - 21) as usize];
+    }
+    SHORT_TERM[(code - 21) as usize]
 }
 
 // A figure of the tables as a number of 64 bits.
@@ -55,50 +87,64 @@ fn linear_percent(one: u16, five: u16, fifths: u64) -> u64
     wide(one) * (300 - fifths) + wide(five) * (fifths - 60)
 }
 
-// The exact weight by a long-term grade, times EXACT_PARTS: a non-senior tranche's falls with its thickness, down to the senior one.
-fn long_term_exact(grade: u64, senior: bool, fifths: u64, thickness: u64) -> u64
-    requires { ⌜ (1 ≤ grade) × (grade ≤ 18) × (60 ≤ fifths) × (fifths ≤ 300) ⌝ }
-    ensures { λ r. ⌜ r ≡ longTermExact ratingTable grade senior fifths thickness ⌝ }
+// A non-senior tranche's own weight beside the senior one, to which it is raised; in an STC deal it is not.
+fn beside_senior(stc: bool, own: u64, senior: u64) -> u64
+    ensures { λ r. ⌜ (r ≡ besideSenior (figuresOf stc .compared) own senior) × (r ≤ max own senior) ⌝ }
 {
-    let row = table_row(grade);
+    if stc {
+        return own;
+    }
+    larger(own, senior)
+}
+
+// The exact weight by a long-term grade, times EXACT_PARTS: a non-senior tranche's falls with its thickness.
+fn long_term_exact(stc: bool, grade: u64, senior: bool, fifths: u64, thickness: u64) -> u64
+    requires { ⌜ (1 ≤ grade) × (grade ≤ 18) × (60 ≤ fifths) × (fifths ≤ 300) ⌝ }
+    ensures { λ r. ⌜ r ≡ longTermExact (figuresOf stc) grade senior fifths thickness ⌝ }
+{
+    let row = table_row(stc, grade);
     let least = linear_percent(row[0], row[1], fifths) * MILLION;
     if senior {
         return 100 * least;
     }
     let share = MILLION - smaller(thickness, HALF);
-    100 * larger(linear_percent(row[2], row[3], fifths) * share, least)
+    100 * beside_senior(stc, linear_percent(row[2], row[3], fifths) * share, least)
 }
 
 // The exact weight by a short-term grade, times EXACT_PARTS.
-fn short_term_exact(code: u64) -> u64
+fn short_term_exact(stc: bool, code: u64) -> u64
     requires { ⌜ (21 ≤ code) × (code ≤ 24) ⌝ }
-    ensures { λ r. ⌜ r ≡ shortTermExact code ⌝ }
+    ensures { λ r. ⌜ r ≡ shortTermExact (figuresOf stc) code ⌝ }
 {
-    100 * wide(SHORT_TERM[(code - 21) as usize]) * EXACT_PARTS
+    100 * wide(short_term_figure(stc, code)) * EXACT_PARTS
 }
 
 // The exact weight by a code, times EXACT_PARTS; 0 where the code is no rating.
-fn exact_weight(code: u64, senior: bool, months: u64, thickness: u64) -> u64
-    ensures { λ r. ⌜ r ≡ exactWeight ratingTable code senior months thickness ⌝ }
+fn exact_weight(stc: bool, code: u64, senior: bool, months: u64, thickness: u64) -> u64
+    ensures { λ r. ⌜ r ≡ exactWeight (figuresOf stc) code senior months thickness ⌝ }
 {
     if long_term(code) {
-        return long_term_exact(code, senior, maturity_fifths(months), thickness);
+        return long_term_exact(stc, code, senior, maturity_fifths(months), thickness);
     }
     if short_term(code) {
-        return short_term_exact(code);
+        return short_term_exact(stc, code);
     }
     0
 }
 
-// The weight by one rating, rounded up once; 0 where the code is no rating.
-pub fn weight_by_rating(code: u64, senior: bool, months: u64, thickness: u64) -> u64
-    ensures { λ r. ⌜ r ≡ weightByRating ratingTable code senior months thickness ⌝ }
+// The weight by one rating, by the STC mark of its deal, rounded up once; 0 where the code is no rating.
+pub fn weight_by_rating(stc: bool, code: u64, senior: bool, months: u64, thickness: u64) -> u64
+    ensures { λ r. ⌜ r ≡ weightByRating (figuresOf stc) code senior months thickness ⌝ }
 {
-    rounded_up(exact_weight(code, senior, months, thickness), EXACT_PARTS)
+    rounded_up(
+        exact_weight(stc, code, senior, months, thickness),
+        EXACT_PARTS,
+    )
 }
 
 // The weight by three ratings, of which the highest counts; 0 where none is present.
 pub fn weight_by_ratings(
+    stc: bool,
     first: u64,
     second: u64,
     third: u64,
@@ -106,10 +152,10 @@ pub fn weight_by_ratings(
     months: u64,
     thickness: u64,
 ) -> u64
-    ensures { λ r. ⌜ r ≡ weightByRatings ratingTable first second third senior months thickness ⌝ }
+    ensures { λ r. ⌜ r ≡ weightByRatings (figuresOf stc) first second third senior months thickness ⌝ }
 {
-    let a = weight_by_rating(first, senior, months, thickness);
-    let b = weight_by_rating(second, senior, months, thickness);
-    let c = weight_by_rating(third, senior, months, thickness);
+    let a = weight_by_rating(stc, first, senior, months, thickness);
+    let b = weight_by_rating(stc, second, senior, months, thickness);
+    let c = weight_by_rating(stc, third, senior, months, thickness);
     larger(a, larger(b, c))
 }

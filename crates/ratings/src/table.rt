@@ -1,6 +1,8 @@
-// The rating table of CRE42 in percent, a row for each grade from AAA down: senior 1 year, senior 5 years, non-senior 1 year, non-senior 5 years.
-// It is written to memory at each use, which takes fewer steps with figures of 16 bits than with larger ones.
-pub const FIGURES: [[u16; 4]; 18] = [
+// The figures of CRE42 in percent. A table has a row for each grade from AAA down: senior 1 year, senior 5 years, non-senior 1 year, non-senior 5 years.
+// A constant is written to memory at each use, which takes fewer steps with figures of 16 bits than with larger ones.
+
+// Table 2.
+pub const LONG_TERM: [[u16; 4]; 18] = [
     [15, 20, 15, 70],
     [15, 30, 15, 90],
     [25, 40, 30, 120],
@@ -21,5 +23,30 @@ pub const FIGURES: [[u16; 4]; 18] = [
     [1250, 1250, 1250, 1250],
 ];
 
-// The figures of the short-term grades 21 to 24, in percent.
+// Table 1: the short-term grades 21 to 24.
 pub const SHORT_TERM: [u16; 4] = [15, 50, 100, 1250];
+
+// Table 4, of STC deals.
+pub const STC_LONG_TERM: [[u16; 4]; 18] = [
+    [10, 10, 15, 40],
+    [10, 15, 15, 55],
+    [15, 20, 15, 70],
+    [15, 25, 25, 80],
+    [20, 30, 35, 95],
+    [30, 40, 60, 135],
+    [35, 40, 95, 170],
+    [45, 55, 150, 225],
+    [55, 65, 180, 255],
+    [70, 85, 270, 345],
+    [120, 135, 405, 500],
+    [135, 155, 535, 655],
+    [170, 195, 645, 740],
+    [225, 250, 810, 855],
+    [280, 305, 945, 945],
+    [340, 380, 1015, 1015],
+    [415, 455, 1250, 1250],
+    [1250, 1250, 1250, 1250],
+];
+
+// Table 3, of STC deals: the short-term grades 21 to 24.
+pub const STC_SHORT_TERM: [u16; 4] = [10, 30, 60, 1250];

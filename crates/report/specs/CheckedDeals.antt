@@ -14,7 +14,7 @@ use Rattle.formula.specs.FixedPoint.{rawWeight}
 use Rattle.series.specs.Ends.{lowerExponent, upperExponent, Difference, upperEnd, lowerEnd, Passes}
 use Rattle.formula.specs.Formula.{RawWeightNumbers}
 use Rattle.series.specs.Fraction.{Fraction, plus, whole}
-use Rattle.ratings.specs.RatingTable.{ratingTable, maturityFifths, weightByRating}
+use Rattle.ratings.specs.RatingTable.{ordinaryFigures, maturityFifths, weightByRating}
 use Rattle.weights.specs.ApproachFloorCap.{approach, parameter}
 use Rattle.charge.specs.PoolCharge.{baseCharge, lateShare, poolAverage}
 use Rattle.pool.specs.PoolSums.{poolSums}
@@ -166,10 +166,10 @@ checks =
     eqb (maturityFifths 72) 300 ∷
     eqb (maturityFifths 1200) 300 ∷
     -- "Senior AA, 36 months: 3,100." AA has the code 3; the thickness, here 0 and 1, does not count.
-    eqb (weightByRating ratingTable 3 true 36 0) 3100 ∷
-    eqb (weightByRating ratingTable 3 true 36 1000000) 3100 ∷
+    eqb (weightByRating ordinaryFigures 3 true 36 0) 3100 ∷
+    eqb (weightByRating ordinaryFigures 3 true 36 1000000) 3100 ∷
     -- "Non-senior A+, 12 months, half thick: 4,000." A+ has the code 5.
-    eqb (weightByRating ratingTable 5 false 12 500000) 4000 ∷
+    eqb (weightByRating ordinaryFigures 5 false 12 500000) 4000 ∷
     -- "Senior AAA over loans of 10%: 1,000."
     acceptedAt cappedSheet 8000 ∷
     firstLine cappedSheet (1 ∷ 0 ∷ 1000000 ∷ 1000 ∷ 100 ∷ 8 ∷ []) ∷

@@ -1,7 +1,7 @@
--- Which weight a tranche has by each approach, and what it depends on in a re-securitisation; that the parameter is one for which the formula is computed;
--- that no weight is above 125,000 (1250%), neither the formula's raw weight, nor the table's, nor either after floor and cap; and where a tranche of no
--- thickness lies. No axioms.
-use mathlib.Core.Bool.{Bool, true, false}
+-- Which weight a tranche has by each approach, and what it depends on in a re-securitisation; what a deal without an STC mark has; that the parameter is one for
+-- which the formula is computed; that no weight is above 125,000 (1250%), neither the formula's raw weight, nor the table's, nor either after floor and cap; and
+-- where a tranche of no thickness lies. No axioms.
+use mathlib.Core.Bool.{Bool, true, false, cond}
 use mathlib.Core.Logic.{⊎-elim}
 use mathlib.Core.Path.{_≡_, refl, _∙_}
 use Prim.Native.Nat.{ℕ, _-_, _≤_, _<_}
@@ -14,8 +14,8 @@ use Rattle.formula.specs.Formula.{WithinLimits}
 use Rattle.formula.specs.FixedPoint.{withinLimits, rawWeight}
 use Rattle.formula.proofs.RawWeightLaw.{raw-weight-is}
 use Rattle.formula.proofs.Limits.{limits-of-test}
-use Rattle.ratings.specs.RatingTable.{ratingTable}
-use Rattle.ratings.proofs.TableLaws.{weight-by-ratings-at-most}
+use Rattle.ratings.specs.RatingTable.{ordinaryFigures, figuresOf, weightByRatings}
+use Rattle.ratings.proofs.TableLaws.{figures-at-most, weight-by-ratings-at-most}
 use Rattle.weights.specs.ApproachFloorCap.{approach, formulaApproach, byFormula, parameter, floor, capApplies, afterFloorAndCap, weightOrHighest, formulaRawWeight, tableWeight, weight, WeightByFormula, thin}
 use Rattle.weights.specs.declared.Terms.{Terms}
 use Rattle.weights.specs.declared.Tranche.{Tranche}
@@ -26,7 +26,7 @@ pub fallback-weight : (t : Tranche) (d : Terms) → approach t d ≡ 0 → weigh
 unfolding weight
 fallback-weight t d by = simp by (omega arith)
 
-pub table-weighs : (t : Tranche) (d : Terms) → approach t d ≡ 1 → weight t d ≡ afterFloorAndCap t d (tableWeight t)
+pub table-weighs : (t : Tranche) (d : Terms) → approach t d ≡ 1 → weight t d ≡ afterFloorAndCap t d (tableWeight t d)
 unfolding weight
 table-weighs t d by = simp by
 
@@ -62,6 +62,27 @@ ratings-not-used t t′ d r same-attachment same-detachment same-senior = (simp 
     by-diligence true e = simp (r, e, same-attachment, same-detachment, same-senior)
     by-diligence false e = simp (r, e)
 
+-- ---- the STC mark
+
+-- a deal without it has the parameter, the floor and the table weight of 01
+pub unmarked-parameter : (t : Tranche) (d : Terms) → d .stc ≡ false → parameter t d ≡ cond (d .resecuritisation) 1500000 1000000
+unmarked-parameter t d e = simp e
+
+pub unmarked-floor : (t : Tranche) (d : Terms) → d .stc ≡ false → floor t d ≡ cond (d .resecuritisation) 10000 1500
+unmarked-floor t d e = simp e
+
+pub unmarked-table-weight :
+    (t : Tranche) (d : Terms) → d .stc ≡ false →
+    tableWeight t d ≡
+    weightByRatings ordinaryFigures (t .first) (t .second) (t .third) (t .senior) (t .months) (t .detachment - t .attachment)
+unfolding tableWeight
+unmarked-table-weight t d e = simp e
+
+-- a re-securitisation takes nothing from it: the parameter and the floor are those of re-securitisations, and its ratings are not used
+pub resecuritisation-first :
+    (t : Tranche) (d : Terms) → d .resecuritisation ≡ true → (parameter t d ≡ 1500000) × (floor t d ≡ 10000)
+resecuritisation-first t d e = (simp e, simp e)
+
 -- ---- the supervisory parameter
 
 -- it is among those of `WithinLimits` (Formula.antt of `formula`)
@@ -69,7 +90,10 @@ pub parameter-within : (t : Tranche) (d : Terms) → (300000 ≤ parameter t d) 
 parameter-within t d =
     at-cond (λ p. (300000 ≤ p) × (p < 5000000)) (d .resecuritisation) _ _
     (λ _. (omega arith, omega arith))
+    (λ _.
+    at-cond (λ p. (300000 ≤ p) × (p < 5000000)) (d .stc) _ _
     (λ _. (omega arith, omega arith))
+    (λ _. (omega arith, omega arith)))
 
 -- ---- no weight is above 125,000
 
@@ -113,13 +137,20 @@ raw-weight-at-most t d =
     number-at-most (t .attachment) (t .detachment) (d .charge) p
     (withinLimits (t .attachment) (t .detachment) (d .charge) p) refl
 
-pub table-weight-at-most : (t : Tranche) → tableWeight t ≤ 125000
+pub table-weight-at-most : (t : Tranche) (d : Terms) → tableWeight t d ≤ 125000
 unfolding tableWeight
-table-weight-at-most t =
-    weight-by-ratings-at-most ratingTable tt (t .first) (t .second) (t .third) (t .senior) (t .months) (t .detachment - t .attachment)
+table-weight-at-most t d =
+    weight-by-ratings-at-most (figuresOf (d .stc)) (figures-at-most (d .stc))
+    (t .first) (t .second) (t .third) (t .senior) (t .months) (t .detachment - t .attachment)
 
 floor-at-most : (t : Tranche) (d : Terms) → floor t d ≤ 125000
-floor-at-most t d = at-cond (λ x. x ≤ 125000) (d .resecuritisation) _ _ (λ _. omega arith) (λ _. omega arith)
+floor-at-most t d =
+    at-cond (λ x. x ≤ 125000) (d .resecuritisation) _ _
+    (λ _. omega arith)
+    (λ _.
+    at-cond (λ x. x ≤ 125000) (d .stc) _ _
+    (λ _. at-cond (λ x. x ≤ 125000) (t .senior) _ _ (λ _. omega arith) (λ _. omega arith))
+    (λ _. omega arith))
 
 pub after-floor-and-cap-at-most : (t : Tranche) (d : Terms) (w : ℕ) → w ≤ 125000 → afterFloorAndCap t d w ≤ 125000
 after-floor-and-cap-at-most t d w h =
@@ -135,7 +166,7 @@ weight-at-most t d =
     (λ _.
     at-cond (λ x. x ≤ 125000) (byFormula t d) _ _
     (λ _. after-floor-and-cap-at-most t d (formulaRawWeight t d) (raw-weight-at-most t d))
-    (λ _. after-floor-and-cap-at-most t d (tableWeight t) (table-weight-at-most t)))
+    (λ _. after-floor-and-cap-at-most t d (tableWeight t d) (table-weight-at-most t d)))
 
 -- ---- thickness
 

@@ -1,6 +1,6 @@
--- 01, "Which approach, then floor, then cap" (d374 paragraph 31 for due diligence, 42 to 47 for the order of approaches, which CRE40.41 to CRE40.47
--- give; 85 and 94 for the parameter, 87 and 96 for the floor, 88, 89 and 97 for the cap): approach and weight of a tranche, as functions of the
--- tranche's own inputs and of the deal's terms alone. Weights are counted in hundredths of a percent.
+-- 01, "Which approach, then floor, then cap", and S-1 of 02, "STC deals" (d374 paragraph 31 for due diligence, 42 to 47 for the order of approaches, which
+-- CRE40.41 to CRE40.47 give; 85 and 94 for the parameter, 87 and 96 for the floor, 88, 89 and 97 for the cap; CRE42.14 for the floors of STC deals): approach
+-- and weight of a tranche, as functions of the tranche's own inputs and of the deal's terms alone. Weights are counted in hundredths of a percent.
 use mathlib.Core.Bool.{Bool, cond, not, _&&_, _||_}
 use mathlib.Core.Option.{Option·getD}
 use mathlib.Core.Path.{_≡_}
@@ -9,7 +9,7 @@ use lib.Dec.{ltb, eqb}
 use Rattle.formula.specs.FixedPoint.{rawWeight}
 use Rattle.formula.specs.Formula.{RawWeightNumbers, IsRawWeight}
 use Rattle.rating_codes.specs.RatingCodes.{present}
-use Rattle.ratings.specs.RatingTable.{ratingTable, weightByRatings}
+use Rattle.ratings.specs.RatingTable.{figuresOf, weightByRatings}
 use Rattle.weights.specs.declared.Terms.{Terms}
 use Rattle.weights.specs.declared.Tranche.{Tranche}
 
@@ -39,12 +39,13 @@ byFormula t d = formulaApproach (approach t d)
 
 -- ---- weight
 
--- "An ordinary securitisation has supervisory parameter 1 and floor 1,500; a re-securitisation has 1.5 and 10,000."
+-- "An ordinary securitisation has supervisory parameter 1 and floor 1,500; a re-securitisation has 1.5 and 10,000." "STC deals use ... parameter 0.5,
+-- floor 1,000 for class 1 and 1,500 below." "The exact value is then taken with 0.5.": demand 3 reads this parameter
 abbrev pub parameter : Tranche → Terms → ℕ
-parameter t d = cond (d .resecuritisation) 1500000 1000000
+parameter t d = cond (d .resecuritisation) 1500000 (cond (d .stc) 500000 1000000)
 
 abbrev pub floor : Tranche → Terms → ℕ
-floor t d = cond (d .resecuritisation) 10000 1500
+floor t d = cond (d .resecuritisation) 10000 (cond (d .stc) (cond (t .senior) 1000 1500) 1500)
 
 -- "The cap applies to class 1 of an ordinary deal with known composition"
 abbrev pub capApplies : Tranche → Terms → Bool
@@ -64,9 +65,10 @@ weightOrHighest n = Option·getD (n .weight) 125000
 unfoldable pub formulaRawWeight : Tranche → Terms → ℕ
 formulaRawWeight t d = weightOrHighest (rawWeight (t .attachment) (t .detachment) (d .charge) (parameter t d))
 
-unfoldable pub tableWeight : Tranche → ℕ
-tableWeight t =
-    weightByRatings ratingTable (t .first) (t .second) (t .third) (t .senior) (t .months)
+-- "STC deals use the second table of source document 001"
+unfoldable pub tableWeight : Tranche → Terms → ℕ
+tableWeight t d =
+    weightByRatings (figuresOf (d .stc)) (t .first) (t .second) (t .third) (t .senior) (t .months)
     (t .detachment - t .attachment)
 
 -- "The fallback is 125,000 with no cap"
@@ -74,7 +76,7 @@ unfoldable pub weight : Tranche → Terms → ℕ
 weight t d =
     cond (eqb (approach t d) 0) 125000
     (cond (byFormula t d) (afterFloorAndCap t d (formulaRawWeight t d))
-    (afterFloorAndCap t d (tableWeight t)))
+    (afterFloorAndCap t d (tableWeight t d)))
 
 -- What a weight by the formula keeps: it is an answer of the formula, by `IsRawWeight`, after floor and cap. Where K is at least 1 and D above K this
 -- limits the raw weight, which the rules leave open, and says how; elsewhere it settles it.

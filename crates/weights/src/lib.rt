@@ -7,11 +7,13 @@ use numbers::excess;
 use numbers::larger;
 use numbers::smaller;
 
-// What the tranches of a deal share: whether due diligence is held, whether it is a re-securitisation, whether the pool's composition is known,
-// whether the status of its rows is known but for up to 5% of exposure, its charge in millionths, and its average risk weight.
+// What the tranches of a deal share: whether due diligence is held, whether it is a re-securitisation, whether it is simple, transparent and
+// comparable (STC), whether the pool's composition is known, whether the status of its rows is known but for up to 5% of exposure, its charge in
+// millionths, and its average risk weight.
 pub struct Terms {
     pub diligence: bool,
     pub resecuritisation: bool,
+    pub stc: bool,
     pub composition: bool,
     pub known: bool,
     pub charge: u64,
@@ -30,11 +32,21 @@ pub struct Tranche {
     pub third: u64,
 }
 
-// The kinds of deal, with supervisory parameter in millionths and floor in hundredths of a percent.
+// The kinds of deal, with supervisory parameter in millionths and floor in hundredths of a percent; class 1 of an STC deal has a floor of its own.
 struct Ordinary {}
 
 impl Ordinary {
     const PARAMETER: u64 = 1000000;
+
+    const FLOOR: u64 = 1500;
+}
+
+struct Stc {}
+
+impl Stc {
+    const PARAMETER: u64 = 500000;
+
+    const SENIOR_FLOOR: u64 = 1000;
 
     const FLOOR: u64 = 1500;
 }
@@ -94,21 +106,28 @@ fn parameter(t: Tranche, d: Terms) -> u64
     ensures { λ r. ⌜ r ≡ parameter t d ⌝ }
 {
     if d.resecuritisation {
-        Resecuritisation::PARAMETER
-    } else {
-        Ordinary::PARAMETER
+        return Resecuritisation::PARAMETER;
     }
+    if d.stc {
+        return Stc::PARAMETER;
+    }
+    Ordinary::PARAMETER
 }
 
-// The floor, by the deal's kind.
+// The floor, by the deal's kind, and in an STC deal by the class.
 fn floor(t: Tranche, d: Terms) -> u64
     ensures { λ r. ⌜ r ≡ floor t d ⌝ }
 {
     if d.resecuritisation {
-        Resecuritisation::FLOOR
-    } else {
-        Ordinary::FLOOR
+        return Resecuritisation::FLOOR;
     }
+    if d.stc {
+        if t.senior {
+            return Stc::SENIOR_FLOOR;
+        }
+        return Stc::FLOOR;
+    }
+    Ordinary::FLOOR
 }
 
 // Whether the senior cap applies.
@@ -147,11 +166,12 @@ fn formula_raw_weight(t: Tranche, d: Terms) -> u64
     }
 }
 
-// The rating table's weight.
-fn table_weight(t: Tranche) -> u64
-    ensures { λ r. ⌜ r ≡ tableWeight t ⌝ }
+// The weight by the rating table of the deal's kind.
+fn table_weight(t: Tranche, d: Terms) -> u64
+    ensures { λ r. ⌜ r ≡ tableWeight t d ⌝ }
 {
     ratings::weight_by_ratings(
+        d.stc,
         t.first,
         t.second,
         t.third,
@@ -173,7 +193,7 @@ pub fn weight(t: Tranche, d: Terms) -> u64
     if formula_approach(by) {
         return after_floor_and_cap(t, d, formula_raw_weight(t, d));
     }
-    after_floor_and_cap(t, d, table_weight(t))
+    after_floor_and_cap(t, d, table_weight(t, d))
 }
 
 // Whether the formula applies to a tranche of no thickness above the pool charge.

@@ -7,7 +7,7 @@ use tranche_weights::LINE_WORDS;
 /// Count and charge, or else number and place of the refusal.
 type Outcome = Result<(u64, u64), (u64, u64)>;
 
-/// Holds the proved and the plain answer to what document 01 admits, as the exact version lists it. A proved answer
+/// Holds the proved and the plain answer to what the papers admit, as the exact version lists it. A proved answer
 /// outside that is an error; a plain one is a remark.
 pub fn check(name: &str, sheet: &[u64]) -> Result<Option<String>, String> {
     let admitted = independent::weigh(sheet, ROOM as u64);

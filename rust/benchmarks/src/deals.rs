@@ -5,8 +5,11 @@ use tranche_weights::{MOST_ROWS, MOST_TRANCHES, ROW_WORDS, TRANCHE_WORDS};
 /// Result words for the most tranches that a sheet can hold.
 pub const ROOM: usize = tranche_weights::RESULT_WORDS;
 
-/// Ordinary deal of an SA pool, due diligence held, pool composition known.
-const FACTS: &[u64] = &[0, 0, 1, 1];
+/// Facts of an ordinary deal of an SA pool, due diligence held, pool composition known.
+const ORDINARY: &[u64] = &[0, 0, 1, 1];
+
+/// The same with the STC mark.
+const STC: &[u64] = &[0, 0, 1, 1, 1];
 
 /// A row of the pool: exposure amount, nominal amount, risk weight, status.
 type Row = [u64; ROW_WORDS];
@@ -15,10 +18,12 @@ type Row = [u64; ROW_WORDS];
 type Tranche = [u64; TRANCHE_WORDS];
 
 /// The sheets on which the versions are compared, with their names in the table.
-pub fn compared() -> [(&'static str, Vec<u64>); 6] {
+pub fn compared() -> [(&'static str, Vec<u64>); 8] {
     [
         ("small: 3 rows, 3 tranches, one unrated", small()),
         ("small, all tranches rated", small_rated()),
+        ("small STC deal: 3 rows, 3 tranches, one unrated", small_stc()),
+        ("small STC deal, all tranches rated", small_stc_rated()),
         ("large: 1,000 rows, 32 tranches", large()),
         ("large, refused at its last word", large_refused()),
         ("formula: 3 rows, 32 SEC-SA tranches, 3 millionths each", thin()),
@@ -32,12 +37,22 @@ pub fn compared() -> [(&'static str, Vec<u64>); 6] {
 /// The shape of document 01's checked deal, with a junior tranche that is unrated and reaches above the pool charge, so
 /// that its weight needs the exponential.
 pub fn small() -> Vec<u64> {
-    sheet(&few_rows(100), &three_tranches(1_000_000_000, 0))
+    sheet(ORDINARY, &few_rows(100), &three_tranches(1_000_000_000, 0))
 }
 
 /// The same, but the junior tranche has a rating.
 fn small_rated() -> Vec<u64> {
-    sheet(&few_rows(100), &three_tranches(1_000_000_000, 14))
+    sheet(ORDINARY, &few_rows(100), &three_tranches(1_000_000_000, 14))
+}
+
+/// The small deal as an STC deal: half the parameter, and the second rating table.
+fn small_stc() -> Vec<u64> {
+    sheet(STC, &few_rows(100), &three_tranches(1_000_000_000, 0))
+}
+
+/// The same, but the junior tranche has a rating.
+fn small_stc_rated() -> Vec<u64> {
+    sheet(STC, &few_rows(100), &three_tranches(1_000_000_000, 14))
 }
 
 /// The most rows and tranches; two tranches to a class here and there, and every second one unrated.
@@ -60,7 +75,7 @@ pub fn large() -> Vec<u64> {
         ]
     };
     let tranches: Vec<Tranche> = (0..MOST_TRANCHES as u64).map(tranche).collect();
-    sheet(&rows, &tranches)
+    sheet(ORDINARY, &rows, &tranches)
 }
 
 /// The large deal with a last word that is no rating code.
@@ -74,25 +89,25 @@ fn large_refused() -> Vec<u64> {
 /// Tranches of three millionths of the pool, all above the pool charge, so that each weight needs two exponentials that
 /// lie close together. The risk weights are high, so that the weights lie above the floor.
 fn thin() -> Vec<u64> {
-    sheet(&few_rows(500), &unrated_tranches(MOST_TRANCHES as u64, 3_000))
+    sheet(ORDINARY, &few_rows(500), &unrated_tranches(MOST_TRANCHES as u64, 3_000))
 }
 
 /// The same pool with the given number of such tranches, but each a hundredth of the pool. Much thinner tranches, and points
 /// very far above the charge, take the proved formula less time.
 pub fn with_tranches(count: u64) -> Vec<u64> {
-    sheet(&few_rows(500), &unrated_tranches(count, 10_000_000))
+    sheet(ORDINARY, &few_rows(500), &unrated_tranches(count, 10_000_000))
 }
 
 /// A pool of the given number of rows, with three tranches.
 pub fn with_rows(count: u64) -> Vec<u64> {
     let rows = rows(count);
-    sheet(&rows, &three_tranches(nominal(&rows), 0))
+    sheet(ORDINARY, &rows, &three_tranches(nominal(&rows), 0))
 }
 
-/// The sheet of the given rows.
-fn sheet(rows: &[Row], tranches: &[Tranche]) -> Vec<u64> {
-    let sections = [FACTS, rows.as_flattened(), tranches.as_flattened()];
-    let counts = [FACTS.len(), rows.len(), tranches.len()].map(|count| [count as u64]);
+/// The sheet of the given facts and rows.
+fn sheet(facts: &[u64], rows: &[Row], tranches: &[Tranche]) -> Vec<u64> {
+    let sections = [facts, rows.as_flattened(), tranches.as_flattened()];
+    let counts = [facts.len(), rows.len(), tranches.len()].map(|count| [count as u64]);
     let counted = counts.iter().zip(sections);
     counted.flat_map(|(count, words)| [count, words].concat()).collect()
 }
@@ -157,15 +172,29 @@ mod tests {
         line.approach == Approach::SecSa.word() && charge >= 1 && line.detachment > charge
     }
 
-    /// The unrated tranche takes the formula.
+    /// The unrated tranche takes the formula, with and without the STC mark.
     #[test]
     fn small_deals_are_as_named() {
-        let small = deal(&small());
-        let approaches: Vec<Approach> = small.lines.iter().map(|line| line.approach.into()).collect();
-        assert_eq!(approaches, [Approach::SecErba, Approach::SecErba, Approach::SecSa]);
-        assert!(needs_formula(&small.lines[2], small.charge));
+        for small in [small(), small_stc()] {
+            let small = deal(&small);
+            let approaches: Vec<Approach> = small.lines.iter().map(|line| line.approach.into()).collect();
+            assert_eq!(approaches, [Approach::SecErba, Approach::SecErba, Approach::SecSa]);
+            assert!(needs_formula(&small.lines[2], small.charge));
+        }
         let rated = |line: &Line| line.approach == Approach::SecErba.word();
-        assert!(deal(&small_rated()).lines.iter().all(rated));
+        for all_rated in [small_rated(), small_stc_rated()] {
+            assert!(deal(&all_rated).lines.iter().all(rated));
+        }
+    }
+
+    /// With the STC mark every weight of the small deals is lower.
+    #[test]
+    fn stc_deals_weigh_less() {
+        for (marked, unmarked) in [(small_stc(), small()), (small_stc_rated(), small_rated())] {
+            let (marked, unmarked) = (deal(&marked), deal(&unmarked));
+            let mut lines = marked.lines.iter().zip(&unmarked.lines);
+            assert!(lines.all(|(one, other)| one.amounts[0].weight < other.amounts[0].weight));
+        }
     }
 
     /// Half of the tranches are rated; the damage is found at the last word and not before.

@@ -39,7 +39,7 @@ fn main() -> ExitCode {
     }
 }
 
-/// Prints all parts in order. An answer of the proved version that document 01 does not admit ends the run.
+/// Prints all parts in order. An answer of the proved version that the papers do not admit ends the run.
 fn run(plan: &Plan) -> Result<(), String> {
     println!("{}", machine::description());
     compare(plan)?;
@@ -73,7 +73,7 @@ fn compare(plan: &Plan) -> Result<(), String> {
     println!("Ratios: of the medians; in brackets the quartiles of the ratio round by round.\n");
     let head = ["sheet", "proved", "plain", "exact", "proved/plain", "proved/exact"];
     print!("{}", table(&head, &lines));
-    println!("\nThe proved answers are all among those that document 01 admits.");
+    println!("\nThe proved answers are all among those that the papers admit.");
     if remarks.is_empty() {
         println!("So are the plain ones, on these sheets.");
     }

@@ -1,5 +1,5 @@
-//! The numbers of an answer, by "The deal sheet" and "Refusals, by who can cause them" of document 01: the words of a
-//! line, the approaches, the refusals.
+//! The numbers of an answer, by "The deal sheet" and "Refusals, by who can cause them" of document 01 and by S-1: the
+//! words of a line, the approaches, the refusals.
 
 use crate::sheet::TRANCHES;
 
@@ -66,15 +66,40 @@ impl Approach {
 
 /// The refusals, by number.
 pub mod refusal {
+    /// A needed word is missing.
+    pub const MISSING: u64 = 1;
+    /// A count is outside its limits.
+    pub const COUNT: u64 = 2;
+    /// A fact is outside its codes.
+    pub const FACT: u64 = 4;
     /// SEC-SA applies, A equals D, and D is above the pool charge.
     pub const THIN: u64 = 13;
     /// Results shorter than the lines.
     pub const ROOM: u64 = 14;
     /// A file's length is no multiple of a word's bytes, or above the longest.
     pub const FILE_LENGTH: u64 = 15;
+    /// An STC mark on a re-securitisation.
+    pub const STC_RESECURITISATION: u64 = 16;
 
     /// The numbers that a run must meet.
-    pub const MET: &[u64] = &[1, 2, 3, 4, 5, 6, 7, 8, 9, 10, 11, 12, THIN, ROOM, FILE_LENGTH];
+    pub const MET: &[u64] = &[
+        MISSING,
+        COUNT,
+        3,
+        FACT,
+        5,
+        6,
+        7,
+        8,
+        9,
+        10,
+        11,
+        12,
+        THIN,
+        ROOM,
+        FILE_LENGTH,
+        STC_RESECURITISATION,
+    ];
 
     /// The place of a number in the list.
     pub fn place(number: u64) -> usize {
@@ -115,7 +140,8 @@ mod tests {
         assert!((0..)
             .zip(refusal::MET)
             .all(|(place, &number)| refusal::place(number) == place));
-        assert!(!refusal::is_of_words(0) && refusal::is_of_words(1) && refusal::is_of_words(refusal::THIN));
+        let of_words = [refusal::MISSING, refusal::THIN, refusal::STC_RESECURITISATION];
+        assert!(!refusal::is_of_words(0) && of_words.into_iter().all(refusal::is_of_words));
         assert!(!refusal::is_of_words(refusal::ROOM) && !refusal::is_of_words(refusal::FILE_LENGTH));
     }
 }

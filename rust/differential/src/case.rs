@@ -6,7 +6,7 @@ use crate::kind::{File, Kind, Relation, Room};
 use crate::limits;
 use crate::pool;
 use crate::random::Random;
-use crate::sheet::{file_form, Deal, Fact, Facts, FILE_BYTES, WORD_BYTES};
+use crate::sheet::{file_form, Deal, Fact, Facts, Layout, FACTS, FEWEST_FACTS, FILE_BYTES, WORD_BYTES};
 use crate::tranches;
 
 /// One sheet of a run. It is made from seed and index alone; making another one reuses its lists.
@@ -71,20 +71,24 @@ impl Case {
         self.deal.write(&mut self.sheet);
         self.room_kind = Room::draw(&mut random);
         self.room = self.room_kind.words(LINE_WORDS * self.deal.tranches.len(), &mut random);
-        self.relation = Relation::Unused;
-        if self.kind.is_sound() {
-            self.make_second(&mut random);
-        } else {
+        if !self.kind.is_sound() {
             damage::apply(self.kind, &mut random, self.deal.layout(), &mut self.sheet);
         }
+        self.make_second(&mut random);
         self.make_file(&mut random);
     }
 
-    /// Makes the second sheet of a sound one.
+    /// Makes the second sheet. A fact is added to damaged sheets too; the other second sheets are made of sound ones.
     fn make_second(&mut self, random: &mut Random) {
-        self.relation = Relation::draw(random);
+        let drawn = Relation::draw(random);
+        let possible = match drawn {
+            Relation::FactAdded => takes_fact(&self.sheet),
+            _ => self.kind.is_sound(),
+        };
+        self.relation = if possible { drawn } else { Relation::Unused };
         match self.relation {
             Relation::Unused => return,
+            Relation::FactAdded => return add_fact(&self.sheet, &mut self.second),
             Relation::RowOrder => random.shuffle(&mut self.deal.rows),
             Relation::OtherRatings => {
                 self.rerated = random.below(self.deal.tranches.len() as u64) as usize;
@@ -95,9 +99,12 @@ impl Case {
         self.deal.write(&mut self.second);
     }
 
-    /// Makes the file, and spoils its length where its sort says so.
+    /// Makes the file, and spoils its length where its sort says so. Of the largest sheet there always is one.
     fn make_file(&mut self, random: &mut Random) {
-        self.file_kind = File::draw(random);
+        self.file_kind = match self.sheet.len() == Layout::LARGEST.words() {
+            true => random.pick(&[File::Whole, File::Whole, File::Stretched]),
+            false => File::draw(random),
+        };
         self.file.clear();
         if self.file_kind == File::Unused {
             return;
@@ -111,6 +118,20 @@ impl Case {
         };
         self.file.resize(length, random.below(256) as u8);
     }
+}
+
+/// Whether a sheet can state one fact more: it states fewer than the most and has all of those.
+fn takes_fact(sheet: &[u64]) -> bool {
+    let stated = sheet.first().copied().unwrap_or(0);
+    (FEWEST_FACTS..FACTS).contains(&stated) && sheet.len() > stated as usize
+}
+
+/// Writes the sheet with one fact more, of 0, over what the list holds.
+fn add_fact(sheet: &[u64], words: &mut Vec<u64>) {
+    words.clear();
+    words.extend(sheet);
+    words[Layout::FACTS_COUNT] += 1;
+    words.insert(words[Layout::FACTS_COUNT] as usize, 0);
 }
 
 /// A length about that of the longest file: half of the time in whole words, from one word less to one more; now and
@@ -128,15 +149,30 @@ fn fill_deal(kind: Kind, random: &mut Random, deal: &mut Deal) {
     if kind == Kind::Limits {
         return limits::fill(random, deal);
     }
-    let resecuritisation = match kind {
-        Kind::Resecuritisation => true,
-        Kind::Ordinary | Kind::UnknownShare | Kind::AllUnknown | Kind::AllDelinquent => false,
-        _ => random.once_in(5),
-    };
-    deal.facts = Facts::default();
-    deal.facts[Fact::Resecuritisation] = u64::from(resecuritisation);
-    deal.facts[Fact::DueDiligence] = u64::from(!random.once_in(12));
-    deal.facts[Fact::Composition] = random.below(2);
+    deal.facts = facts(kind, random);
     pool::fill(kind, random, deal);
     tranches::fill(kind, random, deal);
+}
+
+/// Draws the facts of a deal of a sound kind. A mark of 0 is stated half of the time.
+fn facts(kind: Kind, random: &mut Random) -> Facts {
+    let resecuritisation = match kind {
+        Kind::Resecuritisation => true,
+        Kind::Ordinary | Kind::Stc | Kind::HalfThick => false,
+        Kind::UnknownShare | Kind::AllUnknown | Kind::AllDelinquent => false,
+        _ => random.once_in(5),
+    };
+    let stc = match kind {
+        Kind::Ordinary => false,
+        Kind::Stc => true,
+        _ => !resecuritisation && random.once_in(3),
+    };
+    let mut facts = Facts::default();
+    facts[Fact::Resecuritisation] = u64::from(resecuritisation);
+    facts[Fact::DueDiligence] = u64::from(!random.once_in(12));
+    facts[Fact::Composition] = random.below(2);
+    if stc || random.once_in(2) {
+        facts[Fact::Stc] = u64::from(stc);
+    }
+    facts
 }

@@ -47,10 +47,11 @@ fn check_second(
         Relation::OtherRatings => second::compare_other_ratings(library, case, lent)?,
         Relation::WithoutCap => expected.as_ref().is_ok_and(|deal| {
             if second::cap_decided(deal, case) {
-                tally.note_cap();
+                tally.note_cap(&case.sheet);
             }
             true
         }),
+        Relation::FactAdded => second::compare_fact_added(library, case, lent).map(|()| true)?,
     };
     if compared {
         tally.note_second(case.relation);

@@ -3,8 +3,8 @@
 use crate::kind::Kind;
 use crate::random::Random;
 use crate::sheet::{
-    status, Fact, Facts, Layout, RowWord, TrancheWord, FACTS, LONG_TERM, MONTHS, POOL_AMOUNT, RISK_WEIGHT, ROWS,
-    SHORT_TERM, TRANCHES, TRANCHE_AMOUNT,
+    status, Fact, Facts, Layout, RowWord, TrancheWord, FACTS, FEWEST_FACTS, LONG_TERM, MONTHS, POOL_AMOUNT,
+    RISK_WEIGHT, ROWS, SHORT_TERM, TRANCHES, TRANCHE_AMOUNT,
 };
 
 /// Values at which some field's rule changes, and the ends of 32, 63 and 64 bits.
@@ -13,6 +13,7 @@ const EDGES: &[u64] = &[
     1,
     status::NOT_KNOWN,
     status::TRANCHE,
+    FEWEST_FACTS,
     FACTS,
     FACTS + 1,
     LONG_TERM.1,
@@ -57,6 +58,7 @@ pub fn apply(kind: Kind, random: &mut Random, layout: Layout, words: &mut Vec<u6
         Kind::EdgeWord => set_edge(random, layout, words),
         Kind::Swapped => swap(random, layout, words),
         Kind::PoolKind => set(words, Layout::fact(Fact::PoolKind), random.between(1, 2)),
+        Kind::StcMark => mark_resecuritisation(random, words),
         Kind::SeveralDamages => {
             for _ in 0..random.between(2, 4) {
                 apply(one_damage(random), random, layout, words);
@@ -69,7 +71,7 @@ pub fn apply(kind: Kind, random: &mut Random, layout: Layout, words: &mut Vec<u6
 
 /// One of several damages; those that leave the places as they are come more often.
 fn one_damage(random: &mut Random) -> Kind {
-    let rare = random.pick(&[Kind::Truncated, Kind::WordsAdded, Kind::PoolKind]);
+    let rare = random.pick(&[Kind::Truncated, Kind::WordsAdded, Kind::PoolKind, Kind::StcMark]);
     random.pick(&[Kind::EdgeWord, Kind::EdgeWord, Kind::EdgeWord, Kind::Swapped, rare])
 }
 
@@ -80,10 +82,23 @@ fn set(words: &mut [u64], place: usize, word: u64) {
     }
 }
 
-/// Cuts the sheet anywhere, or where a section begins or ends.
+/// Makes the deal a re-securitisation with an STC mark; now and then with a mark that is no code. A sheet that does not
+/// state the mark gets it, and its later words move by a place.
+fn mark_resecuritisation(random: &mut Random, words: &mut Vec<u64>) {
+    let place = Layout::fact(Fact::Stc);
+    if words.first() == Some(&FEWEST_FACTS) && words.len() >= place {
+        words[Layout::FACTS_COUNT] = FACTS;
+        words.insert(place, 0);
+    }
+    set(words, Layout::fact(Fact::Resecuritisation), 1);
+    set(words, place, random.pick(&[1, 1, 1, 2, u64::MAX]));
+}
+
+/// Cuts the sheet anywhere, or where a section begins or ends, or before the last fact.
 fn truncate(random: &mut Random, layout: Layout, words: &mut Vec<u64>) {
     let around_counts = layout.counts().map(|count| [count, count + 1]);
-    let special = [around_counts.as_flattened(), &[layout.words() - 1]].concat();
+    let before_last = [layout.pool_count() - 1, layout.words() - 1];
+    let special = [around_counts.as_flattened(), &before_last].concat();
     let length = match random.once_in(3) {
         true => random.pick(&special),
         false => random.below(words.len().max(1) as u64) as usize,
@@ -120,7 +135,7 @@ fn own_edges(layout: Layout, place: usize) -> &'static [u64] {
     let of_row = |edges: &[&'static [u64]], first: usize| edges[(place - first) % edges.len()];
     let [facts, pool, tranches] = layout.counts();
     match place {
-        _ if place == facts => &[0, FACTS - 1, FACTS, FACTS + 1],
+        _ if place == facts => &[0, FEWEST_FACTS - 1, FEWEST_FACTS, FACTS, FACTS + 1],
         _ if place < pool => of_row(Fact::EDGES, facts + 1),
         _ if place == pool => &[0, 1, ROWS, ROWS + 1],
         _ if place < tranches => of_row(RowWord::EDGES, pool + 1),
@@ -167,6 +182,9 @@ fn random_words(random: &mut Random, words: &mut Vec<u64>) {
         for fact in [Fact::Resecuritisation, Fact::DueDiligence, Fact::Composition] {
             facts[fact] = random.below(2);
         }
+        if random.once_in(2) {
+            facts[Fact::Stc] = random.below(2 - facts[Fact::Resecuritisation]);
+        }
         facts.write(words);
         words.push(rows);
     }
@@ -192,10 +210,11 @@ mod tests {
             rows: 2,
             tranches: 2,
         };
-        let counts = layout.counts().map(|place| own_edges(layout, place)[2]);
-        assert_eq!(counts, [FACTS, ROWS, TRANCHES]);
-        let fact = own_edges(layout, Layout::fact(Fact::Composition));
-        assert_eq!(fact, Fact::EDGES[Fact::Composition as usize]);
+        let counts = layout.counts().map(|place| own_edges(layout, place));
+        assert_eq!(counts[0], [0, 3, 4, 5, 6]);
+        assert_eq!([counts[1][2], counts[2][2]], [ROWS, TRANCHES]);
+        let fact = own_edges(layout, Layout::fact(Fact::Stc));
+        assert_eq!(fact, Fact::EDGES[Fact::Stc as usize]);
         for row in 0..2 {
             let weight = own_edges(layout, layout.row(row) + RowWord::RiskWeight as usize);
             assert_eq!(weight, [0, RISK_WEIGHT, RISK_WEIGHT + 1]);

@@ -28,6 +28,8 @@ pub enum Part {
     RowOrder,
     /// A line changes with another tranche's ratings.
     OtherRatings,
+    /// The answer changes with a fact of 0 that is stated.
+    FactAdded,
     /// One side stopped with a panic.
     Panic,
 }
@@ -47,6 +49,7 @@ impl fmt::Display for Part {
             Part::Text => "report text",
             Part::RowOrder => "order of rows",
             Part::OtherRatings => "another tranche's ratings",
+            Part::FactAdded => "a fact of 0 added",
             Part::Panic => "a panic",
         })
     }

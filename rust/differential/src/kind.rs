@@ -22,8 +22,10 @@ fn draw<K: Copy>(table: &[Entry<K>], random: &mut Random) -> K {
 /// What a sheet is made to show.
 #[derive(Debug, Clone, Copy, PartialEq, Eq)]
 pub enum Kind {
-    /// An ordinary securitisation of any sort.
+    /// An ordinary securitisation of any sort, without the STC mark.
     Ordinary,
+    /// An STC deal of any sort.
+    Stc,
     /// A re-securitisation of any sort.
     Resecuritisation,
     /// Points at the pool charge or a few millionths beside it.
@@ -44,6 +46,8 @@ pub enum Kind {
     SmallCharge,
     /// Ratings on every tranche.
     Rated,
+    /// Good ratings on tranches about half as thick as the pool, whose weights lie near the senior figures.
+    HalfThick,
     /// Up to 1,000 rows.
     LargePool,
     /// Every word at its lowest or highest allowed value.
@@ -62,12 +66,15 @@ pub enum Kind {
     RandomWords,
     /// Pool kind 1 or 2.
     PoolKind,
+    /// An STC mark on a re-securitisation.
+    StcMark,
 }
 
 impl Kind {
     /// All kinds, in the order of the enum.
-    pub const TABLE: [Entry<Kind>; 20] = [
+    pub const TABLE: [Entry<Kind>; 23] = [
         (Kind::Ordinary, "ordinary", 24),
+        (Kind::Stc, "STC", 20),
         (Kind::Resecuritisation, "re-securitisation", 10),
         (Kind::AroundCharge, "points around the charge", 12),
         (Kind::Thin, "thin tranches", 10),
@@ -78,6 +85,7 @@ impl Kind {
         (Kind::ZeroCharge, "charge 0", 3),
         (Kind::SmallCharge, "small charge", 6),
         (Kind::Rated, "rated", 10),
+        (Kind::HalfThick, "rated and half thick", 6),
         (Kind::LargePool, "large pool", 3),
         (Kind::Limits, "at the limits", 3),
         (Kind::Truncated, "truncated", 4),
@@ -87,6 +95,7 @@ impl Kind {
         (Kind::SeveralDamages, "several damages", 5),
         (Kind::RandomWords, "random words", 4),
         (Kind::PoolKind, "pool kind 1 or 2", 1),
+        (Kind::StcMark, "STC mark on a re-securitisation", 2),
     ];
 
     /// How many entries of the table, from its start, are kinds of sound sheets: those up to the one at the limits.
@@ -102,7 +111,7 @@ impl Kind {
         draw(&Kind::TABLE[..Kind::SOUND], random)
     }
 
-    /// Whether sheets of this kind keep every limit of document 01's sheet.
+    /// Whether sheets of this kind keep every limit of the deal sheet.
     pub fn is_sound(self) -> bool {
         (self as usize) < Kind::SOUND
     }
@@ -197,15 +206,19 @@ pub enum Relation {
     OtherRatings,
     /// Composition not known: shows by the independent answer whether the cap decided.
     WithoutCap,
+    /// One fact more is stated, of 0, which is what it counts as where it is not stated: the same answer, at the places
+    /// of the second sheet.
+    FactAdded,
 }
 
 impl Relation {
     /// All relations, in the order of the enum.
-    pub const TABLE: [Entry<Relation>; 4] = [
+    pub const TABLE: [Entry<Relation>; 5] = [
         (Relation::Unused, "no second sheet", 5),
         (Relation::RowOrder, "rows in another order", 1),
         (Relation::OtherRatings, "another tranche's ratings", 1),
         (Relation::WithoutCap, "without the cap", 1),
+        (Relation::FactAdded, "a fact of 0 added", 2),
     ];
 
     /// Draws a relation.

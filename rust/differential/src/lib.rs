@@ -1,5 +1,5 @@
 //! Holds the proved library of tranche weights against the independent implementation of document 01 ("the scope
-//! paper"), on seeded random sheets.
+//! paper") and of request S-1 of document 02 ("later requests"), on seeded random sheets.
 //!
 //! Every sheet is made from a seed and its index alone ([`Case`]), so that a run can be split over threads and any
 //! sheet can be made again. [`Run::go`] compares all sheets and gives the counts of what it met ([`Tally`]) or the
@@ -17,11 +17,14 @@ mod kind;
 mod lent;
 mod library;
 mod limits;
+mod line_feature;
 mod pool;
 mod random;
 mod run;
 mod second;
+mod seen;
 pub mod sheet;
+mod sheet_feature;
 pub mod show;
 mod tally;
 mod text;
@@ -34,5 +37,7 @@ pub use difference::{Difference, Part};
 pub use kind::{File, Kind, Relation, Room};
 pub use lent::Lent;
 pub use library::{Library, Reply, Weigh, WeighFile};
+pub use line_feature::{Feature, StcFeature};
 pub use run::{Found, Run};
-pub use tally::{Feature, FileFeature, Tally};
+pub use sheet_feature::{FileFeature, SheetFeature};
+pub use tally::Tally;

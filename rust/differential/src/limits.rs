@@ -40,6 +40,9 @@ pub fn fill(random: &mut Random, deal: &mut Deal) {
     deal.facts[Fact::Resecuritisation] = random.below(2);
     deal.facts[Fact::DueDiligence] = u64::from(!random.once_in(4));
     deal.facts[Fact::Composition] = random.below(2);
+    if !random.once_in(4) {
+        deal.facts[Fact::Stc] = random.below(2 - deal.facts[Fact::Resecuritisation]);
+    }
     fill_rows(random, deal);
     fill_tranches(random, deal);
 }

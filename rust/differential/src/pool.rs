@@ -22,7 +22,10 @@ enum Amounts {
 impl Amounts {
     /// Draws a way for a pool of this kind. Kinds that place points to a millionth mostly get large amounts.
     fn draw(kind: Kind, random: &mut Random) -> Amounts {
-        let exact = matches!(kind, Kind::AroundCharge | Kind::Thin | Kind::SmallCharge);
+        let exact = matches!(
+            kind,
+            Kind::AroundCharge | Kind::Thin | Kind::SmallCharge | Kind::HalfThick
+        );
         if exact && !random.once_in(8) {
             return Amounts::Large;
         }

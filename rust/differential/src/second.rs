@@ -5,6 +5,7 @@ use crate::case::Case;
 use crate::difference::{Difference, Part};
 use crate::lent::Lent;
 use crate::library::{Library, Reply};
+use crate::sheet::Layout;
 
 /// A reply with the lines that were written.
 type Weighed = (Reply, Vec<[u64; LINE_WORDS]>);
@@ -45,6 +46,19 @@ pub fn compare_other_ratings(library: &Library, case: &Case, lent: &mut Lent) ->
     Err(Difference::new(Part::OtherRatings, (first, first_lines), said))
 }
 
+/// A fact that is not stated counts as 0 (S-1): with one fact more, of 0, the answer and the lines are the same, and a
+/// place at or after the added word is one higher.
+pub fn compare_fact_added(library: &Library, case: &Case, lent: &mut Lent) -> Result<(), Difference> {
+    let mut first = weigh(library, &case.sheet, case.room, lent);
+    let second = weigh(library, &case.second, case.room, lent);
+    let added = Layout::FACTS_COUNT as u64 + case.second[Layout::FACTS_COUNT];
+    first.0.place += u64::from(first.0.place >= added);
+    if first == second {
+        return Ok(());
+    }
+    Err(Difference::new(Part::FactAdded, first, (second, &case.second)))
+}
+
 /// Whether the cap decided a line of an accepted sheet: with the composition not known, which takes the cap away, the
 /// independent weight is higher.
 pub fn cap_decided(deal: &independent::Deal, case: &Case) -> bool {
@@ -64,7 +78,7 @@ mod tests {
     use super::*;
     use crate::answer::LineWord;
     use crate::kind::Relation;
-    use crate::sheet::{Layout, RowWord, TrancheWord};
+    use crate::sheet::{Fact, RowWord, TrancheWord, FACTS};
 
     /// The proved library, with the pool's first exposure added to the charge: right sums, but the order of rows
     /// matters.
@@ -87,6 +101,21 @@ mod tests {
         let (lines, _) = results.as_chunks_mut::<LINE_WORDS>();
         let written = lines.iter_mut().take(reply.count as usize);
         written.for_each(|line| line[LineWord::Attachment as usize] += sum);
+        reply
+    }
+
+    /// The proved library, with places counted as in a sheet of the fewest facts.
+    fn places_as_before(sheet: &[u64], results: &mut [u64]) -> Reply {
+        let mut reply = (Library::PROVED.weigh)(sheet, results);
+        let fifth = Layout::fact(Fact::Stc) as u64;
+        reply.place -= u64::from(sheet.first() == Some(&FACTS) && reply.place > fifth);
+        reply
+    }
+
+    /// The proved library, with a charge of 1 more where a fifth fact is stated.
+    fn stated_fact_matters(sheet: &[u64], results: &mut [u64]) -> Reply {
+        let mut reply = (Library::PROVED.weigh)(sheet, results);
+        reply.charge += u64::from(reply.number == 0 && sheet[Layout::FACTS_COUNT] == FACTS);
         reply
     }
 
@@ -127,5 +156,23 @@ mod tests {
         };
         assert!(compare(&wrong) > 10);
         assert_eq!(compare(&Library::PROVED), 0);
+    }
+
+    /// A library for which a fact of 0 matters, in the answer or in a refusal's place, is found out; the proved one is
+    /// not.
+    #[test]
+    fn added_facts_are_compared() {
+        let compare = |weigh| {
+            let library = Library {
+                weigh,
+                ..Library::PROVED
+            };
+            differences(Relation::FactAdded, |case| {
+                compare_fact_added(&library, case, &mut Lent::default())
+            })
+        };
+        assert!(compare(places_as_before) > 10);
+        assert!(compare(stated_fact_matters) > 10);
+        assert_eq!(compare(Library::PROVED.weigh), 0);
     }
 }

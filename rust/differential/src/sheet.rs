@@ -1,4 +1,5 @@
-//! The deal sheet, by "The deal sheet" of document 01: what it holds, and the places of its words.
+//! The deal sheet, by "The deal sheet" of document 01 and the fifth fact of S-1: what it holds, and the places of its
+//! words.
 
 use std::ops::{Index, IndexMut};
 
@@ -14,8 +15,10 @@ pub const TRANCHE_AMOUNT: u64 = 10_000_000_000_000;
 pub const MONTHS: u64 = 1_200;
 /// The most tranches.
 pub const TRANCHES: u64 = 32;
-/// The most facts; the fewest are as many.
+/// The most facts.
 pub const FACTS: u64 = Fact::COUNT as u64;
+/// The fewest facts. Those after them count as 0 where a sheet does not state them.
+pub const FEWEST_FACTS: u64 = Fact::Composition as u64 + 1;
 /// The first and the last rating code of the long-term grades.
 pub const LONG_TERM: (u64, u64) = (1, 18);
 /// The first and the last rating code of the short-term grades.
@@ -60,6 +63,8 @@ row_words! {
         DueDiligence: FACT_EDGES,
         /// 1 where the pool's composition is known.
         Composition: FACT_EDGES,
+        /// 1 for an STC deal.
+        Stc: FACT_EDGES,
     }
 }
 
@@ -134,31 +139,45 @@ pub mod status {
     ];
 }
 
-/// The facts of a deal, as words: the pool kind SA and every answer no, until they are set.
-#[derive(Debug, Clone, Copy, Default)]
-pub struct Facts([u64; Fact::COUNT]);
+/// The facts of a deal, as words, and how many of them the sheet states.
+#[derive(Debug, Clone, Copy)]
+pub struct Facts {
+    words: [u64; Fact::COUNT],
+    stated: usize,
+}
+
+impl Default for Facts {
+    /// The pool kind SA and every answer no, in the fewest words.
+    fn default() -> Facts {
+        Facts {
+            words: [0; Fact::COUNT],
+            stated: FEWEST_FACTS as usize,
+        }
+    }
+}
 
 impl Index<Fact> for Facts {
     type Output = u64;
 
-    /// The word of a fact.
+    /// The word of a fact; 0 where it is not stated.
     fn index(&self, fact: Fact) -> &u64 {
-        &self.0[fact as usize]
+        &self.words[fact as usize]
     }
 }
 
 impl IndexMut<Fact> for Facts {
-    /// The word of a fact, to be set.
+    /// The word of a fact, to be set. The sheet states it then, with all facts before it.
     fn index_mut(&mut self, fact: Fact) -> &mut u64 {
-        &mut self.0[fact as usize]
+        self.stated = self.stated.max(fact as usize + 1);
+        &mut self.words[fact as usize]
     }
 }
 
 impl Facts {
-    /// Adds the section of the facts: their count, then their words.
+    /// Adds the section of the facts: the count of those stated, then their words.
     pub fn write(&self, words: &mut Vec<u64>) {
-        words.push(self.0.len() as u64);
-        words.extend(self.0);
+        words.push(self.stated as u64);
+        words.extend(&self.words[..self.stated]);
     }
 }
 
@@ -239,7 +258,7 @@ impl Deal {
     /// The places of the sheet's words.
     pub fn layout(&self) -> Layout {
         Layout {
-            facts: Fact::COUNT,
+            facts: self.facts.stated,
             rows: self.rows.len(),
             tranches: self.tranches.len(),
         }
@@ -330,6 +349,19 @@ impl Layout {
         self.tranche(self.tranches)
     }
 
+    /// The word of a fact of a sheet with these places; 0 where it is not stated.
+    pub fn fact_word(&self, sheet: &[u64], fact: Fact) -> u64 {
+        match (fact as usize) < self.facts {
+            true => sheet[Layout::fact(fact)],
+            false => 0,
+        }
+    }
+
+    /// The words of a tranche of a sheet with these places; tranches are counted from 0.
+    pub fn tranche_words<'a>(&self, sheet: &'a [u64], tranche: usize) -> &'a [u64; TrancheWord::COUNT] {
+        &sheet[self.tranche(0)..].as_chunks().0[tranche]
+    }
+
     /// The rows of a sheet with these places.
     pub fn pool<'a>(&self, sheet: &'a [u64]) -> &'a [[u64; RowWord::COUNT]] {
         sheet[self.row(0)..self.tranche_count()].as_chunks().0
@@ -354,17 +386,40 @@ mod tests {
             risk_weight: 0,
             status: status::PAYING,
         };
-        let deal = Deal {
+        let mut deal = Deal {
             facts: Facts::default(),
             rows: vec![row; ROWS as usize],
             tranches: vec![Tranche::LEAST; TRANCHES as usize],
         };
         let mut words = Vec::new();
         deal.write(&mut words);
+        assert_eq!((Layout::of_sheet(&words), words.len()), (deal.layout(), 4_231));
+        deal.facts[Fact::Stc] = 0;
+        deal.write(&mut words);
         assert_eq!(deal.layout().words(), words.len());
         assert_eq!(Layout::of_sheet(&words), deal.layout());
         assert_eq!(deal.layout(), Layout::LARGEST);
-        assert_eq!((file_form(&words).len(), FILE_BYTES), (33_848, 33_848));
+        assert_eq!((file_form(&words).len(), FILE_BYTES), (33_856, 33_856));
+    }
+
+    /// The fewest facts are stated until a later one is set, be it to 0; a fact that is not stated reads as 0.
+    #[test]
+    fn later_facts_are_stated_when_set() {
+        let mut facts = Facts::default();
+        let section = |facts: &Facts| {
+            let mut words = Vec::new();
+            facts.write(&mut words);
+            words
+        };
+        facts[Fact::Composition] = 1;
+        assert_eq!((section(&facts), facts[Fact::Stc]), (vec![4, 0, 0, 0, 1], 0));
+        facts[Fact::Stc] = 0;
+        assert_eq!(section(&facts), [5, 0, 0, 0, 1, 0]);
+        for stated in [4, 5] {
+            let (layout, words) = places_with(stated);
+            assert_eq!(layout.fact_word(&words, Fact::Composition), 4);
+            assert_eq!(layout.fact_word(&words, Fact::Stc), 5 * (stated as u64 - 4));
+        }
     }
 
     /// Facts, a row's words and a tranche's words stand in document 01's order.
@@ -375,6 +430,7 @@ mod tests {
             Fact::Resecuritisation,
             Fact::DueDiligence,
             Fact::Composition,
+            Fact::Stc,
         ];
         let mut deal = Deal::default();
         (10..).zip(facts).for_each(|(word, fact)| deal.facts[fact] = word);
@@ -393,9 +449,9 @@ mod tests {
         });
         let mut words = Vec::new();
         deal.write(&mut words);
-        assert_eq!(words[..10], [4, 10, 11, 12, 13, 1, 20, 21, 22, 23]);
-        assert_eq!(words[10..], [1, 30, 31, 32, 33, 34, 35, 36]);
-        assert_eq!(facts.map(|fact| words[Layout::fact(fact)]), [10, 11, 12, 13]);
+        assert_eq!(words[..11], [5, 10, 11, 12, 13, 14, 1, 20, 21, 22, 23]);
+        assert_eq!(words[11..], [1, 30, 31, 32, 33, 34, 35, 36]);
+        assert_eq!(facts.map(|fact| words[Layout::fact(fact)]), [10, 11, 12, 13, 14]);
     }
 
     /// A sheet with so many facts, two rows and two tranches; every word but the counts is its place.

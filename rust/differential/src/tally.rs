@@ -4,148 +4,38 @@ use crate::answer::{refusal, Approach, LineWord};
 use crate::case::Case;
 use crate::kind::{File, Kind, Relation, Room};
 use crate::lent::Lent;
-use crate::sheet::{status, Fact, Layout, RowWord, TrancheWord, FILE_BYTES, WORD_BYTES};
-use independent::{Deal, Line, Refusal};
+use crate::line_feature::{Feature, StcFeature};
+use crate::seen::{DealKind, Seen};
+use crate::sheet::{status, Layout, RowWord, LONG_TERM, SHORT_TERM};
+use crate::sheet_feature::{FileFeature, SheetFeature};
+use independent::{Deal, Refusal};
 use std::fmt;
 
-/// What must be met on some accepted line, or on some accepted sheet.
-#[derive(Debug, Clone, Copy, PartialEq, Eq)]
-pub enum Feature {
-    /// The floor of an ordinary securitisation decided a SEC-SA weight.
-    OrdinaryFloor,
-    /// The floor of a re-securitisation decided a SEC-SA weight.
-    ResecuritisationFloor,
-    /// The cap decided a weight.
-    CapDecided,
-    /// The cap decided a weight below the floor.
-    CapBelowFloor,
-    /// Raw weight 125,000 because D is at most K.
-    BelowCharge,
-    /// K is 0 and D above it: raw weight 0.
-    ZeroCharge,
-    /// K and D are 0: raw weight 125,000.
-    ZeroChargeAndPoint,
-    /// SEC-SA with A below K and D above it.
-    AcrossCharge,
-    /// SEC-SA with A equal to K.
-    FromCharge,
-    /// SEC-SA with K at least 1, D above K and a thickness D − A of one millionth, the least that is accepted there.
-    ThinAboveCharge,
-    /// Two raw weights pass and give two weights.
-    TwoWeights,
-    /// The unknown exposure is exactly 5% of all exposure.
-    UnknownAtLimit,
+/// How many long-term grades there are.
+const LONG_TERM_GRADES: u64 = LONG_TERM.1 - LONG_TERM.0 + 1;
+/// How many grades there are.
+const GRADES: usize = (LONG_TERM_GRADES + SHORT_TERM.1 - SHORT_TERM.0 + 1) as usize;
+
+/// The columns by which grades are counted: the rating tables, each for class 1 and for the classes below.
+const COLUMNS: [&str; 4] = [
+    "ordinary, class 1",
+    "ordinary, below class 1",
+    "STC, class 1",
+    "STC, below class 1",
+];
+
+/// The place of a grade among all grades, the long-term ones first.
+fn grade_place(code: u64) -> usize {
+    let place = match code <= LONG_TERM.1 {
+        true => code - LONG_TERM.0,
+        false => LONG_TERM_GRADES + code - SHORT_TERM.0,
+    };
+    place as usize
 }
 
-impl Feature {
-    /// All features with their names, in the order of the enum.
-    const TABLE: [(Feature, &'static str); 12] = [
-        (Feature::OrdinaryFloor, "lines: floor 1,500 decided"),
-        (Feature::ResecuritisationFloor, "lines: floor 10,000 decided"),
-        (Feature::CapDecided, "sheets: cap decided"),
-        (Feature::CapBelowFloor, "lines: cap below the floor decided"),
-        (Feature::BelowCharge, "lines: weight 125,000 with D at most K"),
-        (Feature::ZeroCharge, "lines: K = 0 and D above 0"),
-        (Feature::ZeroChargeAndPoint, "lines: K = 0 and D = 0"),
-        (Feature::AcrossCharge, "lines: A below K and D above K"),
-        (Feature::FromCharge, "lines: A = K and D above K"),
-        (Feature::ThinAboveCharge, "lines: one millionth thick above K"),
-        (Feature::TwoWeights, "lines: two weights admitted"),
-        (Feature::UnknownAtLimit, "sheets: unknown exposure exactly 5%"),
-    ];
-}
-
-/// What must be met on some file.
-#[derive(Debug, Clone, Copy, PartialEq, Eq)]
-pub enum FileFeature {
-    /// Accepted.
-    Accepted,
-    /// Refused by its words.
-    WordsRefused,
-    /// Refused for too little room.
-    RoomRefused,
-    /// A length that is no multiple of a word's bytes.
-    PartOfWord,
-    /// The longest length that is read.
-    Longest,
-    /// One word longer than that.
-    OneWordLonger,
-}
-
-impl FileFeature {
-    /// All features with their names, in the order of the enum.
-    const TABLE: [(FileFeature, &'static str); 6] = [
-        (FileFeature::Accepted, "files: accepted"),
-        (FileFeature::WordsRefused, "files: refused by their words"),
-        (FileFeature::RoomRefused, "files: refused for too little room"),
-        (FileFeature::PartOfWord, "files: length no multiple of 8"),
-        (FileFeature::Longest, "files: of the longest length"),
-        (FileFeature::OneWordLonger, "files: one word longer"),
-    ];
-
-    /// Whether a file with this answer shows the feature.
-    fn shown(self, file: &[u8], answer: &Result<Deal, Refusal>) -> bool {
-        let number = answer.as_ref().map_or_else(|refusal| refusal.number, |_| 0);
-        match self {
-            FileFeature::Accepted => number == 0,
-            FileFeature::WordsRefused => refusal::is_of_words(number),
-            FileFeature::RoomRefused => number == refusal::ROOM,
-            FileFeature::PartOfWord => !file.len().is_multiple_of(WORD_BYTES),
-            FileFeature::Longest => file.len() == FILE_BYTES,
-            FileFeature::OneWordLonger => file.len() == FILE_BYTES + WORD_BYTES,
-        }
-    }
-}
-
-/// The highest weight.
-const HIGHEST_WEIGHT: u64 = 125_000;
-
-/// The floor of an ordinary securitisation.
-const ORDINARY_FLOOR: u64 = 1_500;
-/// The floor of a re-securitisation.
-const RESECURITISATION_FLOOR: u64 = 10_000;
-
-/// What of a sheet decides about floor and cap of one tranche ("Which approach, then floor, then cap").
-struct Terms {
-    /// Whether the deal is an ordinary securitisation.
-    ordinary: bool,
-    /// Whether the cap applies to the tranche.
-    capped: bool,
-}
-
-impl Terms {
-    /// The terms of a tranche of an accepted sheet.
-    fn of_tranche(sheet: &[u64], tranche: usize) -> Terms {
-        let class = sheet[Layout::of_sheet(sheet).tranche_word(tranche, TrancheWord::Class)];
-        let ordinary = sheet[Layout::fact(Fact::Resecuritisation)] == 0;
-        Terms {
-            ordinary,
-            capped: ordinary && class == 1 && sheet[Layout::fact(Fact::Composition)] == 1,
-        }
-    }
-}
-
-/// Whether a line of an accepted deal shows a feature. Whether the cap decided and how much is unknown are not told
-/// from the line alone.
-fn shows(feature: Feature, charge: u64, line: &Line, terms: &Terms) -> bool {
-    let weight = line.amounts[0].weight;
-    let standardised = line.approach == Approach::SecSa.word();
-    let formula = standardised && line.detachment > charge;
-    // Where two neighbouring raw weights give one weight and there is no cap, the lower of them is below the floor.
-    let floored = formula && !terms.capped && line.amounts.len() == 1;
-    match feature {
-        Feature::OrdinaryFloor => floored && terms.ordinary && weight == ORDINARY_FLOOR,
-        Feature::ResecuritisationFloor => floored && !terms.ordinary && weight == RESECURITISATION_FLOOR,
-        Feature::CapDecided | Feature::UnknownAtLimit => false,
-        Feature::CapBelowFloor => terms.capped && line.approach != Approach::Fallback.word() && weight < ORDINARY_FLOOR,
-        Feature::BelowCharge => standardised && line.detachment <= charge && weight == HIGHEST_WEIGHT,
-        Feature::ZeroCharge => formula && charge == 0,
-        Feature::ZeroChargeAndPoint => standardised && charge == 0 && line.detachment == 0,
-        Feature::AcrossCharge => formula && line.attachment < charge,
-        Feature::FromCharge => formula && charge > 0 && line.attachment == charge,
-        Feature::ThinAboveCharge => formula && charge > 0 && line.detachment - line.attachment == 1,
-        Feature::TwoWeights => line.amounts.len() == 2,
-    }
+/// The column of a line under SEC-ERBA.
+fn column(seen: &Seen) -> usize {
+    2 * usize::from(seen.kind == DealKind::Stc) + usize::from(!seen.senior)
 }
 
 /// Adds counts to others, place by place.
@@ -162,10 +52,13 @@ fn names() -> Vec<String> {
     names.extend(Relation::TABLE.map(|(_, name, _)| format!("second sheet: {name}")));
     names.push("accepted".to_string());
     names.extend(refusal::MET.iter().map(|number| format!("refusal {number}")));
+    names.extend(SheetFeature::TABLE.map(|(_, name)| name.to_string()));
     names.extend(Approach::TABLE.iter().map(|(_, name)| format!("lines: {name}")));
     let statuses = status::TABLE.iter();
     names.extend(statuses.map(|(code, name)| format!("accepted with status {code}, {name}")));
     names.extend(Feature::TABLE.map(|(_, name)| name.to_string()));
+    names.extend(StcFeature::TABLE.map(|(_, name)| name.to_string()));
+    names.extend(COLUMNS.map(|name| format!("lines: rarest grade, {name}")));
     names.extend(FileFeature::TABLE.map(|(_, name)| name.to_string()));
     names
 }
@@ -185,12 +78,18 @@ pub struct Tally {
     pub accepted: u64,
     /// Refusals, in the order of their list: of a bad length, files; else sheets.
     pub refusals: [u64; refusal::MET.len()],
+    /// Sheets that show each feature.
+    pub sheet_features: [u64; SheetFeature::TABLE.len()],
     /// Lines by approach.
     pub approaches: [u64; Approach::TABLE.len()],
     /// Accepted sheets with a row of each status.
     pub statuses: [u64; status::TABLE.len()],
     /// Lines that show each feature; sheets, for the cap that decided and for the unknown exposure.
     pub features: [u64; Feature::TABLE.len()],
+    /// Lines of STC deals that show each feature; sheets, for the cap that decided.
+    pub stc_features: [u64; StcFeature::TABLE.len()],
+    /// Lines whose weight one grade gives, by column and grade.
+    pub grades: [[u64; GRADES]; COLUMNS.len()],
     /// Files that show each feature.
     pub file_features: [u64; FileFeature::TABLE.len()],
     /// Lines with two admitted weights where the higher one is taken.
@@ -203,6 +102,9 @@ impl Tally {
         self.kinds[case.kind as usize] += 1;
         self.rooms[case.room_kind as usize] += 1;
         self.files[case.file_kind as usize] += 1;
+        for (count, (feature, _)) in self.sheet_features.iter_mut().zip(SheetFeature::TABLE) {
+            *count += u64::from(feature.shown(&case.sheet, answer));
+        }
         match answer {
             Ok(deal) => {
                 self.accepted += 1;
@@ -231,13 +133,23 @@ impl Tally {
     fn note_lines(&mut self, sheet: &[u64], deal: &Deal, lent: &Lent) {
         let written = lent.lines(deal.lines.len() as u64);
         for (tranche, (line, words)) in deal.lines.iter().zip(written).enumerate() {
-            let terms = Terms::of_tranche(sheet, tranche);
             self.approaches[line.approach as usize] += 1;
-            for (count, (feature, _)) in self.features.iter_mut().zip(Feature::TABLE) {
-                *count += u64::from(shows(feature, deal.charge, line, &terms));
-            }
+            self.note_seen(&Seen::new(sheet, deal, tranche));
             let higher = line.amounts.get(1).map(|amounts| amounts.weight);
             self.higher_taken += u64::from(higher == Some(words[LineWord::Weight as usize]));
+        }
+    }
+
+    /// Notes what a line shows.
+    fn note_seen(&mut self, seen: &Seen) {
+        for (count, (feature, _)) in self.features.iter_mut().zip(Feature::TABLE) {
+            *count += u64::from(feature.shown(seen));
+        }
+        for (count, (feature, _)) in self.stc_features.iter_mut().zip(StcFeature::TABLE) {
+            *count += u64::from(feature.shown(seen));
+        }
+        if let Some(code) = seen.grade() {
+            self.grades[column(seen)][grade_place(code)] += 1;
         }
     }
 
@@ -261,8 +173,10 @@ impl Tally {
     }
 
     /// Notes that the cap decided some line of a sheet.
-    pub fn note_cap(&mut self) {
+    pub fn note_cap(&mut self, sheet: &[u64]) {
         self.features[Feature::CapDecided as usize] += 1;
+        let stc = DealKind::of_sheet(sheet) == DealKind::Stc;
+        self.stc_features[StcFeature::CapDecided as usize] += u64::from(stc);
     }
 
     /// Adds another tally's counts.
@@ -273,15 +187,19 @@ impl Tally {
         add(&mut self.relations, &other.relations);
         self.accepted += other.accepted;
         add(&mut self.refusals, &other.refusals);
+        add(&mut self.sheet_features, &other.sheet_features);
         add(&mut self.approaches, &other.approaches);
         add(&mut self.statuses, &other.statuses);
         add(&mut self.features, &other.features);
+        add(&mut self.stc_features, &other.stc_features);
+        add(self.grades.as_flattened_mut(), other.grades.as_flattened());
         add(&mut self.file_features, &other.file_features);
         self.higher_taken += other.higher_taken;
     }
 
     /// The counts of what must occur, in the order of their names.
     fn counts(&self) -> Vec<u64> {
+        let rarest_grades = self.grades.map(|counts| counts.into_iter().min().unwrap_or(0));
         let groups: &[&[u64]] = &[
             &self.kinds,
             &self.rooms,
@@ -289,9 +207,12 @@ impl Tally {
             &self.relations,
             &[self.accepted],
             &self.refusals,
+            &self.sheet_features,
             &self.approaches,
             &self.statuses,
             &self.features,
+            &self.stc_features,
+            &rarest_grades,
             &self.file_features,
         ];
         groups.concat()
@@ -329,17 +250,14 @@ impl fmt::Display for Tally {
 #[cfg(test)]
 mod tests {
     use super::*;
-    use crate::sheet::Row;
+    use crate::sheet::{Row, FILE_BYTES, WORD_BYTES};
 
-    /// Features are counted by the enum's order, so the table must follow it.
+    /// Each grade has a place of its own, in the order of the codes.
     #[test]
-    fn table_follows_the_enum() {
-        assert!((0..)
-            .zip(Feature::TABLE)
-            .all(|(place, entry)| entry.0 as usize == place));
-        assert!((0..)
-            .zip(FileFeature::TABLE)
-            .all(|(place, entry)| entry.0 as usize == place));
+    fn grades_have_their_places() {
+        let codes = (LONG_TERM.0..=LONG_TERM.1).chain(SHORT_TERM.0..=SHORT_TERM.1);
+        let places: Vec<usize> = codes.map(grade_place).collect();
+        assert_eq!(places, (0..GRADES).collect::<Vec<_>>());
     }
 
     /// A file counts by its answer and by its length; a refused length counts as 15 and by its length alone.
@@ -360,13 +278,14 @@ mod tests {
                 tally.refusals[refusal::place(refusal::FILE_LENGTH)],
             )
         };
-        assert_eq!(counts(144, 0), ([1, 0, 0, 0, 0, 0], 0));
-        assert_eq!(counts(0, 1), ([0, 1, 0, 0, 0, 0], 0));
-        assert_eq!(counts(FILE_BYTES, refusal::THIN), ([0, 1, 0, 0, 1, 0], 0));
-        assert_eq!(counts(144, refusal::ROOM), ([0, 0, 1, 0, 0, 0], 0));
-        assert_eq!(counts(FILE_BYTES - 1, refusal::FILE_LENGTH), ([0, 0, 0, 1, 0, 0], 1));
-        let longer = FILE_BYTES + WORD_BYTES;
-        assert_eq!(counts(longer, refusal::FILE_LENGTH), ([0, 0, 0, 0, 0, 1], 1));
+        assert_eq!(counts(144, 0), ([1, 0, 0, 0, 0, 0, 0], 0));
+        assert_eq!(counts(0, 1), ([0, 1, 0, 0, 0, 0, 0], 0));
+        assert_eq!(counts(FILE_BYTES, 0), ([1, 0, 0, 0, 1, 1, 0], 0));
+        assert_eq!(counts(FILE_BYTES, refusal::THIN), ([0, 1, 0, 0, 1, 0, 0], 0));
+        assert_eq!(counts(144, refusal::ROOM), ([0, 0, 1, 0, 0, 0, 0], 0));
+        let (shorter, longer) = (FILE_BYTES - 1, FILE_BYTES + WORD_BYTES);
+        assert_eq!(counts(shorter, refusal::FILE_LENGTH), ([0, 0, 0, 1, 0, 0, 0], 1));
+        assert_eq!(counts(longer, refusal::FILE_LENGTH), ([0, 0, 0, 0, 0, 0, 1], 1));
     }
 
     /// Each count that must occur has a name.
@@ -401,34 +320,6 @@ mod tests {
         assert_eq!(pool_counts(&[(100, 3), (1, 3)]), ([0, 0, 0, 1], 0));
     }
 
-    /// A SEC-SA line of one millionth counts from the charge on; one further down, a thicker one, one over a charge of
-    /// 0 and a rated one do not.
-    #[test]
-    fn thin_lines_above_the_charge_are_counted() {
-        let thin = |approach: Approach, charge, attachment, detachment| {
-            let amounts = vec![independent::Amounts {
-                weight: 1_500,
-                risk_weighted: 0,
-                capital: 0,
-            }];
-            let line = Line {
-                approach: approach.word(),
-                attachment,
-                detachment,
-                amounts,
-            };
-            let terms = Terms {
-                ordinary: true,
-                capped: false,
-            };
-            shows(Feature::ThinAboveCharge, charge, &line, &terms)
-        };
-        let formula = Approach::SecSa;
-        assert!(thin(formula, 50, 50, 51) && thin(formula, 50, 60, 61));
-        assert!(!thin(formula, 50, 49, 50) && !thin(formula, 50, 60, 62));
-        assert!(!thin(formula, 0, 60, 61) && !thin(Approach::SecErba, 50, 60, 61));
-    }
-
     /// An empty run misses every count but the one that is only printed, and each count that occurs is no longer
     /// missed.
     #[test]
@@ -437,9 +328,13 @@ mod tests {
         let all = tally.named().len();
         assert_eq!(tally.missing().len(), all - 1);
         tally.refusals[refusal::place(refusal::THIN)] = 1;
-        tally.note_cap();
-        assert_eq!(tally.missing().len(), all - 3);
-        assert!(!tally.missing().contains(&"refusal 13".to_string()));
-        assert!(!tally.missing().contains(&"sheets: cap decided".to_string()));
+        tally.grades[0] = [1; GRADES];
+        tally.grades[1][1..].fill(1);
+        tally.note_cap(&[5, 0, 0, 1, 1, 1, 1, 1, 1, 0, 0, 1, 1, 1, 1, 0, 0, 0, 0]);
+        let missing = tally.missing();
+        assert_eq!(missing.len(), all - 5);
+        let noted = ["refusal 13", "sheets: cap decided", "STC sheets: cap decided"];
+        assert!(noted.iter().all(|name| !missing.contains(&name.to_string())));
+        assert!(!missing.contains(&"lines: rarest grade, ordinary, class 1".to_string()));
     }
 }

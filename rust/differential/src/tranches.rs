@@ -16,6 +16,8 @@ enum Division {
     AroundCharge,
     /// Classes of 0, 1 or 2 millionths.
     Thin,
+    /// A class about half as thick as the pool.
+    HalfThick,
     /// Equal amounts.
     Equal,
     /// Classes that together pass the pool.
@@ -30,6 +32,7 @@ impl Division {
         match kind {
             Kind::AroundCharge => Division::AroundCharge,
             Kind::Thin => Division::Thin,
+            Kind::HalfThick => Division::HalfThick,
             Kind::Overshoot => Division::Overshoot,
             _ => match random.below(16) {
                 0..=5 => Division::Anywhere,
@@ -53,6 +56,7 @@ impl Division {
             }),
             Division::AroundCharge => amounts_at(random, pool, |random| points_around(random, charge(deal), count)),
             Division::Thin => amounts_at(random, pool, |random| thin_points(random, charge(deal), count)),
+            Division::HalfThick => amounts_at(random, pool, half_thick_points),
             Division::Equal => vec![(pool / count).max(1); count as usize],
             Division::Overshoot => overshooting(random, pool, count),
             Division::AnyAmounts => (0..count).map(|_| random.spread(TRANCHE_AMOUNT)).collect(),
@@ -119,6 +123,17 @@ fn thin_points(random: &mut Random, charge: u64, count: u64) -> Vec<u64> {
     (0..count).map(|_| next()).collect()
 }
 
+/// The attachment points of two classes: the second is one half thick, give or take a millionth, or from two fifths to
+/// nearly all of the pool.
+fn half_thick_points(random: &mut Random) -> Vec<u64> {
+    let thickness = match random.once_in(2) {
+        true => random.between(WHOLE / 2 - 1, WHOLE / 2 + 1),
+        false => random.between(WHOLE / 5 * 2, WHOLE - 1),
+    };
+    let top = random.between(thickness, WHOLE - 1);
+    vec![top, top - thickness]
+}
+
 /// Amounts of classes with the drawn attachment points, put in falling order. Half of the time the lowest class goes
 /// down to 0. Within its millionth a point lies at the lower end or anywhere.
 fn amounts_at(random: &mut Random, pool: u64, draw: impl FnOnce(&mut Random) -> Vec<u64>) -> Vec<u64> {
@@ -160,6 +175,8 @@ enum Ratings {
     Unrated,
     /// One rating on each, at any of its places.
     One,
+    /// One rating on each, of the best grades.
+    Good,
     /// Two or more ratings on each.
     Several,
     /// One or more short-term ratings on each.
@@ -171,17 +188,21 @@ enum Ratings {
 impl Ratings {
     /// Draws a way for a deal of this kind.
     fn draw(kind: Kind, random: &mut Random) -> Ratings {
-        let rated = [
-            Ratings::One,
-            Ratings::Several,
-            Ratings::ShortTerm,
-            Ratings::Any,
-            Ratings::Any,
-        ];
-        if kind == Kind::Rated || random.once_in(3) {
-            random.pick(&rated)
-        } else {
-            Ratings::Unrated
+        let rated = match kind {
+            Kind::Rated | Kind::HalfThick => true,
+            Kind::Stc => random.once_in(2),
+            _ => random.once_in(3),
+        };
+        match (rated, kind) {
+            (false, _) => Ratings::Unrated,
+            (true, Kind::HalfThick) => random.pick(&[Ratings::One, Ratings::Good, Ratings::Good]),
+            (true, _) => random.pick(&[
+                Ratings::One,
+                Ratings::Several,
+                Ratings::ShortTerm,
+                Ratings::Any,
+                Ratings::Any,
+            ]),
         }
     }
 
@@ -190,6 +211,7 @@ impl Ratings {
         match self {
             Ratings::Unrated => [0; RATINGS],
             Ratings::One => placed(random, 1, long_term),
+            Ratings::Good => placed(random, 1, good),
             Ratings::Several => {
                 let count = random.between(2, RATINGS as u64);
                 placed(random, count, any_code)
@@ -214,9 +236,14 @@ fn placed(random: &mut Random, count: u64, code: fn(&mut Random) -> u64) -> [u64
     words
 }
 
-/// A row of the rating table.
+/// A row of a rating table.
 fn long_term(random: &mut Random) -> u64 {
     random.between(LONG_TERM.0, LONG_TERM.1)
+}
+
+/// One of the first six rows of a rating table.
+fn good(random: &mut Random) -> u64 {
+    random.between(LONG_TERM.0, LONG_TERM.0 + 5)
 }
 
 /// A short-term grade.
@@ -239,9 +266,11 @@ pub fn any_ratings(random: &mut Random) -> [u64; RATINGS] {
     placed(random, count, any_code)
 }
 
-/// Draws a maturity: around the months where a rule changes, or anywhere.
-fn months(random: &mut Random) -> u64 {
+/// Draws a maturity: around the months where a rule changes, or anywhere; where weights should lie near the senior
+/// figures, mostly a short one.
+fn months(kind: Kind, random: &mut Random) -> u64 {
     match random.below(4) {
+        0..=2 if kind == Kind::HalfThick => random.between(1, 24),
         0 | 1 => random.pick(&[1, 11, 12, 13, 35, 36, 37, 59, 60, 61, 71, 72, 73, MONTHS - 1, MONTHS]),
         2 => random.between(1, 90),
         _ => random.between(1, MONTHS),
@@ -275,7 +304,7 @@ pub fn fill(kind: Kind, random: &mut Random, deal: &mut Deal) {
             deal.tranches.push(Tranche {
                 amount,
                 class,
-                months: months(random),
+                months: months(kind, random),
                 held: held(random, amount),
                 ratings: ratings.words(random),
             });

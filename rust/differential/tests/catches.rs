@@ -1,9 +1,11 @@
 //! The comparison finds a wrong answer in each part that it compares: each test puts a function with one fault in place
 //! of the proved one.
 
-use differential::answer::{refusal, LineWord, LINE_WORDS};
-use differential::sheet::{FILE_BYTES, WORD_BYTES};
+use differential::answer::{refusal, Approach, LineWord, LINE_WORDS};
+use differential::sheet::{Fact, Layout, FACTS, FILE_BYTES, WORD_BYTES};
 use differential::{show, Case, Difference, Feature, Found, Library, Part, Reply, Run, Tally, Weigh, WeighFile};
+use independent::rating::{self, Table};
+use independent::sheet::Tranche;
 
 /// The seed of the runs.
 const SEED: u64 = 3;
@@ -170,6 +172,106 @@ fn refused_in_place_of_weighed() {
 fn weighed_in_place_of_refused() {
     let wrong: Weigh = |sheet, results| refused(sheet, results, |reply| *reply = Reply::accepting(0, 0));
     assert_eq!(weighed(wrong), Some(Part::Outcome));
+}
+
+/// The place of the fifth fact.
+const FIFTH: usize = Layout::fact(Fact::Stc);
+
+/// Whether a sheet counts five facts and states a fifth fact like this one.
+fn fifth_is(sheet: &[u64], like: fn(u64) -> bool) -> bool {
+    sheet.first() == Some(&FACTS) && sheet.get(FIFTH).is_some_and(|&fact| like(fact))
+}
+
+/// Judges a mark on a re-securitisation by another number.
+fn other_number_of_a_mark(sheet: &[u64], results: &mut [u64]) -> Reply {
+    refused(sheet, results, |reply| {
+        if reply.number == refusal::STC_RESECURITISATION {
+            reply.number = refusal::FACT;
+        }
+    })
+}
+
+/// Judges a fifth fact above 1 as a mark, in a re-securitisation.
+fn no_code_as_a_mark(sheet: &[u64], results: &mut [u64]) -> Reply {
+    let mut reply = proved(sheet, results);
+    let judged = (reply.number, reply.place) == (refusal::FACT, FIFTH as u64);
+    if judged && sheet[Layout::fact(Fact::Resecuritisation)] == 1 {
+        reply.number = refusal::STC_RESECURITISATION;
+    }
+    reply
+}
+
+/// Weighs a sheet as if its mark were 0.
+fn without_mark(sheet: &[u64], results: &mut [u64]) -> Reply {
+    let mut unmarked = sheet.to_vec();
+    if fifth_is(sheet, |fact| fact == 1) {
+        unmarked[FIFTH] = 0;
+    }
+    proved(&unmarked, results)
+}
+
+/// The same, but a mark on a re-securitisation is refused as it should be.
+fn without_good_mark(sheet: &[u64], results: &mut [u64]) -> Reply {
+    match independent::weigh(sheet, results.len() as u64) {
+        Ok(_) => without_mark(sheet, results),
+        Err(_) => proved(sheet, results),
+    }
+}
+
+/// Takes four facts only.
+fn four_facts_only(sheet: &[u64], results: &mut [u64]) -> Reply {
+    match sheet.first() == Some(&FACTS) {
+        true => Reply::refusing(refusal::COUNT, Layout::FACTS_COUNT as u64),
+        false => proved(sheet, results),
+    }
+}
+
+/// Changes the weights of the rated tranches of STC deals, given each tranche and its weight.
+fn stc_weights(sheet: &[u64], results: &mut [u64], change: fn(&Tranche, u64) -> u64) -> Reply {
+    let reply = proved(sheet, results);
+    if reply.number != 0 || !fifth_is(sheet, |fact| fact == 1) {
+        return reply;
+    }
+    let tranches = independent::sheet::read(sheet).expect("an accepted sheet").tranches;
+    let (lines, _) = results.as_chunks_mut::<LINE_WORDS>();
+    for (tranche, line) in tranches.iter().zip(lines) {
+        if line[LineWord::Approach as usize] == Approach::SecErba.word() {
+            let weight = &mut line[LineWord::Weight as usize];
+            *weight = change(tranche, *weight);
+        }
+    }
+    reply
+}
+
+/// Holds a non-senior weight of an STC deal no lower than the senior figure.
+fn compared_with_senior(tranche: &Tranche, weight: u64) -> u64 {
+    let senior = Tranche { class: 1, ..*tranche };
+    match tranche.class {
+        1 => weight,
+        _ => weight.max(rating::weight(Table::of(true), &senior, 0)),
+    }
+}
+
+/// A fifth fact that is judged or used wrongly: a mark on a re-securitisation, a fifth fact that is no code, a mark that
+/// is not used, five facts refused.
+#[test]
+fn wrong_fifth_fact() {
+    assert_eq!(weighed(other_number_of_a_mark), Some(Part::Number));
+    assert_eq!(weighed(no_code_as_a_mark), Some(Part::Number));
+    assert_eq!(weighed(without_good_mark), Some(Part::Line(LineWord::Weight)));
+    let outcome_or_weight = [Some(Part::Outcome), Some(Part::Line(LineWord::Weight))];
+    assert!(outcome_or_weight.contains(&weighed(without_mark)));
+    assert_eq!(weighed(four_facts_only), Some(Part::Outcome));
+}
+
+/// The weights of an STC deal: compared with the senior figure, or with the floor of class 1 raised to that of the
+/// others.
+#[test]
+fn wrong_weight_of_an_stc_deal() {
+    let compared: Weigh = |sheet, results| stc_weights(sheet, results, compared_with_senior);
+    let one_floor: Weigh = |sheet, results| stc_weights(sheet, results, |_, weight| weight.max(1_500));
+    assert_eq!(weighed(compared), Some(Part::Line(LineWord::Weight)));
+    assert_eq!(weighed(one_floor), Some(Part::Line(LineWord::Weight)));
 }
 
 /// The place of the last line of an accepted sheet in the results.

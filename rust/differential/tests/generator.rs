@@ -1,7 +1,10 @@
 //! The random sheets are what their kinds say. Points and charges are taken from the independent implementation.
 
 use differential::answer::{refusal, Approach, MOST_RESULTS};
-use differential::sheet::{status, Layout, RowWord, TrancheWord, MONTHS, POOL_AMOUNT, ROWS, TRANCHES, TRANCHE_AMOUNT};
+use differential::sheet::{
+    status, Fact, Layout, RowWord, TrancheWord, FACTS, FEWEST_FACTS, MONTHS, POOL_AMOUNT, ROWS, TRANCHES,
+    TRANCHE_AMOUNT,
+};
 use differential::{Case, Kind};
 use std::cmp::Ordering;
 use std::collections::BTreeSet;
@@ -34,6 +37,77 @@ fn sound_sheets_keep_the_limits() {
         }
     }
     assert!(accepted > 5_000);
+}
+
+/// Each kind has the marks that it should, and the others have all of them: a mark that is not stated, 0 and 1.
+#[test]
+fn marks_follow_the_kinds() {
+    let facts = |kind| {
+        let of_sheet = |sheet: Vec<u64>| {
+            let layout = Layout::of_sheet(&sheet);
+            let fact = |fact| layout.fact_word(&sheet, fact);
+            (layout.facts as u64, fact(Fact::Resecuritisation), fact(Fact::Stc))
+        };
+        sheets(kind, 5_000).map(of_sheet).collect::<BTreeSet<_>>()
+    };
+    let ordinary = [(FEWEST_FACTS, 0, 0), (FACTS, 0, 0)];
+    let resecuritisation = [(FEWEST_FACTS, 1, 0), (FACTS, 1, 0)];
+    let stc = [(FACTS, 0, 1)];
+    assert_eq!(facts(Kind::Ordinary), BTreeSet::from(ordinary));
+    assert_eq!(facts(Kind::Stc), BTreeSet::from(stc));
+    assert_eq!(facts(Kind::Resecuritisation), BTreeSet::from(resecuritisation));
+    let all = BTreeSet::from_iter([&ordinary[..], &resecuritisation, &stc].concat());
+    for kind in [
+        Kind::AroundCharge,
+        Kind::Thin,
+        Kind::SmallCharge,
+        Kind::Rated,
+        Kind::Limits,
+    ] {
+        assert_eq!(facts(kind), all, "{kind:?}");
+    }
+}
+
+/// A mark on a re-securitisation is refused at the fifth fact, by 16 or as no code; some of these sheets are accepted
+/// without it.
+#[test]
+fn marks_on_resecuritisations() {
+    let fifth = Layout::fact(Fact::Stc);
+    let (mut marked, mut no_code, mut else_good) = (0, 0, 0);
+    for mut sheet in sheets(Kind::StcMark, 10_000) {
+        let weigh = |sheet: &[u64]| independent::weigh(sheet, MOST_RESULTS as u64);
+        let refused = weigh(&sheet).expect_err("a refused mark");
+        assert_eq!(refused.place, fifth as u64);
+        marked += u64::from(refused.number == refusal::STC_RESECURITISATION);
+        no_code += u64::from(refused.number == refusal::FACT);
+        sheet[fifth] = 0;
+        else_good += u64::from(weigh(&sheet).is_ok());
+    }
+    assert!(
+        marked > 50 && no_code > 25 && else_good > 10,
+        "{marked} {no_code} {else_good}"
+    );
+}
+
+/// Non-senior tranches of just one half of the pool and a millionth more or less occur, rated, with and without the
+/// mark.
+#[test]
+fn half_thick_tranches_are_half_thick() {
+    let mut met = BTreeSet::new();
+    for sheet in sheets(Kind::HalfThick, 10_000) {
+        let Ok(deal) = independent::weigh(&sheet, MOST_RESULTS as u64) else {
+            continue;
+        };
+        let layout = Layout::of_sheet(&sheet);
+        for (tranche, line) in deal.lines.iter().enumerate() {
+            let class = sheet[layout.tranche_word(tranche, TrancheWord::Class)];
+            let rated = line.approach == Approach::SecErba.word();
+            let mark = layout.fact_word(&sheet, Fact::Stc);
+            met.extend((rated && class == 2).then_some((mark, line.detachment - line.attachment)));
+        }
+    }
+    let wanted = [0, 1].map(|mark| [499_999, 500_000, 500_001].map(|thickness| (mark, thickness)));
+    assert!(wanted.as_flattened().iter().all(|case| met.contains(case)));
 }
 
 /// The unknown exposure comes within a unit of 5% from below and from above, and meets it.

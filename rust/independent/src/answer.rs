@@ -15,7 +15,7 @@ pub struct Deal {
 }
 
 /// One tranche's line. Approach is 0 for the fallback, 1 for SEC-ERBA, 2 for SEC-SA. Attachment and detachment are A
-/// and D in millionths. `amounts` lists every triple that document 01 admits, in rising order of weight: one triple,
+/// and D in millionths. `amounts` lists every triple that the papers admit, in rising order of weight: one triple,
 /// or two where two raw weights pass and still differ after floor and cap.
 #[derive(Debug, Clone, PartialEq, Eq)]
 pub struct Line {

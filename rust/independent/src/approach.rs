@@ -1,9 +1,10 @@
-//! "Which approach, then floor, then cap" of document 01. Weights are in hundredths of a percent.
+//! "Which approach, then floor, then cap" of document 01, with the STC deals of S-1. Weights are in hundredths of a
+//! percent.
 
 use crate::answer::{Amounts, Line, Refusal};
 use crate::charge::{average_risk_weight_times, to_word, Points, PoolCharge};
 use crate::formula::{raw_weights, Terms, HIGHEST_WEIGHT};
-use crate::rating;
+use crate::rating::{self, Table};
 use crate::sheet::{Facts, Row, Tranche};
 
 /// The number of the refusal of a SEC-SA tranche with A equal to D, above the pool charge.
@@ -17,23 +18,54 @@ pub enum Approach {
     SecSa = 2,
 }
 
-/// What differs between an ordinary securitisation and a re-securitisation. The supervisory parameter is counted in
-/// halves, so that 1.5 is a whole number.
+/// What differs between an ordinary securitisation, an STC deal and a re-securitisation. The supervisory parameter is
+/// counted in halves, so that 0.5 and 1.5 are whole numbers. Class 1 has a floor of its own.
 struct DealKind {
     parameter_halves: u64,
+    senior_floor: u64,
     floor: u64,
 }
 
 /// Supervisory parameter 1 and floor 1,500.
 const ORDINARY: DealKind = DealKind {
     parameter_halves: 2,
+    senior_floor: 1_500,
+    floor: 1_500,
+};
+/// Supervisory parameter 0.5, floor 1,000 for class 1 and 1,500 below.
+const STC: DealKind = DealKind {
+    parameter_halves: 1,
+    senior_floor: 1_000,
     floor: 1_500,
 };
 /// Supervisory parameter 1.5 and floor 10,000.
 const RESECURITISATION: DealKind = DealKind {
     parameter_halves: 3,
+    senior_floor: 10_000,
     floor: 10_000,
 };
+
+impl DealKind {
+    /// The kind of a deal.
+    fn of(facts: &Facts) -> DealKind {
+        if facts.resecuritisation {
+            RESECURITISATION
+        } else if facts.stc {
+            STC
+        } else {
+            ORDINARY
+        }
+    }
+
+    /// The floor of a class.
+    fn floor(&self, class: u64) -> u64 {
+        if class == 1 {
+            self.senior_floor
+        } else {
+            self.floor
+        }
+    }
+}
 
 /// The approach, by the first of these that holds: no due diligence, fallback; re-securitisation, SEC-SA; any of the
 /// three ratings present, SEC-ERBA; unknown above 5%, fallback; else SEC-SA.
@@ -68,16 +100,7 @@ pub fn average_weight(pool: &[Row]) -> u64 {
     to_word(average_risk_weight_times(100, pool))
 }
 
-/// The kind of a deal.
-fn kind(facts: &Facts) -> DealKind {
-    if facts.resecuritisation {
-        RESECURITISATION
-    } else {
-        ORDINARY
-    }
-}
-
-/// The cap, where it applies: to class 1 of an ordinary deal with known composition.
+/// The cap, where it applies: to class 1 of a deal with known composition that is no re-securitisation.
 fn cap(facts: &Facts, tranche: &Tranche, average_weight: u64) -> Option<u64> {
     let applies = tranche.class == 1 && !facts.resecuritisation && facts.composition_known;
     applies.then_some(average_weight)
@@ -95,20 +118,22 @@ pub fn line(
     average_weight: u64,
 ) -> Line {
     let Points { attachment, detachment } = points;
-    let DealKind {
-        parameter_halves,
-        floor,
-    } = kind(facts);
+    let kind = DealKind::of(facts);
+    let floor = kind.floor(tranche.class);
     let cap = cap(facts, tranche, average_weight);
     let limited = |raw: Vec<u64>| raw.into_iter().map(|raw| floor_then_cap(raw, floor, cap)).collect();
     let mut weights: Vec<u64> = match approach {
         Approach::Fallback => vec![HIGHEST_WEIGHT],
-        Approach::SecErba => limited(vec![rating::weight(tranche, detachment - attachment)]),
+        Approach::SecErba => limited(vec![rating::weight(
+            Table::of(facts.stc),
+            tranche,
+            detachment - attachment,
+        )]),
         Approach::SecSa => limited(raw_weights(&Terms {
             charge,
             attachment,
             detachment,
-            parameter_halves,
+            parameter_halves: kind.parameter_halves,
         })),
     };
     weights.dedup();
@@ -164,6 +189,29 @@ mod tests {
         );
     }
 
+    /// The facts of a deal with due diligence and known composition.
+    fn facts(resecuritisation: bool, stc: bool) -> Facts {
+        Facts {
+            resecuritisation,
+            due_diligence_held: true,
+            composition_known: true,
+            stc,
+        }
+    }
+
+    /// Parameter and floors of the three kinds of deals. Class 1 of an STC deal alone has another floor than the classes
+    /// below it.
+    #[test]
+    fn parameters_and_floors() {
+        let of = |resecuritisation, stc| {
+            let kind = DealKind::of(&facts(resecuritisation, stc));
+            (kind.parameter_halves, [1, 2, 32].map(|class| kind.floor(class)))
+        };
+        assert_eq!(of(false, false), (2, [1_500, 1_500, 1_500]));
+        assert_eq!(of(false, true), (1, [1_000, 1_500, 1_500]));
+        assert_eq!(of(true, false), (3, [10_000, 10_000, 10_000]));
+    }
+
     /// Floor first, then cap, also below the floor. Floor after cap would lift the 1,000 to 1,500.
     #[test]
     fn cap_comes_after_floor() {
@@ -202,38 +250,39 @@ mod tests {
         );
     }
 
-    /// The five steps of the choice, each with all later ones open.
+    /// The five steps of the choice, each with all later ones open. The STC mark decides nothing in it.
     #[test]
     fn approach_in_order() {
-        let chosen = |due_diligence_held, resecuritisation, ratings, unknown_above_limit| {
-            let facts = Facts {
-                resecuritisation,
-                due_diligence_held,
-                composition_known: true,
+        for stc in [false, true] {
+            let chosen = |due_diligence_held, resecuritisation, ratings, unknown_above_limit| {
+                let facts = Facts {
+                    due_diligence_held,
+                    ..facts(resecuritisation, stc)
+                };
+                let tranche = Tranche {
+                    amount: 1,
+                    class: 1,
+                    months: 1,
+                    held: 1,
+                    ratings,
+                    place: 0,
+                };
+                choose(
+                    &facts,
+                    &tranche,
+                    &PoolCharge {
+                        charge: 1_000_000,
+                        unknown_above_limit,
+                    },
+                )
             };
-            let tranche = Tranche {
-                amount: 1,
-                class: 1,
-                months: 1,
-                held: 1,
-                ratings,
-                place: 0,
-            };
-            choose(
-                &facts,
-                &tranche,
-                &PoolCharge {
-                    charge: 1_000_000,
-                    unknown_above_limit,
-                },
-            )
-        };
-        assert_eq!(chosen(false, true, [1, 0, 0], true), Approach::Fallback);
-        assert_eq!(chosen(true, true, [1, 0, 0], true), Approach::SecSa);
-        for ratings in [[1, 0, 0], [0, 18, 0], [0, 0, 24]] {
-            assert_eq!(chosen(true, false, ratings, true), Approach::SecErba);
+            assert_eq!(chosen(false, true, [1, 0, 0], true), Approach::Fallback);
+            assert_eq!(chosen(true, true, [1, 0, 0], true), Approach::SecSa);
+            for ratings in [[1, 0, 0], [0, 18, 0], [0, 0, 24]] {
+                assert_eq!(chosen(true, false, ratings, true), Approach::SecErba);
+            }
+            assert_eq!(chosen(true, false, [0, 0, 0], true), Approach::Fallback);
+            assert_eq!(chosen(true, false, [0, 0, 0], false), Approach::SecSa);
         }
-        assert_eq!(chosen(true, false, [0, 0, 0], true), Approach::Fallback);
-        assert_eq!(chosen(true, false, [0, 0, 0], false), Approach::SecSa);
     }
 }

@@ -80,7 +80,7 @@ fn value_rounded_up(terms: &Terms) -> u64 {
 ///
 /// A large u/s needs no case of its own. Its exponential lies from 0 to one unit of the last place. For A <= K, `high` is
 /// then the whole number 62,500 x (2 x (K - A) + 2s), and `low` is less than 1 below it: this decides at once, even where
-/// v lies below a whole number by as little as e^(-1,000,000).
+/// v lies below a whole number by less than e^(-300,000).
 fn rounded_up_within<const LIMBS: usize>(terms: &Terms) -> Option<u64> {
     let at_attachment = decay::<LIMBS>(2 * terms.l(), terms.twice_s());
     let at_detachment = decay::<LIMBS>(2 * terms.u(), terms.twice_s());

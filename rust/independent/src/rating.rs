@@ -1,31 +1,81 @@
-//! "The rating table" of document 01. Table figures are in percent, weights in hundredths of a percent.
+//! "The rating table" of document 01, and the second table of S-1. Table figures are in percent, weights in hundredths of
+//! a percent.
 
 use crate::charge::{to_word, WHOLE};
 use crate::sheet::Tranche;
 
-/// The rows of grades 1 to 18: senior 1 year, senior 5 years, non-senior 1 year, non-senior 5 years.
-const TABLE: [[u64; 4]; 18] = [
-    [15, 20, 15, 70],
-    [15, 30, 15, 90],
-    [25, 40, 30, 120],
-    [30, 45, 40, 140],
-    [40, 50, 60, 160],
-    [50, 65, 80, 180],
-    [60, 70, 120, 210],
-    [75, 90, 170, 260],
-    [90, 105, 220, 310],
-    [120, 140, 330, 420],
-    [140, 160, 470, 580],
-    [160, 180, 620, 760],
-    [200, 225, 750, 860],
-    [250, 280, 900, 950],
-    [310, 340, 1050, 1050],
-    [380, 420, 1130, 1130],
-    [460, 505, 1250, 1250],
-    [1250, 1250, 1250, 1250],
-];
-/// The short-term grades 21 to 24, unadjusted.
-const SHORT_TERM: [u64; 4] = [15, 50, 100, 1250];
+/// The figures of a rating table, and what is done with those of a non-senior tranche.
+pub struct Table {
+    /// The rows of grades 1 to 18: senior 1 year, senior 5 years, non-senior 1 year, non-senior 5 years.
+    long_term: [[u64; 4]; 18],
+    /// The short-term grades 21 to 24, unadjusted.
+    short_term: [u64; 4],
+    /// Whether a non-senior weight is held no lower than the senior figure.
+    compared: bool,
+}
+
+/// Document 01's table: Tables 2 and 1 of source document 001.
+static GENERAL: Table = Table {
+    long_term: [
+        [15, 20, 15, 70],
+        [15, 30, 15, 90],
+        [25, 40, 30, 120],
+        [30, 45, 40, 140],
+        [40, 50, 60, 160],
+        [50, 65, 80, 180],
+        [60, 70, 120, 210],
+        [75, 90, 170, 260],
+        [90, 105, 220, 310],
+        [120, 140, 330, 420],
+        [140, 160, 470, 580],
+        [160, 180, 620, 760],
+        [200, 225, 750, 860],
+        [250, 280, 900, 950],
+        [310, 340, 1050, 1050],
+        [380, 420, 1130, 1130],
+        [460, 505, 1250, 1250],
+        [1250, 1250, 1250, 1250],
+    ],
+    short_term: [15, 50, 100, 1250],
+    compared: true,
+};
+/// The table of STC deals: Tables 4 and 3 of source document 001. CRE42.14 has no comparison with the senior figure.
+static STC: Table = Table {
+    long_term: [
+        [10, 10, 15, 40],
+        [10, 15, 15, 55],
+        [15, 20, 15, 70],
+        [15, 25, 25, 80],
+        [20, 30, 35, 95],
+        [30, 40, 60, 135],
+        [35, 40, 95, 170],
+        [45, 55, 150, 225],
+        [55, 65, 180, 255],
+        [70, 85, 270, 345],
+        [120, 135, 405, 500],
+        [135, 155, 535, 655],
+        [170, 195, 645, 740],
+        [225, 250, 810, 855],
+        [280, 305, 945, 945],
+        [340, 380, 1015, 1015],
+        [415, 455, 1250, 1250],
+        [1250, 1250, 1250, 1250],
+    ],
+    short_term: [10, 30, 60, 1250],
+    compared: false,
+};
+
+impl Table {
+    /// The table of a deal, by whether it is an STC deal.
+    pub fn of(stc: bool) -> &'static Table {
+        if stc {
+            &STC
+        } else {
+            &GENERAL
+        }
+    }
+}
+
 /// One year in fifths of a month.
 const ONE_YEAR: u64 = 60;
 /// Five years in fifths of a month.
@@ -33,10 +83,10 @@ const FIVE_YEARS: u64 = 300;
 
 /// The weight of a rated tranche whose thickness D - A is given in millionths: with several ratings the highest weight
 /// counts. Rating code 0 is no rating.
-pub fn weight(tranche: &Tranche, thickness: u64) -> u64 {
+pub fn weight(table: &Table, tranche: &Tranche, thickness: u64) -> u64 {
     let rated = tranche.ratings.iter().filter(|&&code| code != 0);
     rated
-        .map(|&code| grade_weight(code, tranche.class == 1, tranche.months, thickness))
+        .map(|&code| grade_weight(table, code, tranche.class == 1, tranche.months, thickness))
         .max()
         .expect("a rated tranche")
 }
@@ -47,21 +97,23 @@ fn maturity(months: u64) -> u64 {
 }
 
 /// The weight of one rating. Short-term grades are unadjusted. A senior tranche takes the senior figure. A non-senior
-/// one takes its own figure times (1 - min(D - A, one half)), then no lower than the senior figure.
+/// one takes its own figure times (1 - min(D - A, one half)), then, where the table compares them, no lower than the
+/// senior figure.
 ///
 /// To round up once only, both figures are kept as whole numbers over a common divisor: 240 from the line between the
 /// two maturities, and 10^6 from the thickness.
-fn grade_weight(code: u64, senior: bool, months: u64, thickness: u64) -> u64 {
+fn grade_weight(table: &Table, code: u64, senior: bool, months: u64, thickness: u64) -> u64 {
     if code > 18 {
-        return 100 * SHORT_TERM[code as usize - 21];
+        return 100 * table.short_term[code as usize - 21];
     }
-    let [senior_one, senior_five, junior_one, junior_five] = TABLE[code as usize - 1];
+    let [senior_one, senior_five, junior_one, junior_five] = table.long_term[code as usize - 1];
     let senior_figure = between(senior_one, senior_five, months) * WHOLE;
     let kept = WHOLE - u128::from(thickness).min(WHOLE / 2);
-    let figure = if senior {
-        senior_figure
-    } else {
-        senior_figure.max(between(junior_one, junior_five, months) * kept)
+    let junior_figure = between(junior_one, junior_five, months) * kept;
+    let figure = match (senior, table.compared) {
+        (true, _) => senior_figure,
+        (false, true) => junior_figure.max(senior_figure),
+        (false, false) => junior_figure,
     };
     to_word((100 * figure).div_ceil(u128::from(FIVE_YEARS - ONE_YEAR) * WHOLE))
 }
@@ -87,28 +139,43 @@ mod tests {
     /// Checked deal: senior AA, 36 months: 3,100. A senior tranche's thickness does not count.
     #[test]
     fn senior_between_the_years() {
-        assert_eq!(grade_weight(3, true, 36, 500_000), 3_100);
-        assert_eq!(grade_weight(3, true, 36, 0), 3_100);
+        assert_eq!(grade_weight(&GENERAL, 3, true, 36, 500_000), 3_100);
+        assert_eq!(grade_weight(&GENERAL, 3, true, 36, 0), 3_100);
+        // (15 + 5 x 96 / 240)%
+        assert_eq!(grade_weight(&STC, 3, true, 36, 500_000), 1_700);
     }
 
     /// Checked deal: non-senior A+, 12 months, half thick: 4,000, which is the senior figure.
     #[test]
     fn non_senior_is_no_lower_than_senior() {
-        assert_eq!(grade_weight(5, false, 12, 500_000), 4_000);
-        assert_eq!(grade_weight(5, false, 12, 0), 6_000);
+        assert_eq!(grade_weight(&GENERAL, 5, false, 12, 500_000), 4_000);
+        assert_eq!(grade_weight(&GENERAL, 5, false, 12, 0), 6_000);
+    }
+
+    /// In an STC deal a non-senior weight may lie below the senior figure: A+, 12 months, half thick; AA, 13 months,
+    /// one tenth thick; the worst grade, half thick.
+    #[test]
+    fn stc_non_senior_is_not_raised_to_senior() {
+        assert_eq!(grade_weight(&STC, 5, false, 12, 500_000), 1_750);
+        assert_eq!(grade_weight(&STC, 5, true, 12, 500_000), 2_000);
+        // (15 + 55 x 4 / 240)% x 0.9 = 14.325%, and (15 + 5 x 4 / 240)% = 15.0833%
+        assert_eq!(grade_weight(&STC, 3, false, 13, 100_000), 1_433);
+        assert_eq!(grade_weight(&STC, 3, true, 13, 100_000), 1_509);
+        assert_eq!(grade_weight(&STC, 18, false, 72, 500_000), 62_500);
+        assert_eq!(grade_weight(&STC, 18, true, 72, 500_000), 125_000);
     }
 
     /// More than half thick counts as half; the result is rounded up once.
     #[test]
     fn thickness_is_held_at_one_half() {
-        assert_eq!(grade_weight(12, false, 72, 500_000), 38_000);
-        assert_eq!(grade_weight(12, false, 72, 1_000_000), 38_000);
+        let double_b = |months, thickness| grade_weight(&GENERAL, 12, false, months, thickness);
+        assert_eq!([double_b(72, 500_000), double_b(72, 1_000_000)], [38_000, 38_000]);
         // 760% x 0.999999 = 759.99924%
-        assert_eq!(grade_weight(12, false, 72, 1), 76_000);
+        assert_eq!(double_b(72, 1), 76_000);
         // (620 + 140 x 4 / 240)% x 0.9 = 560.1%, and with 1 millionth more thickness just below
-        assert_eq!(grade_weight(12, false, 13, 100_000), 56_010);
-        assert_eq!(grade_weight(12, false, 13, 100_001), 56_010);
-        assert_eq!(grade_weight(12, false, 13, 99_999), 56_011);
+        assert_eq!([double_b(13, 100_000), double_b(13, 100_001)], [56_010, 56_010]);
+        assert_eq!(double_b(13, 99_999), 56_011);
+        assert_eq!(grade_weight(&STC, 12, false, 72, 1_000_000), 32_750);
     }
 
     /// Short-term grades take no adjustment, and the highest weight of several ratings counts.
@@ -122,24 +189,35 @@ mod tests {
             ratings,
             place: 0,
         };
-        assert_eq!(
-            [21, 22, 23, 24].map(|code| grade_weight(code, false, 72, 500_000)),
-            [1_500, 5_000, 10_000, 125_000]
-        );
-        assert_eq!(weight(&tranche([0, 1, 0]), 0), 7_000);
-        assert_eq!(weight(&tranche([21, 0, 1]), 0), 7_000);
-        assert_eq!(weight(&tranche([1, 23, 22]), 0), 10_000);
-        assert_eq!(weight(&tranche([1, 0, 18]), 0), 125_000);
+        let short_term = |table| [21, 22, 23, 24].map(|code| grade_weight(table, code, false, 72, 500_000));
+        assert_eq!(short_term(&GENERAL), [1_500, 5_000, 10_000, 125_000]);
+        assert_eq!(short_term(&STC), [1_000, 3_000, 6_000, 125_000]);
+        let highest = |table, ratings| weight(table, &tranche(ratings), 0);
+        assert_eq!(highest(&GENERAL, [0, 1, 0]), 7_000);
+        assert_eq!(highest(&GENERAL, [21, 0, 1]), 7_000);
+        assert_eq!(highest(&GENERAL, [1, 23, 22]), 10_000);
+        assert_eq!(highest(&GENERAL, [1, 0, 18]), 125_000);
+        assert_eq!(highest(&STC, [21, 0, 1]), 4_000);
+        assert_eq!(highest(&STC, [1, 23, 22]), 6_000);
     }
 
-    /// Weights never fall from one grade to the next, at either end of the maturities: a slip in the table would show.
+    /// Weights never fall from one grade to the next, at either end of the maturities, and are no higher in an STC deal:
+    /// a slip in a table would show.
     #[test]
     fn worse_grades_weigh_no_less() {
-        for column in 0..4 {
-            assert!(TABLE.windows(2).all(|rows| rows[0][column] <= rows[1][column]));
+        for table in [&GENERAL, &STC] {
+            let rows = &table.long_term;
+            for column in 0..4 {
+                assert!(rows.windows(2).all(|rows| rows[0][column] <= rows[1][column]));
+            }
+            assert!(rows
+                .iter()
+                .all(|row| row[0] <= row[1] && row[2] <= row[3] && row[0] <= row[2] && row[1] <= row[3]));
+            assert!(table.short_term.is_sorted());
         }
-        assert!(TABLE
-            .iter()
-            .all(|row| row[0] <= row[1] && row[2] <= row[3] && row[0] <= row[2] && row[1] <= row[3]));
+        let figures = |table: &'static Table| table.long_term.as_flattened().iter().chain(&table.short_term);
+        assert!(figures(&STC)
+            .zip(figures(&GENERAL))
+            .all(|(stc, general)| stc <= general));
     }
 }

@@ -1,4 +1,4 @@
-//! "The deal sheet" and "Refusals, by who can cause them" of document 01.
+//! "The deal sheet" and "Refusals, by who can cause them" of document 01, with the fifth fact and refusal 16 of S-1.
 //!
 //! The words are read from place 0 upward, each judged as it is read, so the first bad word decides at its own place.
 //! A missing word comes after all words that are there, so it is found only when none of those is bad.
@@ -33,9 +33,13 @@ const POOL_KIND: u64 = 12;
 const SHORT_RESULTS: u64 = 14;
 /// The file's length is not a multiple of a word's bytes or over the most.
 const FILE_LENGTH: u64 = 15;
+/// An STC mark on a re-securitisation.
+const STC_RESECURITISATION: u64 = 16;
 
-/// How many facts there are.
-pub const FACTS: usize = 4;
+/// The fewest facts: all but the STC mark.
+pub const FACTS_FEWEST: usize = 4;
+/// The most facts.
+pub const FACTS_MOST: usize = 5;
 /// The most pool rows.
 pub const ROWS_MOST: usize = 1_000;
 /// The words of a pool row.
@@ -48,8 +52,9 @@ pub const RATINGS: usize = 3;
 pub const TRANCHE_WORDS: usize = 4 + RATINGS;
 /// The bytes of a word in a file.
 const WORD_BYTES: usize = 8;
-/// The most bytes a file may have: the facts, the most rows and tranches, and the three counts.
-pub const FILE_BYTES: usize = WORD_BYTES * (1 + FACTS + 1 + ROWS_MOST * ROW_WORDS + 1 + TRANCHES_MOST * TRANCHE_WORDS);
+/// The most bytes a file may have: the most facts, rows and tranches, and the three counts.
+pub const FILE_BYTES: usize =
+    WORD_BYTES * (1 + FACTS_MOST + 1 + ROWS_MOST * ROW_WORDS + 1 + TRANCHES_MOST * TRANCHE_WORDS);
 /// How many result words a tranche takes.
 pub const LINE_WORDS: usize = 6;
 /// The pool kind of an SA pool, the only one that is not refused.
@@ -65,12 +70,13 @@ const TRANCHE_AMOUNT_MOST: u64 = 10_000_000_000_000;
 /// The longest maturity, in months.
 const MONTHS_MOST: u64 = 1200;
 
-/// The facts section without the pool kind, which is 0 in every accepted sheet.
+/// The facts section without the pool kind, which is 0 in every accepted sheet. No re-securitisation is an STC deal.
 #[derive(Debug, Clone, Copy)]
 pub struct Facts {
     pub resecuritisation: bool,
     pub due_diligence_held: bool,
     pub composition_known: bool,
+    pub stc: bool,
 }
 
 /// The status of a pool row.
@@ -165,7 +171,9 @@ pub fn read(words: &[u64]) -> Result<Sheet, Refusal> {
 /// The facts: their count, pool kind, then answers of 0 or 1. A pool kind above 2 is outside its codes (4); kinds 1 and 2
 /// are codes, but the deal is refused for them (12). Both stand at the pool kind's place.
 fn read_facts(reader: &mut Reader) -> Result<Facts, Refusal> {
-    reader.word(COUNT, |count| count == FACTS as u64)?;
+    let count = reader.word(COUNT, |count| {
+        (FACTS_FEWEST as u64..=FACTS_MOST as u64).contains(&count)
+    })?;
     let place = reader.place();
     let kind = reader.word(FACT, |kind| kind <= POOL_KIND_MOST)?;
     if kind != SA_POOL {
@@ -174,12 +182,32 @@ fn read_facts(reader: &mut Reader) -> Result<Facts, Refusal> {
             place,
         });
     }
-    let mut answer = || Ok(reader.word(FACT, |answer| answer <= 1)? == 1);
+    let resecuritisation = read_answer(reader)?;
     Ok(Facts {
-        resecuritisation: answer()?,
-        due_diligence_held: answer()?,
-        composition_known: answer()?,
+        resecuritisation,
+        due_diligence_held: read_answer(reader)?,
+        composition_known: read_answer(reader)?,
+        stc: count == FACTS_MOST as u64 && read_stc(reader, resecuritisation)?,
     })
+}
+
+/// An answer: 0 no, 1 yes.
+fn read_answer(reader: &mut Reader) -> Result<bool, Refusal> {
+    Ok(reader.word(FACT, |answer| answer <= 1)? == 1)
+}
+
+/// The STC mark, an answer like the others (4). A re-securitisation is refused for the answer yes (16), at the same
+/// place.
+fn read_stc(reader: &mut Reader, resecuritisation: bool) -> Result<bool, Refusal> {
+    let place = reader.place();
+    let stc = read_answer(reader)?;
+    if stc && resecuritisation {
+        return Err(Refusal {
+            number: STC_RESECURITISATION,
+            place,
+        });
+    }
+    Ok(stc)
 }
 
 /// A pool row: exposure amount, nominal amount, risk weight, status.

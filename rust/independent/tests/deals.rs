@@ -1,4 +1,4 @@
-//! The checked deals and the misreadings of document 01, and the largest deal, as whole sheets.
+//! The checked deals and the misreadings of document 01, the STC deals of S-1, and the largest deal, as whole sheets.
 
 mod common;
 
@@ -8,9 +8,11 @@ use independent::sheet::{FILE_BYTES, ROWS_MOST, TRANCHES_MOST};
 use independent::{weigh, weigh_file, Amounts, Deal, Line};
 
 /// Facts of an ordinary deal with due diligence and known composition.
-const ORDINARY: Facts = [0, 0, 1, 1];
+const ORDINARY: Facts = &[0, 0, 1, 1];
+/// Facts of an STC deal with due diligence and known composition.
+const STC: Facts = &[0, 0, 1, 1, 1];
 /// Facts of a re-securitisation with due diligence and known composition.
-const RESECURITISATION: Facts = [0, 1, 1, 1];
+const RESECURITISATION: Facts = &[0, 1, 1, 1];
 
 /// A paying pool of 1,000 at one risk weight.
 fn pool_at(risk_weight: u64) -> Vec<Row> {
@@ -98,7 +100,7 @@ fn senior_cap_below_floor() {
             .collect()
     };
     let known: Vec<Vec<u64>> = weights_with(ORDINARY);
-    let unknown: Vec<Vec<u64>> = weights_with([0, 0, 1, 0]);
+    let unknown: Vec<Vec<u64>> = weights_with(&[0, 0, 1, 0]);
     assert_eq!(known, [[1_000], [1_000], [1_500]]);
     assert_eq!(unknown, [[2_000], [1_500], [1_500]]);
 }
@@ -214,13 +216,119 @@ fn resecuritisation() {
     assert_eq!(summary(&low_charge)[0], (2, 200_000, 1_000_000, vec![10_000]));
 }
 
+/// A fifth fact of 0 changes nothing, in an ordinary deal and in a re-securitisation.
+#[test]
+fn fifth_fact_of_zero() {
+    let tranches = [tranche(800, 1, 72, 1), tranche(150, 2, 72, 0), tranche(50, 3, 72, 9)];
+    for (resecuritisation, status) in [(0, 0), (1, 3)] {
+        let pool = [[1_000, 1_000, 125, status]];
+        let four = weighed(&[0, resecuritisation, 1, 1], &pool, &tranches);
+        let five = weighed(&[0, resecuritisation, 1, 1, 0], &pool, &tranches);
+        assert_eq!(four, five);
+    }
+}
+
+/// The formula of an STC deal has parameter 0.5. K = A = 100,000 and D = 200,000 have the value
+/// 62,500 x (1 - e^(-2)) = 54,041.54; class 1 has 7,812.5 x (e^(-2) - e^(-18)) = 1,057.31. Below the charge the weight
+/// is 125,000 as in any deal.
+#[test]
+fn stc_parameter() {
+    let tranches = [tranche(800, 1, 72, 0), tranche(100, 2, 72, 0), tranche(100, 3, 72, 0)];
+    let deal = weighed(STC, &pool_at(125), &tranches);
+    let lines = [
+        (2, 200_000, 1_000_000, vec![1_058, 1_059]),
+        (2, 100_000, 200_000, vec![54_042, 54_043]),
+        (2, 0, 100_000, vec![125_000]),
+    ];
+    assert_eq!((deal.charge, summary(&deal)), (100_000, lines.to_vec()));
+}
+
+/// The weights of an STC deal's lines over a pool at one risk weight, of whose composition nothing is known.
+fn stc_weights(risk_weight: u64, tranches: &[Tranche]) -> Vec<Vec<u64>> {
+    let deal = weighed(&[0, 0, 1, 0, 1], &pool_at(risk_weight), tranches);
+    deal.lines.iter().map(weights).collect()
+}
+
+/// The floor of an STC deal is 1,000 for class 1, in all its rows, and 1,500 below, for the formula and for the table.
+/// Senior AAA is at the floor by its figure; non-senior AAA at one year and one tenth thick is 1,350 and is raised.
+#[test]
+fn stc_floors() {
+    let formula = [
+        tranche(500, 1, 72, 0),
+        tranche(100, 1, 72, 0),
+        tranche(300, 2, 72, 0),
+        tranche(100, 3, 72, 0),
+    ];
+    assert_eq!(stc_weights(1, &formula)[..3], [[1_000], [1_000], [1_500]]);
+    let table = [tranche(800, 1, 72, 1), tranche(100, 2, 12, 1), tranche(100, 3, 12, 21)];
+    assert_eq!(stc_weights(100, &table), [[1_000], [1_500], [1_500]]);
+}
+
+/// The cap of an STC deal acts after its floor, also below it.
+#[test]
+fn stc_cap() {
+    let tranches = [tranche(500, 1, 72, 1), tranche(400, 1, 72, 0), tranche(100, 2, 72, 21)];
+    let deal = weighed(STC, &pool_at(5), &tranches);
+    let all: Vec<Vec<u64>> = deal.lines.iter().map(weights).collect();
+    assert_eq!(all, [[500], [500], [1_500]]);
+}
+
+/// An STC deal is rated by the second table, short-term grades too, with the highest of several ratings.
+#[test]
+fn stc_table() {
+    // Senior AA, 36 months: (15 + 5 x 96 / 240)%. BBB, 60 months: (180 + 75 x 192 / 240)% x 0.9. BB, 72 months:
+    // 655% x 0.9.
+    let long_term = [tranche(800, 1, 36, 3), tranche(100, 2, 60, 9), tranche(100, 3, 72, 12)];
+    assert_eq!(stc_weights(100, &long_term), [[1_700], [21_600], [58_950]]);
+    for (code, senior, junior) in [
+        (21, 1_000, 1_500),
+        (22, 3_000, 3_000),
+        (23, 6_000, 6_000),
+        (24, 125_000, 125_000),
+    ] {
+        let short_term = [tranche(500, 1, 72, code), tranche(500, 2, 72, code)];
+        assert_eq!(stc_weights(100, &short_term), [[senior], [junior]]);
+    }
+    let several = [[1_000, 1, 12, 0, 1, 22, 5]];
+    assert_eq!(stc_weights(100, &several), [[3_000]]);
+}
+
+/// A non-senior weight of an STC deal is not raised to the senior figure. AA, 13 months, one tenth thick: 1,433, and
+/// 1,500 by the floor, against 1,509. A+, 12 months, half thick: 1,750 against 2,000. The worst grade, half thick: 62,500
+/// against 125,000. In a deal without the mark the comparison decides.
+#[test]
+fn stc_non_senior_below_senior() {
+    let double_a = [tranche(900, 1, 13, 3), tranche(100, 2, 13, 3)];
+    assert_eq!(stc_weights(100, &double_a), [[1_509], [1_500]]);
+    let single_a = [tranche(500, 1, 12, 5), tranche(500, 2, 12, 5)];
+    assert_eq!(stc_weights(100, &single_a), [[2_000], [1_750]]);
+    let worst = [tranche(500, 1, 12, 18), tranche(500, 2, 12, 18)];
+    assert_eq!(stc_weights(100, &worst), [[125_000], [62_500]]);
+    for (tranches, senior) in [(single_a, 4_000), (worst, 125_000)] {
+        let deal = weighed(&[0, 0, 1, 0, 0], &pool_at(100), &tranches);
+        assert!(deal.lines.iter().all(|line| weights(line) == [senior]));
+    }
+}
+
+/// The fallback of an STC deal is 125,000: without due diligence for all tranches, above 5% unknown for the unrated.
+#[test]
+fn stc_fallback() {
+    let tranches = [tranche(900, 1, 72, 1), tranche(100, 2, 72, 0)];
+    let without = weighed(&[0, 0, 0, 1, 1], &pool_at(100), &tranches);
+    let lines = [(0, 100_000, 1_000_000, vec![125_000]), (0, 0, 100_000, vec![125_000])];
+    assert_eq!(summary(&without), lines);
+    let unknown = weighed(STC, &[[949, 949, 100, 0], [51, 51, 100, 2]], &tranches);
+    let rated = (1, 100_000, 1_000_000, vec![1_000]);
+    assert_eq!(summary(&unknown), [rated, lines[1].clone()]);
+}
+
 /// Without due diligence every line is the fallback, with no cap, also for a rated tranche of a re-securitisation.
 #[test]
 fn no_due_diligence() {
     let tranches = [tranche(900, 1, 72, 1), tranche(100, 2, 72, 0)];
     let lines = [(0, 100_000, 1_000_000, vec![125_000]), (0, 0, 100_000, vec![125_000])];
     for (resecuritisation, status) in [(0, 0), (1, 3)] {
-        let deal = weighed([0, resecuritisation, 0, 1], &[[1_000, 1_000, 10, status]], &tranches);
+        let deal = weighed(&[0, resecuritisation, 0, 1], &[[1_000, 1_000, 10, status]], &tranches);
         assert_eq!((deal.charge, summary(&deal)), (8_000, lines.to_vec()));
     }
 }
@@ -234,7 +342,7 @@ fn pari_passu_and_equal_weights() {
         tranche(100, 2, 72, 0),
         tranche(400, 3, 72, 0),
     ];
-    let deal = weighed([0, 0, 1, 0], &pool_at(100), &tranches);
+    let deal = weighed(&[0, 0, 1, 0], &pool_at(100), &tranches);
     assert_eq!(summary(&deal)[0], (2, 800_000, 1_000_000, vec![1_500]));
     assert_eq!(summary(&deal)[1], (2, 400_000, 800_000, vec![1_500]));
     assert_eq!(summary(&deal)[2], summary(&deal)[1]);
@@ -258,7 +366,7 @@ fn lines_depend_on_their_own_ratings() {
     }
 }
 
-/// The largest deal: the most rows and tranches, all amounts and weights at their most, fills the largest file. Each
+/// The largest deal: the most facts, rows and tranches, all amounts and weights at their most, fills the largest file. Each
 /// tranche holds the whole pool, so all but the first have A = D = 0.
 #[test]
 fn largest_amounts() {
@@ -267,7 +375,7 @@ fn largest_amounts() {
     let tranches: Vec<Tranche> = (1..=TRANCHES_MOST as u64)
         .map(|class| tranche(ROWS_MOST as u64 * most, class, 1200, 0))
         .collect();
-    let words = sheet(ORDINARY, &pool, &tranches);
+    let words = sheet(STC, &pool, &tranches);
     assert_eq!(file(&words).len(), FILE_BYTES);
     let deal = weigh_file(&file(&words), room(TRANCHES_MOST)).expect("an accepted file");
     assert_eq!((deal.charge, deal.lines.len()), (1_000_000, TRANCHES_MOST));
@@ -297,7 +405,7 @@ fn largest_deal_in_slices() {
     let tranches: Vec<Tranche> = (1..=TRANCHES_MOST as u64)
         .map(|class| tranche(slice, class, 1200, 0))
         .collect();
-    let deal = weighed([0, 0, 1, 0], &pool, &tranches);
+    let deal = weighed(&[0, 0, 1, 0], &pool, &tranches);
     assert_eq!(deal.charge, 16_000);
     let all: Vec<Vec<u64>> = deal.lines.iter().map(weights).collect();
     assert!(all.windows(2).all(|pair| pair[0] <= pair[1]));

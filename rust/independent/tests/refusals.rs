@@ -17,13 +17,19 @@ fn refusal(number: u64, place: u64) -> Refusal {
 /// A sheet without due diligence, so that no refusal but those of its words can come. Nothing is held. The places: 1 to 4
 /// the facts, 6 to 13 two pool rows, 14 the tranche count, 15, 22 and 29 the tranche amounts.
 fn plain(resecuritisation: u64, status: u64) -> Vec<u64> {
+    plain_with(&[0, resecuritisation, 0, 0], status)
+}
+
+/// The same with five facts, so that all places after the facts are one higher.
+fn plain_five(resecuritisation: u64, status: u64) -> Vec<u64> {
+    plain_with(&[0, resecuritisation, 0, 0, 0], status)
+}
+
+/// Such a sheet with these facts.
+fn plain_with(facts: Facts, status: u64) -> Vec<u64> {
     let row = [500, 500, 100, status];
     let tranche = |class| [300, class, 72, 0, 0, 0, 0];
-    sheet(
-        [0, resecuritisation, 0, 0],
-        &[row, row],
-        &[tranche(1), tranche(2), tranche(2)],
-    )
+    sheet(facts, &[row, row], &[tranche(1), tranche(2), tranche(2)])
 }
 
 /// A sheet with one word changed.
@@ -50,13 +56,55 @@ fn limits(words: &[u64], places: &[usize], good: &[u64], bad: &[u64], number: u6
 #[test]
 fn counts_and_facts() {
     let words = plain(0, 0);
-    limits(&words, &[0], &[4], &[0, 3, 5, MOST], 2);
+    limits(&words, &[0], &[4], &[0, 3, 6, MOST], 2);
     limits(&words, &[5], &[2], &[0, 1_001, MOST], 2);
     limits(&words, &[14], &[3], &[0, 33, MOST], 2);
     limits(&words, &[1], &[0], &[3, MOST], 4);
     limits(&words, &[1], &[0], &[1, 2], 12);
     limits(&words, &[2], &[0], &[2, MOST], 4);
     limits(&words, &[3, 4], &[0, 1], &[2, MOST], 4);
+}
+
+/// With five facts: the counts and the facts at their places.
+#[test]
+fn five_facts() {
+    let words = plain_five(0, 0);
+    limits(&words, &[0], &[5], &[0, 3, 6, MOST], 2);
+    limits(&words, &[6], &[2], &[0, 1_001, MOST], 2);
+    limits(&words, &[15], &[3], &[0, 33, MOST], 2);
+    limits(&words, &[1], &[0], &[3, MOST], 4);
+    limits(&words, &[1], &[0], &[1, 2], 12);
+    limits(&words, &[3, 4, 5], &[0, 1], &[2, MOST], 4);
+}
+
+/// Refusal 16: an STC mark of 1 on a re-securitisation. A mark that is no code gets 4 there too.
+#[test]
+fn mark_on_a_resecuritisation() {
+    let words = plain_five(1, 3);
+    limits(&words, &[5], &[0], &[1], 16);
+    limits(&words, &[5], &[0], &[2, MOST], 4);
+}
+
+/// 16 is judged in its place: after the facts before it, and before all later words, whether bad or missing, and before
+/// words that follow and short results.
+#[test]
+fn mark_is_judged_in_its_place() {
+    let marked = with(&plain_five(1, 3), 5, 1);
+    assert_eq!(weigh(&with(&marked, 4, 2), 0), Err(refusal(4, 4)));
+    assert_eq!(weigh(&with(&marked, 1, 1), 0), Err(refusal(12, 1)));
+    assert_eq!(weigh(&with(&marked, 6, 0), 0), Err(refusal(16, 5)));
+    assert_eq!(weigh(&with(&marked, 10, 0), 0), Err(refusal(16, 5)));
+    assert_eq!(weigh(&marked[..6], 0), Err(refusal(16, 5)));
+    assert_eq!(weigh(&marked[..5], 0), Err(refusal(1, 5)));
+    assert_eq!(weigh(&[marked, vec![0]].concat(), 0), Err(refusal(16, 5)));
+}
+
+/// A count of five asks for a fifth fact, whatever was meant: in a sheet with four it takes the count of rows for the
+/// mark, and a count of four takes the mark for the count of rows.
+#[test]
+fn count_of_facts_decides() {
+    assert_eq!(weigh(&with(&plain(0, 0), 0, 5), room(3)), Err(refusal(4, 5)));
+    assert_eq!(weigh(&with(&plain_five(0, 0), 0, 4), room(3)), Err(refusal(2, 5)));
 }
 
 /// Refusals 5, 6 and 7: the pool rows, in an ordinary deal and in a re-securitisation.
@@ -108,7 +156,7 @@ fn tranche_rows() {
 fn counts_at_their_limits() {
     for (rows, tranches) in [(1, 1), (1, TRANCHES_MOST), (ROWS_MOST, 1), (ROWS_MOST, TRANCHES_MOST)] {
         let words = sheet(
-            [0, 0, 0, 0],
+            &[0, 0, 0, 0],
             &vec![[1, 1, 0, 0]; rows],
             &vec![[1, 1, 1, 0, 0, 0, 0]; tranches],
         );
@@ -119,9 +167,10 @@ fn counts_at_their_limits() {
 /// Refusal 1: a sheet cut short anywhere lacks a needed word, at its length.
 #[test]
 fn missing_words() {
-    let words = plain(0, 0);
-    for length in 0..words.len() {
-        assert_eq!(weigh(&words[..length], room(3)), Err(refusal(1, length as u64)));
+    for words in [plain(0, 0), plain_five(0, 0)] {
+        for length in 0..words.len() {
+            assert_eq!(weigh(&words[..length], room(3)), Err(refusal(1, length as u64)));
+        }
     }
 }
 
@@ -172,7 +221,7 @@ fn short_results() {
     for short in [0, room(3) - 1] {
         assert_eq!(weigh(&words, short), Err(refusal(14, 0)));
         assert_eq!(weigh(&[words.clone(), vec![0]].concat(), short), Err(refusal(3, 36)));
-        assert_eq!(weigh(&thin([0, 0, 1, 1], 0, 0), short), Err(refusal(14, 0)));
+        assert_eq!(weigh(&thin(&[0, 0, 1, 1], 0, 0), short), Err(refusal(14, 0)));
     }
     assert!(weigh(&words, room(3)).is_ok() && weigh(&words, MOST).is_ok());
 }
@@ -182,15 +231,18 @@ fn short_results() {
 #[test]
 fn no_thickness() {
     // N less 1,000,000 is 999,900 millionths; one unit less rounds down to 999,899, and another one stays there.
-    assert_eq!(weigh(&thin([0, 0, 1, 1], 0, 0), room(3)), Err(refusal(13, 25)));
-    assert_eq!(weigh(&thin([0, 1, 1, 1], 3, 24), room(3)), Err(refusal(13, 25)));
-    assert!(weigh(&thin([0, 0, 1, 1], 0, 18), room(3)).is_ok());
-    assert!(weigh(&thin([0, 0, 0, 1], 0, 0), room(3)).is_ok());
+    assert_eq!(weigh(&thin(&[0, 0, 1, 1], 0, 0), room(3)), Err(refusal(13, 25)));
+    assert_eq!(weigh(&thin(&[0, 1, 1, 1], 3, 24), room(3)), Err(refusal(13, 25)));
+    assert!(weigh(&thin(&[0, 0, 1, 1], 0, 18), room(3)).is_ok());
+    assert!(weigh(&thin(&[0, 0, 0, 1], 0, 0), room(3)).is_ok());
     // With 1 in class 1, the points below it are all 999,999: the second tranche is refused before the third.
-    let two_thin = with(&thin([0, 0, 1, 1], 0, 0), 11, 1);
+    let two_thin = with(&thin(&[0, 0, 1, 1], 0, 0), 11, 1);
     assert_eq!(weigh(&two_thin, room(3)), Err(refusal(13, 18)));
-    let high_charge = with(&thin([0, 0, 1, 1], 0, 0), 8, 1250);
+    let high_charge = with(&thin(&[0, 0, 1, 1], 0, 0), 8, 1250);
     assert!(weigh(&high_charge, room(3)).is_ok());
+    // In an STC deal too, at a place that is one higher.
+    assert_eq!(weigh(&thin(&[0, 0, 1, 1, 1], 0, 0), room(3)), Err(refusal(13, 26)));
+    assert!(weigh(&thin(&[0, 0, 1, 1, 1], 0, 18), room(3)).is_ok());
 }
 
 /// A equal to D at the charge is accepted, one millionth above the charge it is refused.
@@ -202,7 +254,7 @@ fn no_thickness_at_the_charge() {
         let pool = [[10_000_000_000, 10_000_000_000, 125, 0]];
         weigh(
             &sheet(
-                [0, 0, 1, 1],
+                &[0, 0, 1, 1],
                 &pool,
                 &[[first, 1, 72, 0, 0, 0, 0], [1, 2, 72, 1, 0, 0, 0]],
             ),
@@ -218,7 +270,7 @@ fn no_thickness_at_the_charge() {
     assert_eq!(deal(1_000_010_001), Err(refusal(13, 18)));
 }
 
-/// Refusal 15: a length that is not a multiple of 8 or over the most, which is 33,848 bytes, before all others, at place
+/// Refusal 15: a length that is not a multiple of 8 or over the most, which is 33,856 bytes, before all others, at place
 /// 0.
 #[test]
 fn file_lengths() {
@@ -229,7 +281,7 @@ fn file_lengths() {
         assert_eq!(weigh_file(&bytes[..length], 0), Err(refusal(15, 0)));
     }
     assert_eq!(weigh_file(&bytes[..16], 0), Err(refusal(1, 2)));
-    assert_eq!(FILE_BYTES, 33_848);
+    assert_eq!(FILE_BYTES, 33_856);
     assert_eq!(weigh_file(&[255; FILE_BYTES], 0), Err(refusal(2, 0)));
     assert_eq!(weigh_file(&[255; FILE_BYTES + 8], 0), Err(refusal(15, 0)));
     assert_eq!(weigh_file(&[255; FILE_BYTES - 1], 0), Err(refusal(15, 0)));

@@ -1,8 +1,10 @@
 //! "The deal sheet" and "Refusals": how many words there are of each sort, the highest values, and the numbers of the
 //! refusals.
 
-/// The facts of a sheet.
-pub const FACTS: u64 = 4;
+/// The fewest facts of a sheet: all but the STC mark.
+pub const FEWEST_FACTS: u64 = 4;
+/// The most facts of a sheet.
+pub const MOST_FACTS: u64 = 5;
 /// The most rows that a pool can hold.
 pub const MOST_ROWS: u64 = 1_000;
 /// The most tranches that a sheet can hold.
@@ -53,4 +55,6 @@ pub mod refusal {
     pub const NO_THICKNESS: u64 = 13;
     /// Results shorter than the lines.
     pub const ROOM: u64 = 14;
+    /// An STC mark on a re-securitisation.
+    pub const STC_RESECURITISATION: u64 = 16;
 }

@@ -1,8 +1,8 @@
 //! "The deal sheet" and "Refusals": reading the words in order and refusing the first bad one.
 
 use crate::limits::{
-    refusal, FACTS, MOST_MONTHS, MOST_POOL_AMOUNT, MOST_RISK_WEIGHT, MOST_ROWS, MOST_TRANCHES, MOST_TRANCHE_AMOUNT,
-    RATINGS, TRANCHE_WORDS,
+    refusal, FEWEST_FACTS, MOST_FACTS, MOST_MONTHS, MOST_POOL_AMOUNT, MOST_RISK_WEIGHT, MOST_ROWS, MOST_TRANCHES,
+    MOST_TRANCHE_AMOUNT, RATINGS, TRANCHE_WORDS,
 };
 use crate::pool::{status, Pool, Row};
 use std::ops::RangeInclusive;
@@ -29,6 +29,7 @@ pub struct Facts {
     pub resecuritisation: bool,
     pub due_diligence: bool,
     pub composition_known: bool,
+    pub stc: bool,
 }
 
 /// A tranche's row by its names. The amount is used in the points alone and is left out.
@@ -108,18 +109,28 @@ impl Reader<'_> {
 
     /// The section of facts. Pool kinds 1 and 2 are listed codes, and refused by a number of their own.
     fn facts(&mut self) -> Result<Facts, Refusal> {
-        self.within(FACTS..=FACTS, refusal::COUNT)?;
+        let count = self.within(FEWEST_FACTS..=MOST_FACTS, refusal::COUNT)?;
         if self.within(0..=2, refusal::FACT)? != 0 {
             return self.refuse(refusal::POOL_KIND);
         }
-        Ok(Facts {
+        let mut facts = Facts {
             resecuritisation: self.flag()?,
             due_diligence: self.flag()?,
             composition_known: self.flag()?,
-        })
+            stc: false,
+        };
+        if count == MOST_FACTS {
+            facts.stc = self.flag()?;
+        }
+        if facts.stc && facts.resecuritisation {
+            return self.refuse(refusal::STC_RESECURITISATION);
+        }
+        Ok(facts)
     }
 
     /// The section of the pool, added up row by row. A re-securitisation holds securitisation tranches and nothing else.
+    /// Its loop is quicker in a function of its own than within `read`.
+    #[inline(never)]
     fn pool(&mut self, resecuritisation: bool) -> Result<Pool, Refusal> {
         let statuses = if resecuritisation {
             status::TRANCHE..=status::TRANCHE

@@ -1,5 +1,6 @@
 //! "Which approach, then floor, then cap" and "The formula and its series", tranche by tranche.
 
+use crate::kind::Kind;
 use crate::limits::{LINE_WORDS, RATINGS};
 use crate::points::Points;
 use crate::rating;
@@ -23,31 +24,23 @@ pub struct Terms {
     charge_known: bool,
     due_diligence: bool,
     resecuritisation: bool,
-    /// The supervisory parameter p.
-    parameter: f64,
-    floor: f64,
+    kind: &'static Kind,
     /// The cap of class 1; infinite where the deal has none.
     senior_cap: f64,
 }
 
 impl Terms {
-    /// Works out the charge, the parameter, the floor and the cap of a deal.
+    /// Works out the charge and the cap of a deal, and names its kind.
     pub fn of(deal: &Deal) -> Self {
         let facts = &deal.facts;
         let charge = deal.pool.charge();
-        let (parameter, floor) = if facts.resecuritisation {
-            (1.5, 10_000.0)
-        } else {
-            (1.0, 1_500.0)
-        };
         let capped = facts.composition_known && !facts.resecuritisation;
         Terms {
             charge: charge.unwrap_or(1e6),
             charge_known: charge.is_some(),
             due_diligence: facts.due_diligence,
             resecuritisation: facts.resecuritisation,
-            parameter,
-            floor,
+            kind: Kind::of(facts),
             senior_cap: if capped { deal.pool.cap() } else { f64::INFINITY },
         }
     }
@@ -72,7 +65,7 @@ impl Terms {
         let approach = self.approach(tranche);
         let weight = match approach {
             Approach::Fallback => FULL,
-            Approach::SecErba => self.limited(tranche, rated_weight(tranche, points)),
+            Approach::SecErba => self.limited(tranche, self.rated_weight(tranche, points)),
             Approach::SecSa => self.limited(tranche, self.formula(points)),
         };
         let weighted = tranche.held as f64 * weight;
@@ -88,14 +81,21 @@ impl Terms {
         ]
     }
 
-    /// A weight raised to the floor, then lowered to the cap of class 1.
+    /// A weight raised to the floor of its class, then lowered to the cap of class 1.
     fn limited(&self, tranche: &Tranche, weight: f64) -> f64 {
-        let cap = if tranche.class == 1 {
-            self.senior_cap
+        if tranche.class == 1 {
+            weight.max(self.kind.senior_floor).min(self.senior_cap)
         } else {
-            f64::INFINITY
-        };
-        weight.max(self.floor).min(cap)
+            weight.max(self.kind.floor)
+        }
+    }
+
+    /// The highest weight of the ratings that are present.
+    fn rated_weight(&self, tranche: &Tranche, points: &Points) -> f64 {
+        let present = tranche.ratings.iter().filter(|&&code| code != 0);
+        present
+            .map(|&code| rating::weight(self.kind.table, code, tranche.class == 1, tranche.months, points))
+            .fold(0.0, f64::max)
     }
 
     /// The raw weight of SEC-SA. With D above K the tranche has a thickness: the other sheets were refused.
@@ -107,19 +107,11 @@ impl Terms {
         if self.charge == 0.0 {
             return 0.0;
         }
-        let scale = self.parameter * self.charge;
+        let scale = self.kind.parameter * self.charge;
         let lower = (attachment - self.charge).max(0.0);
         let upper = detachment - self.charge;
         let full_part = (self.charge - attachment).max(0.0);
         let part = full_part + scale * ((-lower / scale).exp() - (-upper / scale).exp());
         (FULL * part / (detachment - attachment)).ceil().min(FULL)
     }
-}
-
-/// The highest weight of the ratings that are present.
-fn rated_weight(tranche: &Tranche, points: &Points) -> f64 {
-    let present = tranche.ratings.iter().filter(|&&code| code != 0);
-    present
-        .map(|&code| rating::weight(code, tranche.class == 1, tranche.months, points))
-        .fold(0.0, f64::max)
 }

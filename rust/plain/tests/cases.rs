@@ -1,4 +1,4 @@
-//! Document 01's checked deals and refusals, through the one function that callers have.
+//! Document 01's checked deals and refusals, and the STC deals of S-1, through the one function that callers have.
 
 use plain::LINE_WORDS;
 
@@ -10,6 +10,9 @@ type Tranche = [u64; 7];
 
 /// The facts' section of an ordinary deal.
 const FACTS: [u64; 5] = [4, 0, 0, 1, 1];
+
+/// The facts' section of an STC deal.
+const STC: [u64; 6] = [5, 0, 0, 1, 1, 1];
 
 /// Where a line holds its approach.
 const APPROACH: usize = 0;
@@ -138,6 +141,52 @@ fn resecuritisation_takes_its_own_parameter_and_floor_and_no_ratings() {
     assert_eq!(lines[0][WEIGHT], 10_000, "the floor, and no cap");
 }
 
+/// Parameter 0.5: 125,000 × 0.5 × (1 − e^(−2)) = 54,041.5… for K = A = 100,000 and D = 200,000.
+#[test]
+fn stc_deal_takes_half_the_parameter() {
+    let tranches = [tranche(800, 1, 0), tranche(100, 2, 0), tranche(100, 3, 0)];
+    let (charge, lines) = weighed(&sheet(&STC, &[[1_000, 1_000, 125, 0]], &tranches));
+    assert_eq!(charge, 100_000);
+    assert!(lines[1][WEIGHT].abs_diff(54_042) <= 2, "{}", lines[1][WEIGHT]);
+    assert_eq!(lines[2][WEIGHT], 125_000, "D = K");
+}
+
+/// Floor 1,000 for class 1 and 1,500 below, by the formula and by the table; the cap acts after the floor.
+#[test]
+fn stc_deal_takes_its_own_floors() {
+    let unknown = [5, 0, 0, 1, 0, 1];
+    let tranches = [tranche(500, 1, 0), tranche(400, 2, 0), tranche(100, 3, 21)];
+    let weights = |facts: &[u64], risk_weight| {
+        let (_, lines) = weighed(&sheet(facts, &[[1_000, 1_000, risk_weight, 0]], &tranches));
+        [lines[0][WEIGHT], lines[1][WEIGHT], lines[2][WEIGHT]]
+    };
+    assert_eq!(weights(&unknown, 1), [1_000, 1_500, 1_500]);
+    assert_eq!(weights(&STC, 1), [100, 1_500, 1_500]);
+}
+
+/// Senior AA at 36 months; non-senior A+ at 12 months, half thick, below the senior figure of 2,000.
+#[test]
+fn stc_deal_takes_its_own_table() {
+    let loans = [[1_000, 1_000, 100, 0]];
+    let (_, lines) = weighed(&sheet(
+        &STC,
+        &loans,
+        &[[500, 1, 36, 0, 3, 0, 0], [500, 2, 12, 0, 5, 0, 0]],
+    ));
+    assert_eq!([lines[0][WEIGHT], lines[1][WEIGHT]], [1_700, 1_750]);
+}
+
+/// The fifth fact is 0 or 1, and 0 in a re-securitisation; with 0 the answer is that of four facts.
+#[test]
+fn stc_mark_is_judged_at_the_fifth_fact() {
+    let with_facts = |facts: &[u64]| [facts, &CHECKED[5..]].concat();
+    assert_eq!(weighed(&with_facts(&[5, 0, 0, 1, 1, 0])), weighed(&CHECKED));
+    refused(&with_facts(&[5, 0, 0, 1, 1, 2]), 3 * LINE_WORDS, 4, 5);
+    refused(&with_facts(&[5, 0, 1, 1, 1, u64::MAX]), 3 * LINE_WORDS, 4, 5);
+    refused(&with_facts(&[5, 0, 1, 1, 1, 1]), 3 * LINE_WORDS, 16, 5);
+    refused(&[5, 0, 1, 1, 1], 3 * LINE_WORDS, 1, 5);
+}
+
 /// The rating would give 2,000, and the cap 10,000.
 #[test]
 fn no_due_diligence_gives_the_fallback() {
@@ -153,7 +202,8 @@ fn no_due_diligence_gives_the_fallback() {
 #[test]
 fn each_bad_word_is_refused_at_its_place() {
     let changes = [
-        (0, 5, 2),
+        (0, 3, 2),
+        (0, 6, 2),
         (1, 1, 12),
         (1, 2, 12),
         (1, 3, 4),

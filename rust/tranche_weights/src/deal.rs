@@ -79,7 +79,7 @@ impl Line {
 pub enum Approach {
     /// 0: the fallback of 1250%.
     Fallback,
-    /// 1: SEC-ERBA, the rating table.
+    /// 1: SEC-ERBA, the deal's rating table.
     SecErba,
     /// 2: SEC-SA, the formula.
     SecSa,

@@ -2,7 +2,8 @@
 
 /// What is said of the deal as a whole: nothing at first, and then what each `with_…` says.
 ///
-/// Every pool is one under the standardised approach, the one kind that the calculator covers.
+/// Every pool is one under the standardised approach, the one kind that the calculator covers. That a deal is STC or a
+/// re-securitisation is said where its sheet is started, by [`SheetBuilder`](crate::SheetBuilder).
 ///
 /// ```
 /// use tranche_weights::Facts;

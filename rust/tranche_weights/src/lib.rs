@@ -6,7 +6,7 @@
 //! place. There are two ways in:
 //!
 //! - [`SheetBuilder`] takes values within their limits, and no others; the [`Sheet`] that it builds is weighed to a
-//!   [`Deal`]. Every sheet that the library accepts can be built.
+//!   [`Deal`]. Every deal that the library accepts can be built, with no more facts in its sheet than it needs.
 //! - [`weigh_words`], [`weigh_file`], [`report`] and [`report_into`] take any words or any bytes; [`reply_to_words`]
 //!   and [`reply_to_file`] give the four numbers of the C functions.
 //!
@@ -56,9 +56,11 @@
 //!
 //! A word is an unsigned number of 64 bits; its place is its position in the sheet, counted from 0. In this order:
 //!
-//! - the number of facts, [`MOST_FACTS`], then the facts: the pool kind (0, a pool under the standardised approach; 1
-//!   and 2, a pool under the IRB approach in whole or in part, are refused), then re-securitisation, due diligence
-//!   held, pool composition known, each 0 for no and 1 for yes;
+//! - the number of facts, [`FEWEST_FACTS`] to [`MOST_FACTS`], then the facts: the pool kind (0, a pool under the
+//!   standardised approach; 1 and 2, a pool under the IRB approach in whole or in part, are refused), then
+//!   re-securitisation, due diligence held, pool composition known, and the STC mark, that the deal is simple,
+//!   transparent and comparable, which no re-securitisation is; each 0 for no and 1 for yes. A fact that is left out at
+//!   the end counts as 0;
 //! - the number of pool rows, 1 to [`MOST_ROWS`], then for each: exposure amount and nominal amount (1 to 10^10), risk
 //!   weight in percent (0 to 1250), status (0 paying, 1 delinquent, 2 not known; 3, a securitisation tranche, in a
 //!   re-securitisation and only there);
@@ -76,8 +78,8 @@
 //! `TRANCHE_WEIGHTS_LIB` names another folder; a relative one counts from the crate's folder. Without the archive,
 //! checking and documenting work, with a warning; building does not.
 //!
-//! The crate calls version 1 of the library's interface. Every symbol of the archive carries its version, as in
-//! `tranche_weights_weigh_v1`, so that an archive of another version fails to link.
+//! The crate calls version 2 of the library's interface. Every symbol of the archive carries its version, as in
+//! `tranche_weights_weigh_v2`, so that an archive of another version fails to link.
 //!
 //! The library keeps no state, so threads can call it at the same time. Of the calling thread's stack 64 KB are enough.
 //!
@@ -109,8 +111,8 @@ pub use calls::{reply_to_file, reply_to_words, report, report_into, weigh_file, 
 pub use deal::{Approach, Deal, Line};
 pub use facts::Facts;
 pub use limits::{
-    BYTES_PER_WORD, FILE_BYTES, LINE_WORDS, MOST_FACTS, MOST_RATINGS, MOST_ROWS, MOST_TRANCHES, NUMBER_DIGITS,
-    RESULT_WORDS, ROW_WORDS, SHEET_WORDS, TEXT_ROOM, TRANCHE_WORDS,
+    BYTES_PER_WORD, FEWEST_FACTS, FILE_BYTES, LINE_WORDS, MOST_FACTS, MOST_RATINGS, MOST_ROWS, MOST_TRANCHES,
+    NUMBER_DIGITS, RESULT_WORDS, ROW_WORDS, SHEET_WORDS, TEXT_ROOM, TRANCHE_WORDS,
 };
 pub use numbers::{Months, PoolAmount, RiskWeight, TrancheAmount};
 pub use pool::{Row, Status};

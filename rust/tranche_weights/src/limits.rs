@@ -1,10 +1,13 @@
 //! The parts of a sheet, of a line and of a report, with the sizes that follow from them, and the limits of a sheet's
-//! numbers (document 01, "The deal sheet" and "Checked deals").
+//! numbers (document 01, "The deal sheet" and "Checked deals"; document 02, S-1).
 //!
 //! A size that has parts is worked out from them, so that each number stands here once.
 
-/// The most facts that a sheet states, one word each. Now every sheet states so many.
-pub const MOST_FACTS: usize = 4;
+/// The fewest facts that a sheet states, one word each.
+pub const FEWEST_FACTS: usize = 4;
+
+/// The most facts that a sheet states. A fact that it leaves out at the end of its list counts as 0.
+pub const MOST_FACTS: usize = 5;
 
 /// The most rows that a pool has; the fewest is 1.
 pub const MOST_ROWS: usize = 1000;

@@ -4,7 +4,7 @@ use std::fmt;
 
 use crate::sheet_error::SheetError;
 
-/// A long-term grade. The list is whole: it has all grades of the standard's rating table.
+/// A long-term grade. The list is whole: it has all grades of the standard's rating tables.
 #[derive(Debug, Clone, Copy, PartialEq, Eq, Hash)]
 pub enum LongTerm {
     /// AAA.

@@ -1,4 +1,4 @@
-//! Refusals (document 01, "Refusals, by who can cause them").
+//! Refusals (document 01, "Refusals, by who can cause them"; document 02, S-1).
 
 use std::error::Error;
 use std::fmt;
@@ -39,6 +39,8 @@ pub enum Reason {
     /// 15: a file's length is no multiple of [`BYTES_PER_WORD`](crate::BYTES_PER_WORD), or above
     /// [`FILE_BYTES`](crate::FILE_BYTES); place 0.
     FileLength,
+    /// 16: an STC mark on a re-securitisation.
+    StcMark,
     /// A number that is not listed. The library never gives one; one would mean that another archive was linked in its
     /// place. The number is kept here, so that nothing false is said of it.
     Unlisted(u64),
@@ -63,6 +65,7 @@ impl Reason {
             Reason::ThinTranche => 13,
             Reason::Room => 14,
             Reason::FileLength => 15,
+            Reason::StcMark => 16,
             Reason::Unlisted(number) => number,
         }
     }
@@ -81,7 +84,7 @@ const LISTED: &[(Reason, &str)] = &[
     (Reason::MissingWord, "the sheet ends too early; the place is its length"),
     (
         Reason::Count,
-        "a count is outside its limits: 4 facts, 1 to 1,000 pool rows, 1 to 32 tranches",
+        "a count is outside its limits: 4 or 5 facts, 1 to 1,000 pool rows, 1 to 32 tranches",
     ),
     (
         Reason::WordsFollow,
@@ -107,11 +110,12 @@ const LISTED: &[(Reason, &str)] = &[
     (Reason::Room, "the calling program lent too few result words; place 0"),
     (
         Reason::FileLength,
-        "the file's length is no multiple of 8, or above 33,848 bytes; place 0",
+        "the file's length is no multiple of 8, or above 33,856 bytes; place 0",
     ),
+    (Reason::StcMark, "an STC mark on a re-securitisation"),
 ];
 
-/// What is wrong where the number is none of document 01's.
+/// What is wrong where the number is not listed.
 const UNLISTED: &str = "a number that is not listed; another archive is linked in the library's place";
 
 /// A refusal: its number, its place in the sheet, counted in words from 0, and its reason.
@@ -160,8 +164,8 @@ impl Error for Refusal {}
 mod tests {
     use super::{Reason, Refusal, LISTED};
     use crate::limits::{
-        BYTES_PER_WORD, FILE_BYTES, MONTHS, MOST_FACTS, MOST_ROWS, MOST_TRANCHES, POOL_AMOUNT, RISK_WEIGHT,
-        TRANCHE_AMOUNT,
+        BYTES_PER_WORD, FEWEST_FACTS, FILE_BYTES, MONTHS, MOST_FACTS, MOST_ROWS, MOST_TRANCHES, POOL_AMOUNT,
+        RISK_WEIGHT, TRANCHE_AMOUNT,
     };
 
     /// The repository's README.
@@ -204,7 +208,8 @@ mod tests {
     fn texts_name_the_limits() {
         let (pool, tranche, (shortest, longest)) = (power(POOL_AMOUNT.1), power(TRANCHE_AMOUNT.1), MONTHS);
         let (rows, bytes) = (grouped(MOST_ROWS), grouped(FILE_BYTES));
-        let counts = format!("{MOST_FACTS} facts, 1 to {rows} pool rows, 1 to {MOST_TRANCHES} tranches");
+        let facts = format!("{FEWEST_FACTS} or {MOST_FACTS} facts");
+        let counts = format!("{facts}, 1 to {rows} pool rows, 1 to {MOST_TRANCHES} tranches");
         let parts = [
             (Reason::Count, counts),
             (Reason::PoolAmount, format!("above {pool}")),
@@ -231,7 +236,7 @@ mod tests {
         }
     }
 
-    /// A number that document 01 does not list is kept and said to be none that is listed.
+    /// A number that is not listed is kept and said to be none that is.
     #[test]
     fn an_unlisted_number_is_kept() {
         for number in [0, LISTED.len() as u64 + 1, u64::MAX] {

@@ -1,23 +1,31 @@
-//! The sheet of a deal and its builder (document 01, "The deal sheet").
+//! The sheet of a deal and its builder (document 01, "The deal sheet"; document 02, S-1).
 
 use std::marker::PhantomData;
 
 use crate::calls::weigh_sheet;
 use crate::deal::Deal;
 use crate::facts::Facts;
-use crate::limits::{MOST_FACTS, MOST_ROWS, MOST_TRANCHES, ROW_WORDS, TRANCHE_WORDS};
+use crate::limits::{FEWEST_FACTS, MOST_FACTS, MOST_ROWS, MOST_TRANCHES, ROW_WORDS, TRANCHE_WORDS};
 use crate::pool::{Row, Status};
 use crate::refusal::Refusal;
 use crate::sheet_error::SheetError;
 use crate::tranche::Tranche;
 
-/// Marks the builder of an ordinary deal, whose rows have a [`Status`].
+/// Marks the builder of an ordinary deal, STC or not, whose rows have a [`Status`].
 #[derive(Debug, Clone, Copy, PartialEq, Eq, Hash)]
 pub enum Ordinary {}
 
 /// Marks the builder of a re-securitisation, each of whose rows is a securitisation tranche.
 #[derive(Debug, Clone, Copy, PartialEq, Eq, Hash)]
 pub enum Resecuritisation {}
+
+/// What a deal is by its facts: a re-securitisation or STC or neither, and never both.
+#[derive(Clone, Copy, PartialEq, Eq)]
+enum DealKind {
+    Ordinary,
+    Stc,
+    Resecuritisation,
+}
 
 /// The pool kind of every deal: a pool under the standardised approach, SA.
 const SA: u64 = 0;
@@ -27,10 +35,13 @@ const SECURITISATION_TRANCHE: u64 = 3;
 
 /// Builds the sheet of a deal: rows in any order, tranches from senior to junior.
 ///
+/// The sheet states no fact that it can leave out: [`FEWEST_FACTS`] in a deal without the STC mark, and the mark after
+/// them in an STC deal. So a deal keeps its words, and each word its place, when later versions have further facts.
+///
 /// A method that answers with an error leaves the builder as it was.
 #[derive(Debug, Clone, PartialEq, Eq)]
 pub struct SheetBuilder<Kind> {
-    /// Rows of one word each.
+    /// All facts, also those that the sheet can leave out; rows of one word each.
     facts: [[u64; 1]; MOST_FACTS],
     rows: Vec<[u64; ROW_WORDS]>,
     tranches: Vec<[u64; TRANCHE_WORDS]>,
@@ -40,9 +51,41 @@ pub struct SheetBuilder<Kind> {
 }
 
 impl SheetBuilder<Ordinary> {
-    /// Starts an ordinary deal, without rows and tranches.
+    /// Starts an ordinary deal that is not STC, without rows and tranches.
     pub fn ordinary(facts: Facts) -> Self {
-        Self::start(false, facts)
+        Self::start(DealKind::Ordinary, facts)
+    }
+
+    /// Starts an STC deal, one that is simple, transparent and comparable, without rows and tranches.
+    ///
+    /// It is an ordinary deal with half the supervisory parameter in the formula, a floor of 10% for class 1 (15% below,
+    /// as in other deals), and rating tables of its own, by which a non-senior weight is not raised to the senior one. No
+    /// re-securitisation is STC, and none can be started so.
+    ///
+    /// ```
+    /// use tranche_weights::{
+    ///     Facts, LongTerm, Months, PoolAmount, RiskWeight, Row, SheetBuilder, Status, Tranche, TrancheAmount,
+    /// };
+    ///
+    /// # fn main() -> Result<(), Box<dyn std::error::Error>> {
+    /// let hundred = PoolAmount::new(100)?;
+    /// let loans = Row::new(hundred, hundred, RiskWeight::new(100)?);
+    /// let senior = Tranche::new(TrancheAmount::new(80)?, Months::new(60)?, 80)?;
+    ///
+    /// let facts = Facts::new().with_due_diligence_held(true).with_pool_composition_known(true);
+    /// let mut deal = SheetBuilder::stc(facts);
+    /// deal.row(loans, Status::Paying)?
+    ///     .next_class(senior.with_ratings([Some(LongTerm::Aaa.into()), None, None]))?;
+    /// let sheet = deal.build()?;
+    ///
+    /// // Five facts, the last of them the STC mark; a senior AAA tranche of an STC deal has 10%.
+    /// assert_eq!(sheet.words()[..6], [5, 0, 0, 1, 1, 1]);
+    /// assert_eq!(sheet.weigh()?.lines[0].weight, 1_000);
+    /// # Ok(())
+    /// # }
+    /// ```
+    pub fn stc(facts: Facts) -> Self {
+        Self::start(DealKind::Stc, facts)
     }
 
     /// Adds a row with its status.
@@ -58,7 +101,7 @@ impl SheetBuilder<Ordinary> {
 impl SheetBuilder<Resecuritisation> {
     /// Starts a re-securitisation, without rows and tranches.
     pub fn resecuritisation(facts: Facts) -> Self {
-        Self::start(true, facts)
+        Self::start(DealKind::Resecuritisation, facts)
     }
 
     /// Adds a row, a securitisation tranche.
@@ -72,13 +115,14 @@ impl SheetBuilder<Resecuritisation> {
 }
 
 impl<Kind> SheetBuilder<Kind> {
-    /// Starts a deal of either kind, with the facts in the sheet's order.
-    fn start(resecuritisation: bool, facts: Facts) -> Self {
+    /// Starts a deal of any kind, with the facts in the sheet's order.
+    fn start(kind: DealKind, facts: Facts) -> Self {
         let words = [
             SA,
-            u64::from(resecuritisation),
+            u64::from(kind == DealKind::Resecuritisation),
             u64::from(facts.due_diligence_held),
             u64::from(facts.pool_composition_known),
+            u64::from(kind == DealKind::Stc),
         ];
         SheetBuilder {
             facts: words.map(|word| [word]),
@@ -144,8 +188,22 @@ impl<Kind> SheetBuilder<Kind> {
             return Err(SheetError::NoTranches);
         }
         Ok(Sheet {
-            words: [section(&self.facts), section(&self.rows), section(&self.tranches)].concat(),
+            words: [
+                section(needed(&self.facts)),
+                section(&self.rows),
+                section(&self.tranches),
+            ]
+            .concat(),
         })
+    }
+}
+
+/// The facts that a sheet has to state: without the zeros at the end, since a fact that is left out counts as 0, but no
+/// fewer than the fewest.
+fn needed(facts: &[[u64; 1]]) -> &[[u64; 1]] {
+    match facts {
+        [before @ .., [0]] if before.len() >= FEWEST_FACTS => needed(before),
+        _ => facts,
     }
 }
 

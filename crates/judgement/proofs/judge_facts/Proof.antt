@@ -12,10 +12,10 @@ use Rattle.judgement.proofs.judge_facts.Statement.{statement}
 use Rattle.judgement.proofs.judge_facts.Tie as tie
 
 abbrev Inv-loop : tie.InvT-loop
-Inv-loop s end p₀ p = (1 ≤ p) × ((p ≤ end) × (judged s p ≡ Sound))
+Inv-loop s resecuritised end p₀ p = (1 ≤ p) × ((p ≤ end) × (judged s p ≡ Sound))
 
 abbrev μ-loop : tie.MeasureT-loop
-μ-loop s end p₀ p = end - p
+μ-loop s resecuritised end p₀ p = end - p
 
 word-at-requires : tie.Need-word-at-requires Inv-loop μ-loop
 word-at-requires c κs = search needs
@@ -43,16 +43,19 @@ returns : tie.Need-returns Inv-loop μ-loop
 unfolding poolAt
 returns c = fault-stays _ 1 _ (c .enum-told2 .given .1) (count-judged (c .before .before)) (omega arith)
 
+word-at-requires-2 : tie.Need-word-at-requires-2 Inv-loop μ-loop
+word-at-requires-2 c κs = search needs
+
 pool-at-requires : tie.Need-pool-at-requires Inv-loop μ-loop
-pool-at-requires c κs = sym (count-judged (c .before .before)) ∙ c .enum-told .given .1
+pool-at-requires c κs = sym (count-judged (c .before .before .before)) ∙ c .before .enum-told .given .1
 
 loop-holds : tie.Need-loop-holds Inv-loop μ-loop
 unfolding poolAt
 loop-holds c =
-    (omega arith, (omega arith, sym (count-judged (c .before .before .before)) ∙ c .before .enum-told .given .1))
+    (omega arith, (omega arith, sym (count-judged (c .before .before .before .before)) ∙ c .before .before .enum-told .given .1))
 
-word-at-requires-2 : tie.Need-word-at-requires-2 Inv-loop μ-loop
-word-at-requires-2 c κs = search needs
+word-at-requires-3 : tie.Need-word-at-requires-3 Inv-loop μ-loop
+word-at-requires-3 c κs = search needs
 
 fact-fault-requires : tie.Need-fact-fault-requires Inv-loop μ-loop
 fact-fault-requires c κs = search needs
@@ -64,12 +67,13 @@ judge-word-requires-2 c κs = search needs
 fact-judged :
     (c : tie.After-judge-word2 Inv-loop μ-loop) →
     let l = c .before .before .before .before in
-    c .judge-word2 .result ≡ judged (l .before .before .before .before .before .before .before .before .args .s .now) (l .loop .p + 1)
+    c .judge-word2 .result ≡ judged (l .before .before .before .before .before .before .before .before .before .args .s .now) (l .loop .p + 1)
 fact-judged c =
     let l = c .before .before .before .before in
-    let s = l .before .before .before .before .before .before .before .before .args .s .now in
+    let before = l .before .before in
+    let s = before .before .before .before .before .before .before .before .args .s .now in
     word-judged s (l .loop .p) (l .loop .inv .1 .1) (fault-of-fact s (l .loop .p) (omega arith) (omega arith))
-    (c .judge-word2 .ensures ∙ simp (c .before .fact-fault .ensures, c .before .before .word-at2 .ensures))
+    (c .judge-word2 .ensures ∙ simp (c .before .fact-fault .ensures, c .before .before .word-at3 .ensures, before .word-at2 .ensures))
 
 enum-told-3 : tie.Need-enum-told-3 Inv-loop μ-loop
 enum-told-3 c = search needs
@@ -104,9 +108,10 @@ judge-facts-spec =
     enum-told
     enum-told-2
     returns
+    word-at-requires-2
     pool-at-requires
     loop-holds
-    word-at-requires-2
+    word-at-requires-3
     fact-fault-requires
     judge-word-requires-2
     enum-told-3

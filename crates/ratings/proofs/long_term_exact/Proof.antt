@@ -1,6 +1,6 @@
 -- `long_term_exact`: 240 times a figure of 16 bits times a million fits 64 bits, and the figures are those of the grade's row. No axioms.
 use mathlib.Core.Path.{_≡_}
-use Prim.Native.Nat.{_*_, _-_, min, max, _≤_}
+use Prim.Native.Nat.{_*_, _-_, min, _≤_}
 use native.Mathlib.Nat.{mul-le-mul}
 use native.Mathlib.Omega.{arith}
 use borrow.Author.Needs.{needs}
@@ -48,11 +48,11 @@ array-read-linear-percent-4 c = search needs
 linear-percent-requires-2 : tie.Need-linear-percent-requires-2
 linear-percent-requires-2 c κs = search needs
 
-mul-larger : tie.Need-mul-larger
-mul-larger c = omega (arith, product c)
+mul-beside-senior : tie.Need-mul-beside-senior
+mul-beside-senior c = omega (arith, product c)
 
-larger-requires : tie.Need-larger-requires
-larger-requires c κs = search needs
+beside-senior-requires : tie.Need-beside-senior-requires
+beside-senior-requires c κs = search needs
 
 mul-result-2 : tie.Need-mul-result-2
 mul-result-2 c = omega (arith, product (c .before))
@@ -62,14 +62,8 @@ returns-2 c =
     let split = c .before .before .before in
     let x = split .before .before .before .args in
     let half : c .before .before .smaller .result ≡ min (x .thickness) 500000 = omega arith in
-    let picked :
-    c .larger .result ≡
-    max
-    (c .before .linear-percent2 .result * (1000000 - c .before .before .smaller .result))
-    (split .before .linear-percent .result * 1000000) =
-    omega arith in
     simp (
-      picked,
+      c .beside-senior .ensures .0,
       half,
       c .before .linear-percent2 .ensures .0,
       split .before .linear-percent .ensures .0,
@@ -93,7 +87,7 @@ long-term-exact-spec =
     array-read-linear-percent-3
     array-read-linear-percent-4
     linear-percent-requires-2
-    mul-larger
-    larger-requires
+    mul-beside-senior
+    beside-senior-requires
     mul-result-2
     returns-2)

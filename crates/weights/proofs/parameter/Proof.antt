@@ -7,7 +7,10 @@ returns : tie.Need-returns
 returns c = simp (c .if1 .taken) (omega arith)
 
 returns-2 : tie.Need-returns-2
-returns-2 c = simp (c .if1 .left) (omega arith)
+returns-2 c = simp (c .before .if1 .left, c .if2 .taken) (omega arith)
+
+returns-3 : tie.Need-returns-3
+returns-3 c = simp (c .before .if1 .left, c .if2 .left) (omega arith)
 
 pub parameter-spec : {M : Type 1} → statement M
-parameter-spec = tie.close (tie.spec returns returns-2)
+parameter-spec = tie.close (tie.spec returns returns-2 returns-3)

@@ -14,6 +14,14 @@ fn ordinary(charge: u64, attachment: u64, detachment: u64) -> Terms {
     }
 }
 
+/// The terms of an STC deal.
+fn stc(charge: u64, attachment: u64, detachment: u64) -> Terms {
+    Terms {
+        parameter_halves: 1,
+        ..ordinary(charge, attachment, detachment)
+    }
+}
+
 /// The terms of a re-securitisation.
 fn resecuritisation(charge: u64, attachment: u64, detachment: u64) -> Terms {
     Terms {
@@ -28,6 +36,8 @@ fn resecuritisation(charge: u64, attachment: u64, detachment: u64) -> Terms {
 fn charge_zero_and_detachment_at_charge() {
     assert_eq!(raw_weights(&ordinary(0, 0, 1)), [0]);
     assert_eq!(raw_weights(&resecuritisation(0, 500_000, 1_000_000)), [0]);
+    assert_eq!(raw_weights(&stc(0, 500_000, 1_000_000)), [0]);
+    assert_eq!(raw_weights(&stc(100_000, 100_000, 100_000)), [125_000]);
     assert_eq!(raw_weights(&ordinary(0, 0, 0)), [125_000]);
     assert_eq!(raw_weights(&ordinary(100_000, 0, 100_000)), [125_000]);
     assert_eq!(raw_weights(&ordinary(100_000, 100_000, 100_000)), [125_000]);
@@ -42,11 +52,19 @@ fn two_neighbours_pass() {
     assert_eq!(raw_weights(&ordinary(100_000, 50_000, 150_000)), [111_684, 111_685]);
 }
 
+/// The same points in an STC deal: 62,500 x (1 - e^(-2)) = 54,041.54, and 62,500 x (2 - e^(-1)) = 102,007.53.
+#[test]
+fn two_neighbours_pass_in_an_stc_deal() {
+    assert_eq!(raw_weights(&stc(100_000, 100_000, 200_000)), [54_042, 54_043]);
+    assert_eq!(raw_weights(&stc(100_000, 50_000, 150_000)), [102_008, 102_009]);
+}
+
 /// Where the value is above 124,999, only 125,000 passes: a raw weight is never above it.
 #[test]
 fn one_passes_at_the_top() {
     assert_eq!(raw_weights(&ordinary(999_999, 0, 1_000_000)), [125_000]);
     assert_eq!(raw_weights(&resecuritisation(999_999, 999_999, 1_000_000)), [125_000]);
+    assert_eq!(raw_weights(&stc(999_999, 0, 1_000_000)), [125_000]);
     assert_eq!(raw_weights(&ordinary(500_000, 500_000, 500_001)), [125_000]);
     assert_eq!(raw_weights(&ordinary(62_000, 62_000, 62_001)), [124_999, 125_000]);
 }
@@ -67,14 +85,15 @@ fn next_number(state: &mut u64) -> u64 {
 }
 
 /// Terms of every kind whose exponent u/s is at most `most`: large and small charges, A below, at and above K, whole
-/// thickness down to one millionth, both parameters.
+/// thickness down to one millionth, all three parameters.
 fn varied_terms(count: u64, most: u64) -> Vec<Terms> {
     let mut state = 0x9E37_79B9_7F4A_7C15;
     let mut terms = Vec::new();
     for round in 0..count {
         let mut below = |limit: u64| next_number(&mut state) % limit;
         let charge = 1 + below([999_999, 100_000, 1_000, 30, 1][round as usize % 5]);
-        let reach = (1_000_000 - charge).min(charge * most);
+        let parameter_halves = 1 + round % 3;
+        let reach = (1_000_000 - charge).min(charge * parameter_halves * most / 2);
         let detachment = charge + 1 + below(reach);
         let attachment = match round % 7 {
             0 => 0,
@@ -88,7 +107,7 @@ fn varied_terms(count: u64, most: u64) -> Vec<Terms> {
             charge,
             attachment,
             detachment,
-            parameter_halves: 2 + round % 2,
+            parameter_halves,
         });
     }
     terms
@@ -101,11 +120,14 @@ fn edge_terms() -> Vec<Terms> {
         ordinary(999_999, 0, 1_000_000),
         ordinary(999_999, 999_999, 1_000_000),
         resecuritisation(1, 0, 2),
+        stc(999_999, 999_999, 1_000_000),
+        stc(1, 0, 2),
         ordinary(1, 1, 2),
         ordinary(1, 40, 41),
         resecuritisation(1, 11, 13),
         ordinary(1, 300, 301),
         ordinary(500, 999_999, 1_000_000),
+        stc(1_000, 999_999, 1_000_000),
         ordinary(1_000, 0, 1_000_000),
         resecuritisation(1_000, 3_000, 1_000_000),
         ordinary(93_749, 93_749, 93_752),
@@ -168,19 +190,24 @@ fn agrees_with_bound(terms: &Terms) {
     assert_eq!(raw_weights(terms), [lowest, lowest + 1]);
 }
 
-/// Exponents from 100 to beyond 1,000,000, where the value is below a whole number by far less than any unit (K = 1 and
+/// Exponents from 70 to nearly 2,000,000, where the value is below a whole number by far less than any unit (K = 1 and
 /// D = 250,000 give 1 less e^(-249,999) / 2), or above 0 by as little.
 #[test]
 fn quick_decision_agrees_with_bound_for_large_exponents() {
     assert_eq!(raw_weights(&ordinary(1, 0, 250_000)), [1, 2]);
     assert_eq!(raw_weights(&ordinary(16, 0, 1_000_000)), [4, 5]);
     assert_eq!(raw_weights(&ordinary(1, 999_999, 1_000_000)), [1, 2]);
+    assert_eq!(raw_weights(&stc(1, 0, 187_500)), [1, 2]);
+    assert_eq!(raw_weights(&stc(16, 0, 1_000_000)), [3, 4]);
     let mut terms = vec![
         ordinary(1, 2, 1_000_000),
         ordinary(1, 1, 1_000_000),
         resecuritisation(1, 0, 1_000_000),
+        stc(1, 0, 1_000_000),
     ];
     terms.extend([
+        stc(1, 0, 187_500),
+        stc(16, 0, 1_000_000),
         ordinary(1, 0, 250_000),
         ordinary(16, 0, 1_000_000),
         ordinary(1, 999_999, 1_000_000),
@@ -189,6 +216,7 @@ fn quick_decision_agrees_with_bound_for_large_exponents() {
         for attachment in [0, charge - 1, charge, charge + 1, charge * 4, charge * 60, charge * 110] {
             terms.push(ordinary(charge, attachment, 1_000_000));
             terms.push(resecuritisation(charge, attachment, 999_983));
+            terms.push(stc(charge, attachment, 999_979));
         }
     }
     terms.iter().for_each(agrees_with_bound);

@@ -1,9 +1,9 @@
 //! Sheets for the tests, put together from their sections.
 
-use independent::sheet::{FACTS, LINE_WORDS, ROW_WORDS, TRANCHE_WORDS};
+use independent::sheet::{LINE_WORDS, ROW_WORDS, TRANCHE_WORDS};
 
-/// The words of the facts, without their count.
-pub type Facts = [u64; FACTS];
+/// The words of the facts, without their count: four, or five with the STC mark.
+pub type Facts<'a> = &'a [u64];
 
 /// The words of a pool row.
 pub type Row = [u64; ROW_WORDS];

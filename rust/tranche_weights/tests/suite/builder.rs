@@ -1,11 +1,30 @@
-//! What the typed way in lets through and what it answers with an error (document 01, "The deal sheet").
+//! What the typed way in lets through and what it answers with an error (document 01, "The deal sheet"; document 02,
+//! S-1).
 
 use crate::checked_deal::{ordinary, row, tranche};
-use crate::places::{affirmed, first_tranche, tranche_count, COMPOSITION, DUE_DILIGENCE, RESECURITISATION, ROW_COUNT};
-use tranche_weights::{
-    Facts, PoolAmount, RiskWeight, Row, SheetBuilder, SheetError, Status, MOST_ROWS, MOST_TRANCHES, ROW_WORDS,
-    TRANCHE_WORDS,
+use crate::places::{
+    affirmed, first_tranche, row_count, tranche_count, COMPOSITION, DUE_DILIGENCE, RESECURITISATION, STC,
 };
+use tranche_weights::{
+    Facts, Ordinary, PoolAmount, RiskWeight, Row, Sheet, SheetBuilder, SheetError, Status, MOST_ROWS, MOST_TRANCHES,
+    ROW_WORDS, TRANCHE_WORDS,
+};
+
+/// The facts' section of a sheet.
+fn facts_of(sheet: &Sheet) -> &[u64] {
+    &sheet.words()[..row_count(sheet.words())]
+}
+
+/// The words of a sheet from the count of its pool rows on.
+fn after_facts(sheet: &Sheet) -> &[u64] {
+    &sheet.words()[row_count(sheet.words())..]
+}
+
+/// The sheet of a deal with one row and one tranche.
+fn smallest(mut builder: SheetBuilder<Ordinary>) -> Result<Sheet, SheetError> {
+    builder.row(row(1)?, Status::Paying)?.next_class(tranche(1, 1)?)?;
+    builder.build()
+}
 
 /// All of a tranche or nothing of it can be held, and no unit more than all.
 #[test]
@@ -21,22 +40,36 @@ fn no_more_is_held_than_the_amount() {
 /// Without setters no fact is affirmed; each setter sets its own word of the sheet and no other, and can take it back.
 #[test]
 fn facts_are_set_one_by_one() -> Result<(), SheetError> {
-    let flags = |facts| -> Result<Vec<u64>, SheetError> {
-        let mut builder = SheetBuilder::ordinary(facts);
-        builder.row(row(1)?, Status::Paying)?.next_class(tranche(1, 1)?)?;
-        Ok(builder.build()?.words()[..ROW_COUNT].to_vec())
-    };
     let none = Facts::new();
     assert_eq!(none, Facts::default());
-    assert_eq!(flags(none)?, affirmed(&[]));
-    assert_eq!(flags(none.with_due_diligence_held(true))?, affirmed(&[DUE_DILIGENCE]));
-    assert_eq!(flags(none.with_pool_composition_known(true))?, affirmed(&[COMPOSITION]));
-    let both = none.with_due_diligence_held(true).with_pool_composition_known(true);
-    assert_eq!(flags(both)?, affirmed(&[DUE_DILIGENCE, COMPOSITION]));
+    let held = none.with_due_diligence_held(true);
+    let known = none.with_pool_composition_known(true);
+    let both = held.with_pool_composition_known(true);
+    for (facts, places) in [
+        (none, &[][..]),
+        (held, &[DUE_DILIGENCE]),
+        (known, &[COMPOSITION]),
+        (both, &[DUE_DILIGENCE, COMPOSITION]),
+    ] {
+        assert_eq!(facts_of(&smallest(SheetBuilder::ordinary(facts))?), affirmed(places));
+    }
     assert_eq!(
         both.with_due_diligence_held(false).with_pool_composition_known(false),
         none
     );
+    Ok(())
+}
+
+/// An STC deal states a fifth fact, its mark; a deal without the mark leaves it out. All other words are the same.
+#[test]
+fn the_mark_is_stated_where_it_is_set() -> Result<(), SheetError> {
+    let held = Facts::new().with_due_diligence_held(true);
+    let plain = smallest(SheetBuilder::ordinary(held))?;
+    let stc = smallest(SheetBuilder::stc(held))?;
+    assert_eq!(facts_of(&plain), [4, 0, 0, 1, 0]);
+    assert_eq!(facts_of(&stc), [5, 0, 0, 1, 0, 1]);
+    assert_eq!(facts_of(&smallest(SheetBuilder::stc(Facts::new()))?), affirmed(&[STC]));
+    assert_eq!(after_facts(&plain), after_facts(&stc));
     Ok(())
 }
 
@@ -50,7 +83,7 @@ fn a_row_keeps_the_order_of_its_figures() -> Result<(), SheetError> {
     );
     let mut builder = ordinary();
     builder.row(row, Status::NotKnown)?.next_class(tranche(1, 1)?)?;
-    assert_eq!(builder.build()?.words()[ROW_COUNT..][..1 + ROW_WORDS], [1, 7, 8, 9, 2]);
+    assert_eq!(after_facts(&builder.build()?)[..1 + ROW_WORDS], [1, 7, 8, 9, 2]);
     Ok(())
 }
 
@@ -64,7 +97,7 @@ fn a_pool_has_at_most_1000_rows() -> Result<(), SheetError> {
     let full = builder.clone();
     assert_eq!(builder.row(row(1)?, Status::Paying), Err(SheetError::TooManyRows));
     assert_eq!(builder, full);
-    assert_eq!(builder.next_class(tranche(1, 1)?)?.build()?.words()[ROW_COUNT], 1000);
+    assert_eq!(after_facts(&builder.next_class(tranche(1, 1)?)?.build()?)[0], 1000);
     Ok(())
 }
 
@@ -77,8 +110,8 @@ fn a_pool_of_tranches_has_at_most_1000_rows() -> Result<(), SheetError> {
     }
     assert_eq!(builder.row(row(1)?), Err(SheetError::TooManyRows));
     let sheet = builder.next_class(tranche(1, 1)?)?.build()?;
-    assert_eq!(sheet.words()[..ROW_COUNT], affirmed(&[RESECURITISATION, DUE_DILIGENCE]));
-    assert_eq!(sheet.words()[ROW_COUNT], 1000);
+    assert_eq!(facts_of(&sheet), affirmed(&[RESECURITISATION, DUE_DILIGENCE]));
+    assert_eq!(after_facts(&sheet)[0], 1000);
     Ok(())
 }
 
@@ -94,7 +127,8 @@ fn a_deal_has_at_most_32_tranches() -> Result<(), SheetError> {
     assert_eq!(builder.next_class(tranche(1, 1)?), Err(SheetError::TooManyTranches));
     assert_eq!(builder.same_class(tranche(1, 1)?), Err(SheetError::TooManyTranches));
     assert_eq!(builder, full);
-    assert_eq!(builder.build()?.words()[tranche_count(1)], 32);
+    let sheet = builder.build()?;
+    assert_eq!(sheet.words()[tranche_count(sheet.words())], 32);
     Ok(())
 }
 
@@ -110,7 +144,7 @@ fn classes_follow_from_the_order() -> Result<(), SheetError> {
         .next_class(tranche(1, 1)?)?
         .same_class(tranche(1, 1)?)?;
     let sheet = builder.build()?;
-    let tranches = sheet.words()[first_tranche(1)..].chunks(TRANCHE_WORDS);
+    let tranches = sheet.words()[first_tranche(sheet.words())..].chunks(TRANCHE_WORDS);
     let classes: Vec<u64> = tranches.map(|tranche| tranche[1]).collect();
     assert_eq!(classes, [1, 1, 2, 3, 3]);
     Ok(())

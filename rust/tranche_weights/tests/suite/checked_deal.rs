@@ -1,7 +1,7 @@
 //! The first of document 01's "Checked deals": its words, its text and its making by the builder.
 
 use tranche_weights::{
-    Facts, LongTerm, Months, Ordinary, PoolAmount, RiskWeight, Row, SheetBuilder, SheetError, Status, Tranche,
+    Facts, LongTerm, Months, Ordinary, PoolAmount, RiskWeight, Row, Sheet, SheetBuilder, SheetError, Status, Tranche,
     TrancheAmount, LINE_WORDS,
 };
 
@@ -41,25 +41,33 @@ pub fn tranche(amount: u64, held: u64) -> Result<Tranche, SheetError> {
     Tranche::new(TrancheAmount::new(amount)?, Months::new(72)?, held)
 }
 
-/// The start of an ordinary deal with both facts affirmed.
-pub fn ordinary() -> SheetBuilder<Ordinary> {
-    let facts = Facts::new()
+/// Due diligence held and the pool's composition known.
+pub fn both_facts() -> Facts {
+    Facts::new()
         .with_due_diligence_held(true)
-        .with_pool_composition_known(true);
-    SheetBuilder::ordinary(facts)
+        .with_pool_composition_known(true)
 }
 
-/// The builder makes exactly the checked deal's words and file.
-#[test]
-fn the_builder_makes_the_checked_deal() -> Result<(), SheetError> {
-    let mut builder = ordinary();
+/// The start of an ordinary deal with both facts affirmed.
+pub fn ordinary() -> SheetBuilder<Ordinary> {
+    SheetBuilder::ordinary(both_facts())
+}
+
+/// The sheet with the checked deal's rows and tranches, from the start of an ordinary deal.
+pub fn with_rows_and_tranches(mut builder: SheetBuilder<Ordinary>) -> Result<Sheet, SheetError> {
     builder
         .row(row(950)?, Status::Paying)?
         .row(row(50)?, Status::Delinquent)?
         .next_class(tranche(800, 800)?.with_ratings([Some(LongTerm::Aaa.into()), None, None]))?
         .next_class(tranche(150, 100)?.with_ratings([Some(LongTerm::Bbb.into()), None, None]))?
         .next_class(tranche(50, 50)?)?;
-    let sheet = builder.build()?;
+    builder.build()
+}
+
+/// The builder makes exactly the checked deal's words and file.
+#[test]
+fn the_builder_makes_the_checked_deal() -> Result<(), SheetError> {
+    let sheet = with_rows_and_tranches(ordinary())?;
     assert_eq!(sheet.words(), WORDS);
     assert_eq!(sheet.to_file_bytes(), file_of(&WORDS));
     Ok(())

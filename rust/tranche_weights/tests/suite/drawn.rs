@@ -2,7 +2,7 @@
 
 use crate::checked_deal::file_of;
 use crate::places::{
-    affirmed, first_tranche, tranche_count, COMPOSITION, DUE_DILIGENCE, FIRST_ROW, RESECURITISATION, ROW_COUNT,
+    affirmed, affirms, first_row, first_tranche, tranche_count, COMPOSITION, DUE_DILIGENCE, RESECURITISATION, STC,
 };
 use crate::texts::text_of;
 use tranche_weights::{
@@ -12,6 +12,9 @@ use tranche_weights::{
 
 /// The statuses of an ordinary pool, by status word.
 const STATUSES: [Status; 3] = [Status::Paying, Status::Delinquent, Status::NotKnown];
+
+/// The kinds of deals, each by the fact that makes it so: ordinary, STC, re-securitisation.
+const KINDS: [&[usize]; 3] = [&[], &[STC], &[RESECURITISATION]];
 
 /// An xorshift generator of 64 bits. The seed is not 0.
 struct Generator(u64);
@@ -42,21 +45,20 @@ impl Generator {
         }
     }
 
-    /// The words of a sheet that document 01 admits, of an SA pool.
+    /// The words of a sheet that documents 01 and 02 admit, of an SA pool, and that states no fact it can leave out.
     fn words(&mut self) -> Vec<u64> {
-        let resecuritisation = self.below(2);
-        let mut words = affirmed(&[]).to_vec();
-        words[RESECURITISATION] = resecuritisation;
+        let mut words = affirmed(KINDS[self.below(3) as usize]);
         words[DUE_DILIGENCE] = u64::from(self.below(8) > 0);
         words[COMPOSITION] = self.below(2);
-        self.rows(resecuritisation == 1, &mut words);
+        self.rows(&mut words);
         self.tranches(&mut words);
         words
     }
 
     /// Adds the pool's section. A third of the ordinary pools have paying rows alone, so that the charge is low; a
     /// third have delinquent ones too; a third have all three statuses.
-    fn rows(&mut self, resecuritisation: bool, words: &mut Vec<u64>) {
+    fn rows(&mut self, words: &mut Vec<u64>) {
+        let resecuritisation = affirms(words, RESECURITISATION);
         let count = self.within(1, MOST_ROWS as u64);
         let statuses = 1 + self.below(3);
         words.push(count);
@@ -73,7 +75,7 @@ impl Generator {
 
     /// Adds the tranches' section. Half of the deals have tranches of any size, half such that cut the pool up.
     fn tranches(&mut self, words: &mut Vec<u64>) {
-        let nominal: u64 = words[FIRST_ROW..].chunks(ROW_WORDS).map(|row| row[1]).sum();
+        let nominal: u64 = words[first_row(words)..].chunks(ROW_WORDS).map(|row| row[1]).sum();
         let count = self.within(1, MOST_TRANCHES as u64);
         let highest = if self.below(2) == 0 {
             TrancheAmount::HIGHEST
@@ -125,19 +127,22 @@ fn row_of(words: &[u64]) -> Result<Row, SheetError> {
 /// Builds the sheet that the words state, by the builder of its kind.
 fn built(words: &[u64]) -> Result<Sheet, SheetError> {
     let facts = Facts::new()
-        .with_due_diligence_held(words[DUE_DILIGENCE] == 1)
-        .with_pool_composition_known(words[COMPOSITION] == 1);
-    let count = words[ROW_COUNT] as usize;
-    let rows = words[FIRST_ROW..tranche_count(count)].chunks(ROW_WORDS);
-    let tranches = &words[first_tranche(count)..];
-    if words[RESECURITISATION] == 1 {
+        .with_due_diligence_held(affirms(words, DUE_DILIGENCE))
+        .with_pool_composition_known(affirms(words, COMPOSITION));
+    let rows = words[first_row(words)..tranche_count(words)].chunks(ROW_WORDS);
+    let tranches = &words[first_tranche(words)..];
+    if affirms(words, RESECURITISATION) {
         let mut builder = SheetBuilder::resecuritisation(facts);
         for row in rows {
             builder.row(row_of(row)?)?;
         }
         with_tranches(builder, tranches)
     } else {
-        let mut builder = SheetBuilder::ordinary(facts);
+        let mut builder = if affirms(words, STC) {
+            SheetBuilder::stc(facts)
+        } else {
+            SheetBuilder::ordinary(facts)
+        };
         for row in rows {
             builder.row(row_of(row)?, STATUSES[row[3] as usize])?;
         }
@@ -161,21 +166,27 @@ fn with_tranches<Kind>(mut builder: SheetBuilder<Kind>, words: &[u64]) -> Result
     builder.build()
 }
 
-/// Any admitted sheet can be built, to the word. It is weighed with a line per tranche or refused by 13 at the amount
-/// of a tranche. Its file gets the same answer, and its report states that answer.
+/// The kind of a sheet's deal, as `KINDS` lists them.
+fn kind_of(words: &[u64]) -> usize {
+    usize::from(affirms(words, STC)) + 2 * usize::from(affirms(words, RESECURITISATION))
+}
+
+/// Any admitted sheet that states no fact it can leave out can be built, to the word. It is weighed with a line per
+/// tranche or refused by 13 at the amount of a tranche. Its file gets the same answer, and its report states that
+/// answer.
 #[test]
 fn a_built_sheet_is_refused_by_13_alone() -> Result<(), SheetError> {
     let mut generator = Generator(0x7261_6e63_6865_7301);
-    let (mut weighed, mut refused) = ([0; 2], [0; 2]);
-    for _ in 0..800 {
+    let (mut weighed, mut refused) = ([0; KINDS.len()], [0; KINDS.len()]);
+    for _ in 0..1200 {
         let words = generator.words();
         let sheet = built(&words)?;
         assert_eq!(sheet.words(), words);
-        let (kind, rows) = (words[RESECURITISATION] as usize, words[ROW_COUNT] as usize);
+        let kind = kind_of(&words);
         let outcome = sheet.weigh();
         match &outcome {
             Ok(deal) => {
-                assert_eq!(deal.lines.len() as u64, words[tranche_count(rows)]);
+                assert_eq!(deal.lines.len() as u64, words[tranche_count(&words)]);
                 weighed[kind] += 1;
             }
             Err(refusal) => {
@@ -184,7 +195,7 @@ fn a_built_sheet_is_refused_by_13_alone() -> Result<(), SheetError> {
                     (Reason::ThinTranche, 13),
                     "{words:?}"
                 );
-                let past = refusal.place() as usize - first_tranche(rows);
+                let past = refusal.place() as usize - first_tranche(&words);
                 assert_eq!(past % TRANCHE_WORDS, 0, "{words:?}");
                 refused[kind] += 1;
             }

@@ -12,4 +12,5 @@ mod ratings;
 mod refusals;
 mod results;
 mod stack;
+mod stc;
 mod texts;

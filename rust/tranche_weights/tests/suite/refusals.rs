@@ -1,6 +1,8 @@
-//! Each refusal, with its number, place and reason (document 01, "Refusals, by who can cause them").
+//! Each refusal, with its number, place and reason (document 01, "Refusals, by who can cause them"; document 02, S-1).
 
 use crate::checked_deal::{file_of, RESULTS, WORDS};
+use crate::places::{row_count, RESECURITISATION};
+use crate::stc::marked;
 use tranche_weights::{
     reply_to_file, reply_to_words, report, weigh_file, weigh_words, Reason, Refusal, Reply, BYTES_PER_WORD, FILE_BYTES,
     LINE_WORDS, RESULT_WORDS,
@@ -22,18 +24,27 @@ fn thin() -> Vec<u64> {
     [&facts[..], &pool, &[2], &senior, &junior].concat()
 }
 
+/// The checked deal as a re-securitisation, with this mark as its fifth fact.
+fn resecuritisation_marked(mark: u64) -> Vec<u64> {
+    marked(&with(RESECURITISATION, 1), mark)
+}
+
 /// Words refused by the library, each with number, place and reason.
 fn refused_words() -> Vec<(Vec<u64>, u64, u64, Reason)> {
     let longer = [&WORDS[..], &[0, 0]].concat();
     vec![
         (vec![], 1, 0, Reason::MissingWord),
         (WORDS[..35].to_vec(), 1, 35, Reason::MissingWord),
+        (marked(&WORDS, 1)[..5].to_vec(), 1, 5, Reason::MissingWord),
         (with(0, 3), 2, 0, Reason::Count),
+        (with(0, 6), 2, 0, Reason::Count),
         (with(5, 1001), 2, 5, Reason::Count),
         (with(14, 33), 2, 14, Reason::Count),
         (longer, 3, 36, Reason::WordsFollow),
         (with(1, 3), 4, 1, Reason::Fact),
         (with(4, 2), 4, 4, Reason::Fact),
+        (marked(&WORDS, 2), 4, 5, Reason::Fact),
+        (resecuritisation_marked(2), 4, 5, Reason::Fact),
         (with(6, 0), 5, 6, Reason::PoolAmount),
         (with(7, 10_000_000_001), 5, 7, Reason::PoolAmount),
         (with(8, 1251), 6, 8, Reason::RiskWeight),
@@ -48,6 +59,8 @@ fn refused_words() -> Vec<(Vec<u64>, u64, u64, Reason)> {
         (with(1, 1), 12, 1, Reason::PoolKind),
         (with(1, 2), 12, 1, Reason::PoolKind),
         (thin(), 13, 18, Reason::ThinTranche),
+        (marked(&thin(), 1), 13, 19, Reason::ThinTranche),
+        (resecuritisation_marked(1), 16, 5, Reason::StcMark),
     ]
 }
 
@@ -76,6 +89,18 @@ fn refused_words_leave_the_results() {
         assert_eq!(results, before);
         hold(weigh_file(&file_of(&words)).unwrap_err(), number, place, reason);
         assert_eq!(report(&file_of(&words)), format!("refused {number} at {place}\n"));
+    }
+}
+
+/// A mark of 0 written as the fifth fact moves the place of a fault behind it by one, and changes no number.
+#[test]
+fn a_mark_of_0_moves_later_places() {
+    let refused = refused_words();
+    let of_four_facts = refused.iter().filter(|(words, ..)| words.first() == Some(&4));
+    for (words, number, place, _) in of_four_facts {
+        let moved = u64::from(*place as usize >= row_count(words));
+        let reply = reply_to_words(&marked(words, 0), &mut [0; RESULT_WORDS]);
+        assert_eq!(reply, Reply::refusing(*number, place + moved), "{words:?}");
     }
 }
 

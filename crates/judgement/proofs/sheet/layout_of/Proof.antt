@@ -4,6 +4,7 @@ use mathlib.Core.Path.{_≡_, refl}
 use Prim.Native.Nat.{ℕ, _+_, _*_, _≤_, _<_}
 use native.Mathlib.Omega.{arith}
 use lib.ListN.{length, getD}
+use borrow.Author.Needs.{needs}
 use Rattle.limits.specs.SheetSize.{factsLeast, factsMost, rowsMost}
 use Rattle.judgement.specs.DealSheet.{poolAt, rows, tranchesAt, trancheCount, needed, layout}
 use Rattle.judgement.specs.Refusals.{judged}
@@ -33,54 +34,57 @@ module _ (s : List ℕ) (e : judged s (needed s) ≡ Sound) where
   known-fact-there p h = fact-there s p e (omega (arith, pool-at-within s (facts-counted s e)))
 
 shared-slice-read-pool : tie.Need-shared-slice-read-pool
-shared-slice-read-pool c = known-fact-there _ (c .before .pre) 0 (omega arith)
+shared-slice-read-pool c = known-fact-there _ (c .before .before .pre) 0 (omega arith)
 
 add-pool : tie.Need-add-pool
-add-pool c = omega (arith, facts _ (c .before .pre))
+add-pool c = omega (arith, facts _ (c .before .before .pre))
 
 mul-rows : tie.Need-mul-rows
-mul-rows c = omega (arith, facts _ (c .before .pre))
+mul-rows c = omega (arith, facts _ (c .before .before .pre))
 
 shared-slice-read-rows : tie.Need-shared-slice-read-rows
-shared-slice-read-rows c = pool-there _ (c .before .before .pre)
+shared-slice-read-rows c = pool-there _ (c .before .before .before .pre)
 
 add-tranches : tie.Need-add-tranches
-add-tranches c = omega (arith, facts _ (c .before .before .pre))
+add-tranches c = omega (arith, facts _ (c .before .before .before .pre))
 
 mul-tranches : tie.Need-mul-tranches
-mul-tranches c = omega (arith, rows-few _ (c .before .before .pre))
+mul-tranches c = omega (arith, rows-few _ (c .before .before .before .pre))
 
 add-tranches-2 : tie.Need-add-tranches-2
-add-tranches-2 c = omega (arith, facts _ (c .before .before .pre), rows-few _ (c .before .before .pre))
+add-tranches-2 c = omega (arith, facts _ (c .before .before .before .pre), rows-few _ (c .before .before .before .pre))
 
 shared-slice-read-t7 : tie.Need-shared-slice-read-t7
-shared-slice-read-t7 c = known-fact-there _ (c .before .before .before .pre) _ (omega arith)
+shared-slice-read-t7 c = known-fact-there _ (c .before .before .before .before .pre) _ (omega arith)
 
-shared-slice-read-t6 : tie.Need-shared-slice-read-t6
-shared-slice-read-t6 c = known-fact-there _ (c .before .before .before .before .pre) _ (omega arith)
+fact-at-requires : tie.Need-fact-at-requires
+fact-at-requires c κs = search needs
 
-shared-slice-read-t17 : tie.Need-shared-slice-read-t17
-shared-slice-read-t17 c = known-fact-there _ (c .before .before .before .before .before .pre) _ (omega arith)
+shared-slice-read-t16 : tie.Need-shared-slice-read-t16
+shared-slice-read-t16 c = known-fact-there _ (c .before .before .before .before .before .before .pre) _ (omega arith)
+
+shared-slice-read-t19 : tie.Need-shared-slice-read-t19
+shared-slice-read-t19 c = known-fact-there _ (c .before .before .before .before .before .before .before .pre) _ (omega arith)
 
 add-t11 : tie.Need-add-t11
-add-t11 c = omega (arith, facts _ (c .before .before .before .before .before .pre))
+add-t11 c = omega (arith, facts _ (c .before .before .before .before .before .before .before .pre))
 
 add-t8 : tie.Need-add-t8
 add-t8 c =
-    let start = c .before .before .before .before .before in
+    let start = c .before .before .before .before .before .before .before in
     omega (arith, facts _ (start .pre), rows-few _ (start .pre))
 
 mul-t10 : tie.Need-mul-t10
 mul-t10 c =
-    let start = c .before .before .before .before .before in
+    let start = c .before .before .before .before .before .before .before in
     omega (arith, facts _ (start .pre), rows-few _ (start .pre))
 
-shared-slice-read-t20 : tie.Need-shared-slice-read-t20
-shared-slice-read-t20 c = count-there _ (c .before .before .before .before .before .before .pre)
+shared-slice-read-t22 : tie.Need-shared-slice-read-t22
+shared-slice-read-t22 c = count-there _ (c .before .before .before .before .before .before .before .before .pre)
 
 returns : tie.Need-returns
 unfolding layout trancheCount tranchesAt rows poolAt
-returns c = refl
+returns c = simp (c .before .before .before .fact-at .ensures)
 
 pub layout-of-spec : {M : Type 1} → statement M
 layout-of-spec =
@@ -94,10 +98,11 @@ layout-of-spec =
     mul-tranches
     add-tranches-2
     shared-slice-read-t7
-    shared-slice-read-t6
-    shared-slice-read-t17
+    fact-at-requires
+    shared-slice-read-t16
+    shared-slice-read-t19
     add-t11
     add-t8
     mul-t10
-    shared-slice-read-t20
+    shared-slice-read-t22
     returns)

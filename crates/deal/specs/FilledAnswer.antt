@@ -1,0 +1,15 @@
+-- 02, S-1: "a sheet with four facts counts as 0": what the answer to a sheet becomes where its list of facts is filled with zeros (FilledFacts.antt of `judgement`).
+use mathlib.Core.List.{List}
+use mathlib.Core.Path.{_≡_}
+use Prim.Native.Nat.{ℕ}
+use Rattle.judgement.specs.FilledFacts.{filled, moved}
+use Rattle.deal.specs.Results.{Reply, replyTo, resultsAfter}
+
+-- the same numbers, the place moved (place 0 stays)
+abbrev pub movedReply : ℕ → List ℕ → Reply → Reply
+movedReply n s r = record { number = r .number; place = moved n s (r .place); count = r .count; charge = r .charge }
+
+-- the sheet filled to n facts has the same answer, but for the place of a refusal, and leaves the same results
+pub record SameWhenFilled (n : ℕ) (s : List ℕ) : Type 0 where
+  pub same-reply : (room : ℕ) → replyTo (filled n s) room ≡ movedReply n s (replyTo s room)
+  pub same-results : (old : List ℕ) → resultsAfter (filled n s) old ≡ resultsAfter s old

@@ -1,0 +1,218 @@
+//! What a run must meet on some accepted line, and on some accepted sheet where a line alone does not tell.
+
+use crate::answer::Approach;
+use crate::seen::{DealKind, Seen};
+
+/// The highest weight.
+const HIGHEST_WEIGHT: u64 = 125_000;
+
+/// What must be met on lines of any deal.
+#[derive(Debug, Clone, Copy, PartialEq, Eq)]
+pub enum Feature {
+    /// The floor of an ordinary securitisation decided a weight.
+    OrdinaryFloor,
+    /// The floor of a re-securitisation decided a weight.
+    ResecuritisationFloor,
+    /// The cap decided a weight.
+    CapDecided,
+    /// The cap decided a weight below the floor.
+    CapBelowFloor,
+    /// A non-senior weight of an ordinary securitisation is the senior figure.
+    AtSenior,
+    /// Raw weight 125,000 because D is at most K.
+    BelowCharge,
+    /// K is 0 and D above it: raw weight 0.
+    ZeroCharge,
+    /// K and D are 0: raw weight 125,000.
+    ZeroChargeAndPoint,
+    /// SEC-SA with A below K and D above it.
+    AcrossCharge,
+    /// SEC-SA with A equal to K.
+    FromCharge,
+    /// SEC-SA with K at least 1, D above K and a thickness D − A of one millionth, the least that is accepted there.
+    ThinAboveCharge,
+    /// Two raw weights pass and give two weights.
+    TwoWeights,
+    /// The unknown exposure is exactly 5% of all exposure.
+    UnknownAtLimit,
+}
+
+impl Feature {
+    /// All features with their names, in the order of the enum.
+    pub(crate) const TABLE: [(Feature, &'static str); 13] = [
+        (Feature::OrdinaryFloor, "lines: ordinary, floor 1,500 decided"),
+        (Feature::ResecuritisationFloor, "lines: floor 10,000 decided"),
+        (Feature::CapDecided, "sheets: cap decided"),
+        (Feature::CapBelowFloor, "lines: cap below the floor decided"),
+        (Feature::AtSenior, "lines: ordinary, at the senior figure"),
+        (Feature::BelowCharge, "lines: weight 125,000 with D at most K"),
+        (Feature::ZeroCharge, "lines: K = 0 and D above 0"),
+        (Feature::ZeroChargeAndPoint, "lines: K = 0 and D = 0"),
+        (Feature::AcrossCharge, "lines: A below K and D above K"),
+        (Feature::FromCharge, "lines: A = K and D above K"),
+        (Feature::ThinAboveCharge, "lines: one millionth thick above K"),
+        (Feature::TwoWeights, "lines: two weights admitted"),
+        (Feature::UnknownAtLimit, "sheets: unknown exposure exactly 5%"),
+    ];
+
+    /// Whether a line shows the feature. Whether the cap decided and how much is unknown are not told from the line
+    /// alone.
+    pub(crate) fn shown(self, seen: &Seen) -> bool {
+        let (line, charge) = (seen.line, seen.charge);
+        let standardised = seen.is(Approach::SecSa);
+        let formula = seen.by_formula();
+        match self {
+            Feature::OrdinaryFloor => seen.kind == DealKind::Ordinary && seen.floor_decided(),
+            Feature::ResecuritisationFloor => seen.kind == DealKind::Resecuritisation && seen.floor_decided(),
+            Feature::CapDecided | Feature::UnknownAtLimit => false,
+            Feature::CapBelowFloor => seen.capped_below_floor(),
+            Feature::AtSenior => seen.kind == DealKind::Ordinary && seen.at_senior(),
+            Feature::BelowCharge => standardised && line.detachment <= charge && seen.weight() == HIGHEST_WEIGHT,
+            Feature::ZeroCharge => formula && charge == 0,
+            Feature::ZeroChargeAndPoint => standardised && charge == 0 && line.detachment == 0,
+            Feature::AcrossCharge => formula && line.attachment < charge,
+            Feature::FromCharge => formula && charge > 0 && line.attachment == charge,
+            Feature::ThinAboveCharge => formula && charge > 0 && line.detachment - line.attachment == 1,
+            Feature::TwoWeights => seen.two_weights(),
+        }
+    }
+}
+
+/// What must be met on lines of STC deals.
+#[derive(Debug, Clone, Copy, PartialEq, Eq)]
+pub enum StcFeature {
+    /// Class 1 under the fallback.
+    SeniorFallback,
+    /// A class below under the fallback.
+    Fallback,
+    /// Class 1 under SEC-ERBA.
+    SeniorSecErba,
+    /// A class below under SEC-ERBA.
+    SecErba,
+    /// Class 1 under SEC-SA.
+    SeniorSecSa,
+    /// A class below under SEC-SA.
+    SecSa,
+    /// The floor of class 1 decided a SEC-SA weight.
+    SeniorFloorSecSa,
+    /// The floor of the classes below decided a SEC-SA weight.
+    FloorSecSa,
+    /// A SEC-ERBA weight is at the floor of class 1. No senior figure lies below it, so it decides none.
+    SeniorFloorSecErba,
+    /// The floor of the classes below decided a SEC-ERBA weight.
+    FloorSecErba,
+    /// The cap decided a weight.
+    CapDecided,
+    /// The cap decided a weight below the floor.
+    CapBelowFloor,
+    /// A non-senior weight is below the senior figure, to which the comparison of other deals would have raised it.
+    BelowSenior,
+    /// The same above the floor, where the senior figure is below 1250%.
+    BelowSeniorAboveFloor,
+    /// Two raw weights pass and give two weights.
+    TwoWeights,
+}
+
+impl StcFeature {
+    /// All features with their names, in the order of the enum.
+    pub(crate) const TABLE: [(StcFeature, &'static str); 15] = [
+        (StcFeature::SeniorFallback, "STC lines: class 1, fallback"),
+        (StcFeature::Fallback, "STC lines: below class 1, fallback"),
+        (StcFeature::SeniorSecErba, "STC lines: class 1, SEC-ERBA"),
+        (StcFeature::SecErba, "STC lines: below class 1, SEC-ERBA"),
+        (StcFeature::SeniorSecSa, "STC lines: class 1, SEC-SA"),
+        (StcFeature::SecSa, "STC lines: below class 1, SEC-SA"),
+        (StcFeature::SeniorFloorSecSa, "STC lines: floor 1,000 decided, SEC-SA"),
+        (StcFeature::FloorSecSa, "STC lines: floor 1,500 decided, SEC-SA"),
+        (
+            StcFeature::SeniorFloorSecErba,
+            "STC lines: at the floor 1,000, SEC-ERBA",
+        ),
+        (StcFeature::FloorSecErba, "STC lines: floor 1,500 decided, SEC-ERBA"),
+        (StcFeature::CapDecided, "STC sheets: cap decided"),
+        (StcFeature::CapBelowFloor, "STC lines: cap below the floor decided"),
+        (StcFeature::BelowSenior, "STC lines: below the senior figure"),
+        (
+            StcFeature::BelowSeniorAboveFloor,
+            "STC lines: below it and above the floor",
+        ),
+        (StcFeature::TwoWeights, "STC lines: two weights admitted"),
+    ];
+
+    /// Whether a line shows the feature. Whether the cap decided is not told from the line alone.
+    pub(crate) fn shown(self, seen: &Seen) -> bool {
+        seen.kind == DealKind::Stc && self.shown_by_stc(seen)
+    }
+
+    /// Whether a line of an STC deal shows the feature.
+    fn shown_by_stc(self, seen: &Seen) -> bool {
+        match self {
+            StcFeature::SeniorFallback => seen.senior && seen.is(Approach::Fallback),
+            StcFeature::Fallback => !seen.senior && seen.is(Approach::Fallback),
+            StcFeature::SeniorSecErba => seen.senior && seen.is(Approach::SecErba),
+            StcFeature::SecErba => !seen.senior && seen.is(Approach::SecErba),
+            StcFeature::SeniorSecSa => seen.senior && seen.is(Approach::SecSa),
+            StcFeature::SecSa => !seen.senior && seen.is(Approach::SecSa),
+            StcFeature::SeniorFloorSecSa => seen.senior && seen.is(Approach::SecSa) && seen.floor_decided(),
+            StcFeature::FloorSecSa => !seen.senior && seen.is(Approach::SecSa) && seen.floor_decided(),
+            StcFeature::SeniorFloorSecErba => seen.senior && seen.table_at_floor(),
+            StcFeature::FloorSecErba => !seen.senior && seen.is(Approach::SecErba) && seen.floor_decided(),
+            StcFeature::CapDecided => false,
+            StcFeature::CapBelowFloor => seen.capped_below_floor(),
+            StcFeature::BelowSenior => seen.senior_above().is_some(),
+            StcFeature::BelowSeniorAboveFloor => {
+                let below = seen.senior_above().is_some_and(|senior| senior < HIGHEST_WEIGHT);
+                below && seen.weight() > seen.floor()
+            }
+            StcFeature::TwoWeights => seen.two_weights(),
+        }
+    }
+}
+
+#[cfg(test)]
+mod tests {
+    use super::*;
+    use independent::{Amounts, Line};
+
+    /// Features are counted by the enums' order, so the tables must follow it.
+    #[test]
+    fn tables_follow_the_enums() {
+        assert!((0..)
+            .zip(Feature::TABLE)
+            .all(|(place, entry)| entry.0 as usize == place));
+        assert!((0..)
+            .zip(StcFeature::TABLE)
+            .all(|(place, entry)| entry.0 as usize == place));
+    }
+
+    /// A SEC-SA line of one millionth counts from the charge on; one further down, a thicker one, one over a charge of
+    /// 0 and a rated one do not.
+    #[test]
+    fn thin_lines_above_the_charge_are_counted() {
+        let thin = |approach: Approach, charge, attachment, detachment| {
+            let amounts = vec![Amounts {
+                weight: 1_500,
+                risk_weighted: 0,
+                capital: 0,
+            }];
+            let line = Line {
+                approach: approach.word(),
+                attachment,
+                detachment,
+                amounts,
+            };
+            Feature::ThinAboveCharge.shown(&Seen {
+                line: &line,
+                charge,
+                kind: DealKind::Ordinary,
+                senior: false,
+                capped: false,
+                rated: None,
+            })
+        };
+        let formula = Approach::SecSa;
+        assert!(thin(formula, 50, 50, 51) && thin(formula, 50, 60, 61));
+        assert!(!thin(formula, 50, 49, 50) && !thin(formula, 50, 60, 62));
+        assert!(!thin(formula, 0, 60, 61) && !thin(Approach::SecErba, 50, 60, 61));
+    }
+}

@@ -1,0 +1,264 @@
+//! A line of an accepted sheet with what of the sheet bears on its weight ("Which approach, then floor, then cap", and
+//! S-1 for STC deals).
+
+use crate::answer::Approach;
+use crate::sheet::{Fact, Layout, TrancheWord};
+use independent::rating::{self, Table};
+use independent::sheet::Tranche;
+use independent::{Deal, Line};
+
+/// The kinds of deals that have floors and parameters of their own.
+#[derive(Debug, Clone, Copy, PartialEq, Eq)]
+pub enum DealKind {
+    /// An ordinary securitisation without the STC mark.
+    Ordinary,
+    /// An STC deal.
+    Stc,
+    /// A re-securitisation.
+    Resecuritisation,
+}
+
+impl DealKind {
+    /// The kind of an accepted sheet's deal.
+    pub fn of_sheet(sheet: &[u64]) -> DealKind {
+        let layout = Layout::of_sheet(sheet);
+        let answers = [Fact::Resecuritisation, Fact::Stc].map(|fact| layout.fact_word(sheet, fact));
+        match answers {
+            [0, 0] => DealKind::Ordinary,
+            [0, _] => DealKind::Stc,
+            _ => DealKind::Resecuritisation,
+        }
+    }
+
+    /// The floor of class 1, or else of the classes below.
+    fn floor(self, senior: bool) -> u64 {
+        match (self, senior) {
+            (DealKind::Ordinary, _) => 1_500,
+            (DealKind::Stc, true) => 1_000,
+            (DealKind::Stc, false) => 1_500,
+            (DealKind::Resecuritisation, _) => 10_000,
+        }
+    }
+}
+
+/// What the deal's rating table gives a tranche.
+pub struct Rated {
+    /// The weight before floor and cap.
+    pub weight: u64,
+    /// The weight before floor and cap that the tranche would have in class 1: its senior figure.
+    pub senior_weight: u64,
+    /// The code of the tranche's only rating; none where it has several.
+    pub code: Option<u64>,
+}
+
+impl Rated {
+    /// What the table of the deal gives the tranche with these words, so thick.
+    fn new(kind: DealKind, words: &[u64; TrancheWord::COUNT], thickness: u64) -> Rated {
+        let &[amount, class, months, held, first, second, third] = words;
+        let ratings = [first, second, third];
+        let weight = |class| {
+            let tranche = Tranche {
+                amount,
+                class,
+                months,
+                held,
+                ratings,
+                place: 0,
+            };
+            rating::weight(Table::of(kind == DealKind::Stc), &tranche, thickness)
+        };
+        let mut codes = ratings.into_iter().filter(|&code| code != 0);
+        let code = codes.next().filter(|_| codes.next().is_none());
+        Rated {
+            weight: weight(class),
+            senior_weight: weight(1),
+            code,
+        }
+    }
+}
+
+/// A line of an accepted sheet with what bears on its weight.
+pub struct Seen<'a> {
+    /// The line.
+    pub line: &'a Line,
+    /// The pool charge.
+    pub charge: u64,
+    /// The kind of the deal.
+    pub kind: DealKind,
+    /// Whether the tranche is of class 1.
+    pub senior: bool,
+    /// Whether the cap applies to the tranche.
+    pub capped: bool,
+    /// What the deal's rating table gives, for a line under SEC-ERBA.
+    pub rated: Option<Rated>,
+}
+
+impl<'a> Seen<'a> {
+    /// The line of a tranche, counted from 0, of an accepted sheet.
+    pub fn new(sheet: &[u64], deal: &'a Deal, tranche: usize) -> Seen<'a> {
+        let layout = Layout::of_sheet(sheet);
+        let line = &deal.lines[tranche];
+        let words = layout.tranche_words(sheet, tranche);
+        let kind = DealKind::of_sheet(sheet);
+        let senior = words[TrancheWord::Class as usize] == 1;
+        let composition_known = layout.fact_word(sheet, Fact::Composition) == 1;
+        let rated = line.approach == Approach::SecErba.word();
+        Seen {
+            line,
+            charge: deal.charge,
+            kind,
+            senior,
+            capped: senior && composition_known && kind != DealKind::Resecuritisation,
+            rated: rated.then(|| Rated::new(kind, words, line.detachment - line.attachment)),
+        }
+    }
+
+    /// The weight; the lower one where two are admitted.
+    pub fn weight(&self) -> u64 {
+        self.line.amounts[0].weight
+    }
+
+    /// The floor of the tranche.
+    pub fn floor(&self) -> u64 {
+        self.kind.floor(self.senior)
+    }
+
+    /// Whether the line is under this approach.
+    pub fn is(&self, approach: Approach) -> bool {
+        self.line.approach == approach.word()
+    }
+
+    /// Whether the weight comes from the formula, by K = 0 or by the exponentials: SEC-SA with D above K.
+    pub fn by_formula(&self) -> bool {
+        self.is(Approach::SecSa) && self.line.detachment > self.charge
+    }
+
+    /// Whether two raw weights pass and give two weights.
+    pub fn two_weights(&self) -> bool {
+        self.line.amounts.len() == 2
+    }
+
+    /// Whether the floor decided the weight: the weight by the table is below it, or the lower one by the formula is.
+    /// That is so where two neighbouring raw weights, or the raw weight 0, give one weight, the floor, and there is no
+    /// cap.
+    pub fn floor_decided(&self) -> bool {
+        let below = match &self.rated {
+            Some(rated) => rated.weight < self.floor(),
+            None => self.by_formula() && !self.two_weights(),
+        };
+        below && !self.capped && self.weight() == self.floor()
+    }
+
+    /// Whether the weight is the table's, and the floor as well: no figure of class 1 of an STC deal is below its floor.
+    pub fn table_at_floor(&self) -> bool {
+        let at_floor = |rated: &Rated| rated.weight == self.floor();
+        self.rated.as_ref().is_some_and(at_floor) && self.weight() == self.floor()
+    }
+
+    /// Whether a non-senior tranche has by the table just the weight that it would have in class 1.
+    pub fn at_senior(&self) -> bool {
+        let at_senior = |rated: &Rated| rated.weight == rated.senior_weight;
+        !self.senior && self.rated.as_ref().is_some_and(at_senior)
+    }
+
+    /// The senior figure of a non-senior tranche whose weight is below it.
+    pub fn senior_above(&self) -> Option<u64> {
+        let senior = self.rated.as_ref()?.senior_weight;
+        (!self.senior && self.weight() < senior).then_some(senior)
+    }
+
+    /// Whether the cap decided a weight below the floor.
+    pub fn capped_below_floor(&self) -> bool {
+        self.capped && !self.is(Approach::Fallback) && self.weight() < self.floor()
+    }
+
+    /// The code of the only rating, where the cap did not lower its weight.
+    pub fn grade(&self) -> Option<u64> {
+        let rated = self.rated.as_ref()?;
+        rated.code.filter(|_| self.weight() == rated.weight.max(self.floor()))
+    }
+}
+
+#[cfg(test)]
+mod tests {
+    use super::*;
+    use crate::answer::LINE_WORDS;
+
+    /// A sheet of two tranches over a pool of 1,000 at 100%: class 1 of 500, then class 2 of 500, each with a rating
+    /// and 12 months.
+    fn sheet(facts: &[u64], ratings: [u64; 2]) -> Vec<u64> {
+        let status = if facts[1] == 1 { 3 } else { 0 };
+        let tranche = |class, rating| [500, class, 12, 0, rating, 0, 0];
+        let tranches = [tranche(1, ratings[0]), tranche(2, ratings[1])];
+        let pool = [1, 1_000, 1_000, 100, status, 2];
+        [&[facts.len() as u64], facts, &pool, tranches.as_flattened()].concat()
+    }
+
+    /// Sees the two lines of such a sheet.
+    fn see<T>(facts: &[u64], ratings: [u64; 2], see: impl Fn(Seen) -> T) -> [T; 2] {
+        let sheet = sheet(facts, ratings);
+        let deal = independent::weigh(&sheet, 2 * LINE_WORDS as u64).expect("an accepted sheet");
+        [0, 1].map(|tranche| see(Seen::new(&sheet, &deal, tranche)))
+    }
+
+    /// The kind of the deal, its floors and its cap, with four and with five facts.
+    #[test]
+    fn kinds_and_floors() {
+        let terms = |facts: &[u64]| see(facts, [0, 0], |seen| (seen.kind, seen.floor(), seen.capped));
+        let ordinary = |floor, capped| (DealKind::Ordinary, floor, capped);
+        assert_eq!(terms(&[0, 0, 1, 1]), [ordinary(1_500, true), ordinary(1_500, false)]);
+        assert_eq!(
+            terms(&[0, 0, 1, 0, 0]),
+            [ordinary(1_500, false), ordinary(1_500, false)]
+        );
+        let stc = |floor, capped| (DealKind::Stc, floor, capped);
+        assert_eq!(terms(&[0, 0, 1, 1, 1]), [stc(1_000, true), stc(1_500, false)]);
+        let resecuritisation = (DealKind::Resecuritisation, 10_000, false);
+        assert_eq!(terms(&[0, 1, 1, 1]), [resecuritisation; 2]);
+        assert_eq!(terms(&[0, 1, 1, 1, 0]), [resecuritisation; 2]);
+    }
+
+    /// What the table gives a rated line, as it stands and in class 1: A+ half thick, whose weight is the senior figure,
+    /// or in an STC deal lies below it.
+    #[test]
+    fn table_weights() {
+        let weights = |rated: Rated| (rated.weight, rated.senior_weight);
+        let rated = |facts: &[u64]| see(facts, [5, 5], |seen| seen.rated.map(weights));
+        assert_eq!(rated(&[0, 0, 1, 0]), [Some((4_000, 4_000)); 2]);
+        assert_eq!(rated(&[0, 0, 1, 0, 1]), [Some((2_000, 2_000)), Some((1_750, 2_000))]);
+        assert_eq!(rated(&[0, 1, 1, 0]), [None; 2]);
+        assert_eq!(rated(&[0, 0, 0, 0]), [None; 2]);
+    }
+
+    /// The senior figure above a weight is seen below class 1 and in an STC deal only.
+    #[test]
+    fn senior_figures() {
+        let above = |facts: &[u64]| see(facts, [5, 5], |seen| (seen.at_senior(), seen.senior_above()));
+        assert_eq!(above(&[0, 0, 1, 0]), [(false, None), (true, None)]);
+        assert_eq!(above(&[0, 0, 1, 0, 1]), [(false, None), (false, Some(2_000))]);
+    }
+
+    /// The floor decides where the weight before it is below it: class 2 with the first short-term grade in an STC deal;
+    /// not class 1, whose figure is the floor.
+    #[test]
+    fn floors_that_decide() {
+        let decided = |facts: &[u64], ratings| see(facts, ratings, |seen| seen.floor_decided());
+        let at_floor = |facts: &[u64], ratings| see(facts, ratings, |seen| seen.table_at_floor());
+        assert_eq!(decided(&[0, 0, 1, 0, 1], [21, 21]), [false, true]);
+        assert_eq!(at_floor(&[0, 0, 1, 0, 1], [21, 21]), [true, false]);
+        assert_eq!(decided(&[0, 0, 1, 0], [21, 21]), [false, false]);
+        assert_eq!(decided(&[0, 0, 1, 0, 1], [0, 0]), [true, false]);
+        assert_eq!(decided(&[0, 0, 1, 0], [0, 0]), [true, false]);
+    }
+
+    /// A grade is seen where it alone gives the weight, be it through the floor: not at the cap, not beside another.
+    #[test]
+    fn grades_that_decide() {
+        let grades = |facts: &[u64], ratings| see(facts, ratings, |seen| seen.grade());
+        assert_eq!(grades(&[0, 0, 1, 0, 1], [21, 21]), [Some(21), Some(21)]);
+        assert_eq!(grades(&[0, 0, 1, 1], [18, 18]), [None, Some(18)]);
+        assert_eq!(grades(&[0, 0, 1, 1], [0, 7]), [None, Some(7)]);
+        let several = Rated::new(DealKind::Stc, &[1, 2, 12, 0, 5, 5, 0], 0);
+        assert_eq!((several.weight, several.code), (3_500, None));
+    }
+}

@@ -1,0 +1,202 @@
+//! What a run must meet on some sheet by its count of facts and its fifth fact (S-1), and on some file.
+
+use crate::answer::refusal;
+use crate::seen::DealKind;
+use crate::sheet::{Fact, Layout, FACTS, FEWEST_FACTS, FILE_BYTES, WORD_BYTES};
+use independent::{Deal, Refusal};
+
+/// What must be met on some sheet.
+#[derive(Debug, Clone, Copy, PartialEq, Eq)]
+pub enum SheetFeature {
+    /// Accepted with four facts.
+    FourFacts,
+    /// An ordinary securitisation accepted with a fifth fact of 0.
+    FiveFacts,
+    /// A re-securitisation accepted with a fifth fact of 0.
+    ResecuritisationFiveFacts,
+    /// An STC deal accepted.
+    Stc,
+    /// A count of 3 facts refused.
+    ThreeFacts,
+    /// A count of 6 facts refused.
+    SixFacts,
+    /// Five facts counted, and the fifth missing.
+    FifthMissing,
+    /// A fifth fact above 1 in an ordinary securitisation.
+    FifthAboveOne,
+    /// A fifth fact above 1 in a re-securitisation.
+    ResecuritisationFifthAboveOne,
+    /// An STC deal refused for a tranche without thickness.
+    StcThin,
+}
+
+impl SheetFeature {
+    /// All features with their names, in the order of the enum.
+    pub(crate) const TABLE: [(SheetFeature, &'static str); 10] = [
+        (SheetFeature::FourFacts, "accepted with four facts"),
+        (SheetFeature::FiveFacts, "accepted with a fifth fact of 0"),
+        (
+            SheetFeature::ResecuritisationFiveFacts,
+            "accepted with it, re-securitisation",
+        ),
+        (SheetFeature::Stc, "accepted as an STC deal"),
+        (SheetFeature::ThreeFacts, "refusal 2 for 3 facts"),
+        (SheetFeature::SixFacts, "refusal 2 for 6 facts"),
+        (SheetFeature::FifthMissing, "refusal 1 for the fifth fact"),
+        (SheetFeature::FifthAboveOne, "refusal 4 for the fifth fact"),
+        (
+            SheetFeature::ResecuritisationFifthAboveOne,
+            "refusal 4 for it, re-securitisation",
+        ),
+        (SheetFeature::StcThin, "refusal 13 in an STC deal"),
+    ];
+
+    /// Whether a sheet with this answer shows the feature.
+    pub(crate) fn shown(self, sheet: &[u64], answer: &Result<Deal, Refusal>) -> bool {
+        match answer {
+            Ok(_) => self.shown_by_accepted(sheet),
+            Err(refused) => self.shown_by_refused(sheet, refused),
+        }
+    }
+
+    /// Whether an accepted sheet shows the feature.
+    fn shown_by_accepted(self, sheet: &[u64]) -> bool {
+        let kind = DealKind::of_sheet(sheet);
+        let stated = sheet[Layout::FACTS_COUNT];
+        match self {
+            SheetFeature::FourFacts => stated == FEWEST_FACTS,
+            SheetFeature::FiveFacts => stated == FACTS && kind == DealKind::Ordinary,
+            SheetFeature::ResecuritisationFiveFacts => stated == FACTS && kind == DealKind::Resecuritisation,
+            SheetFeature::Stc => kind == DealKind::Stc,
+            _ => false,
+        }
+    }
+
+    /// Whether a refused sheet shows the feature. Words before the place of a refusal are good, so they can be read.
+    fn shown_by_refused(self, sheet: &[u64], refused: &Refusal) -> bool {
+        let fifth = Layout::fact(Fact::Stc);
+        let refused_at = |number, place| (refused.number, refused.place) == (number, place as u64);
+        let counts = |facts| sheet.first() == Some(&facts);
+        let resecuritisation = || sheet[Layout::fact(Fact::Resecuritisation)] == 1;
+        match self {
+            SheetFeature::ThreeFacts => refused_at(refusal::COUNT, Layout::FACTS_COUNT) && counts(FEWEST_FACTS - 1),
+            SheetFeature::SixFacts => refused_at(refusal::COUNT, Layout::FACTS_COUNT) && counts(FACTS + 1),
+            SheetFeature::FifthMissing => refused_at(refusal::MISSING, fifth) && counts(FACTS),
+            SheetFeature::FifthAboveOne => refused_at(refusal::FACT, fifth) && !resecuritisation(),
+            SheetFeature::ResecuritisationFifthAboveOne => refused_at(refusal::FACT, fifth) && resecuritisation(),
+            SheetFeature::StcThin => refused.number == refusal::THIN && DealKind::of_sheet(sheet) == DealKind::Stc,
+            _ => false,
+        }
+    }
+}
+
+/// What must be met on some file.
+#[derive(Debug, Clone, Copy, PartialEq, Eq)]
+pub enum FileFeature {
+    /// Accepted.
+    Accepted,
+    /// Refused by its words.
+    WordsRefused,
+    /// Refused for too little room.
+    RoomRefused,
+    /// A length that is no multiple of a word's bytes.
+    PartOfWord,
+    /// The longest length that is read.
+    Longest,
+    /// Accepted at the longest length that is read: the largest sheet.
+    LongestAccepted,
+    /// One word longer than that.
+    OneWordLonger,
+}
+
+impl FileFeature {
+    /// All features with their names, in the order of the enum.
+    pub(crate) const TABLE: [(FileFeature, &'static str); 7] = [
+        (FileFeature::Accepted, "files: accepted"),
+        (FileFeature::WordsRefused, "files: refused by their words"),
+        (FileFeature::RoomRefused, "files: refused for too little room"),
+        (FileFeature::PartOfWord, "files: length no multiple of 8"),
+        (FileFeature::Longest, "files: of the longest length"),
+        (FileFeature::LongestAccepted, "files: of the longest length, accepted"),
+        (FileFeature::OneWordLonger, "files: one word longer"),
+    ];
+
+    /// Whether a file with this answer shows the feature.
+    pub(crate) fn shown(self, file: &[u8], answer: &Result<Deal, Refusal>) -> bool {
+        let number = answer.as_ref().map_or_else(|refusal| refusal.number, |_| 0);
+        match self {
+            FileFeature::Accepted => number == 0,
+            FileFeature::WordsRefused => refusal::is_of_words(number),
+            FileFeature::RoomRefused => number == refusal::ROOM,
+            FileFeature::PartOfWord => !file.len().is_multiple_of(WORD_BYTES),
+            FileFeature::Longest => file.len() == FILE_BYTES,
+            FileFeature::LongestAccepted => file.len() == FILE_BYTES && number == 0,
+            FileFeature::OneWordLonger => file.len() == FILE_BYTES + WORD_BYTES,
+        }
+    }
+}
+
+#[cfg(test)]
+mod tests {
+    use super::*;
+
+    /// Features are counted by the enums' order, so the tables must follow it.
+    #[test]
+    fn tables_follow_the_enums() {
+        assert!((0..)
+            .zip(SheetFeature::TABLE)
+            .all(|(place, entry)| entry.0 as usize == place));
+        assert!((0..)
+            .zip(FileFeature::TABLE)
+            .all(|(place, entry)| entry.0 as usize == place));
+    }
+
+    /// The features that a sheet shows with its independent answer and room enough.
+    fn shown(sheet: &[u64]) -> Vec<SheetFeature> {
+        let answer = independent::weigh(sheet, u64::MAX);
+        let features = SheetFeature::TABLE.map(|(feature, _)| feature);
+        features
+            .into_iter()
+            .filter(|feature| feature.shown(sheet, &answer))
+            .collect()
+    }
+
+    /// A sheet with these facts, one row of this status and two tranches, the second too thin for SEC-SA.
+    fn sheet(facts: &[u64], status: u64) -> Vec<u64> {
+        let pool = [1, 10_000_000_000, 10_000_000_000, 10, status];
+        let tranches = [2, 1_000_001, 1, 72, 0, 0, 0, 0, 1, 2, 72, 0, 0, 0, 0];
+        [&[facts.len() as u64], facts, &pool, &tranches].concat()
+    }
+
+    /// Accepted sheets count by their facts, without due diligence so that none is refused by 13.
+    #[test]
+    fn accepted_sheets_are_counted() {
+        assert_eq!(shown(&sheet(&[0, 0, 0, 0], 0)), [SheetFeature::FourFacts]);
+        assert_eq!(shown(&sheet(&[0, 1, 0, 0], 3)), [SheetFeature::FourFacts]);
+        assert_eq!(shown(&sheet(&[0, 0, 0, 0, 0], 0)), [SheetFeature::FiveFacts]);
+        assert_eq!(
+            shown(&sheet(&[0, 1, 0, 0, 0], 3)),
+            [SheetFeature::ResecuritisationFiveFacts]
+        );
+        assert_eq!(shown(&sheet(&[0, 0, 0, 0, 1], 0)), [SheetFeature::Stc]);
+    }
+
+    /// Refused sheets count by the number and place of the refusal and by what the facts say; a sheet too short to hold
+    /// them, another place or another number counts as nothing.
+    #[test]
+    fn refused_sheets_are_counted() {
+        assert_eq!(shown(&[3]), [SheetFeature::ThreeFacts]);
+        assert_eq!(shown(&sheet(&[0, 0, 0, 0, 0, 0], 0)), [SheetFeature::SixFacts]);
+        assert_eq!(shown(&[5, 0, 0, 0, 0]), [SheetFeature::FifthMissing]);
+        assert_eq!(shown(&[5, 0, 0, 0, 0, 2]), [SheetFeature::FifthAboveOne]);
+        assert_eq!(
+            shown(&[5, 0, 1, 0, 0, 2]),
+            [SheetFeature::ResecuritisationFifthAboveOne]
+        );
+        assert_eq!(shown(&sheet(&[0, 0, 1, 0, 1], 0)), [SheetFeature::StcThin]);
+        for other in [&[][..], &[7], &[4, 0, 0, 0, 0], &[4, 0, 0, 0, 2], &[5, 0, 1, 0, 0, 1]] {
+            assert_eq!(shown(other), [], "{other:?}");
+        }
+        assert_eq!(shown(&sheet(&[0, 0, 1, 0], 0)), []);
+    }
+}
