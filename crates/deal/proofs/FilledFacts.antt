@@ -11,7 +11,8 @@ use Rattle.judgement.specs.FilledFacts.{CanFill, filled, moved}
 use Rattle.judgement.specs.Refusals.{refused, orElse, firstOf, wordsVerdict}
 use Rattle.judgement.specs.declared.Verdict.{Verdict}
 use Rattle.judgement.specs.declared.Verdict.the-variants.{Sound, Faulty}
-use Rattle.judgement.proofs.FilledFacts.{atMoved, moved-or-else, moved-cond, first-of-moved, same-rows, same-tranche-count, tranche-at-moved, same-row-word, same-tranche-word, filled-same-facts, kept-place, later-place, words-moved}
+use Rattle.judgement.proofs.MovedVerdicts.{atMoved, moved-or-else, moved-cond, first-of-moved}
+use Rattle.judgement.proofs.FilledFacts.{same-rows, same-tranche-count, tranche-at-moved, same-row-word, same-tranche-word, filled-same-facts, kept-place, later-place, words-moved}
 use Rattle.judgement.proofs.NeededLaws.{pool-at-least, tranches-at-past-rows}
 use Rattle.pool.specs.PoolSums.{poolSums}
 use Rattle.pool.proofs.SameSums.{same-sums-in-order}

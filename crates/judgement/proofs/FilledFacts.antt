@@ -1,94 +1,26 @@
 -- A sheet whose list of facts is filled with zeros: each of its words stands where `moved` says, so it has the same facts, rows and tranches, and its words
 -- get the same verdict, at the place that has moved. No axioms.
-use mathlib.Core.Bool.{Bool, true, false, cond}
 use mathlib.Core.List.{List, _++_}
-use mathlib.Core.Logic.{⊎-elim}
 use mathlib.Core.Path.{_≡_, refl, sym, ap, _∙_}
-use Prim.Native.Nat.{ℕ, zero, suc, _+_, _*_, _-_, _/_, _%_, _≤_, _<_}
-use native.Mathlib.Nat.{add-zero, le-refl, eq-zero-or-pos}
+use Prim.Native.Nat.{ℕ, zero, suc, _+_, _-_, _≤_, _<_}
+use native.Mathlib.Nat.{add-zero, le-refl}
 use native.Mathlib.Omega.{arith}
-use lib.Dec.{leb, ltb, eqb}
+use lib.Dec.{ltb}
 use lib.ListN.{length, getD, take, drop, replicate, length-append, length-drop, length-replicate, getD-replicate, List·getD-append}
 use lib.Seq.{length-take-le, getD-append-add, getD-take, getD-drop}
-use borrow.Author.Tests.{eqb-true, eqb-false, lt-ltb, le-ltb, eq-eqb, ne-eqb}
-use Rattle.numbers.proofs.Tests.{same-leb}
+use borrow.Author.Tests.{lt-ltb, le-ltb, ne-eqb}
+use Rattle.numbers.proofs.Tests.{same-ltb, same-eqb}
 use Rattle.faults.proofs.GoodWordsLaw.{fact-good}
 use Rattle.faults.proofs.FaultLaws.{within-is}
 use Rattle.limits.specs.SheetSize.{factsLeast, factsMost}
-use Rattle.judgement.specs.DealSheet.{word, resecuritisation, fact, poolAt, rows, rowAt, tranchesAt, trancheCount, trancheAt, amount, class, needed}
+use Rattle.judgement.specs.DealSheet.{word, resecuritisation, fact, poolAt, rows, rowAt, tranchesAt, trancheCount, trancheAt, amount, needed}
 use Rattle.judgement.specs.FilledFacts.{CanFill, filled, moved}
-use Rattle.judgement.specs.Refusals.{rowOf, columnOf, fault, refused, judgeWith, judge, orElse, firstOf, judged, wordsFollow, wordsVerdict}
-use Rattle.judgement.specs.declared.Verdict.{Verdict}
-use Rattle.judgement.specs.declared.Verdict.the-variants.{Sound, Faulty}
-use Rattle.judgement.proofs.FirstFault.{first-of-all}
+use Rattle.judgement.specs.Refusals.{rowOf, fault, refused, judgeWith, judge, firstOf, judged, wordsFollow, wordsVerdict}
+use Rattle.judgement.specs.declared.Verdict.the-variants.{Sound}
 use Rattle.judgement.proofs.Judgement.{fault-of-fact-count, fault-of-fact}
+use Rattle.judgement.proofs.MovedVerdicts.{atMoved, moved-or-else, moved-cond, judge-with-moved, first-of-moved, first-of-some-more, first-of-shifted}
 use Rattle.judgement.proofs.NeededLaws.{tranches-at-past-rows, tranches-end, pool-count-needed}
 use Rattle.judgement.proofs.SameLayout.{SameFacts, same-fact}
-
--- ---- a verdict whose place has moved
-
-abbrev pub atMoved : (ℕ → ℕ) → Verdict → Verdict
-atMoved m Sound = Sound
-atMoved m (Faulty r) = refused (r .number) (m (r .place))
-
-pub moved-or-else : (m : ℕ → ℕ) (v w : Verdict) → orElse (atMoved m v) (atMoved m w) ≡ atMoved m (orElse v w)
-moved-or-else m Sound w = refl
-moved-or-else m (Faulty r) w = refl
-
-or-else-nothing : (v : Verdict) → orElse v Sound ≡ v
-or-else-nothing Sound = refl
-or-else-nothing (Faulty r) = refl
-
--- one verdict of two, by a test
-pub moved-cond : (m : ℕ → ℕ) (b : Bool) (v w v′ w′ : Verdict) → v′ ≡ atMoved m v → w′ ≡ atMoved m w → cond b v′ w′ ≡ atMoved m (cond b v w)
-moved-cond m true v w v′ w′ e e′ = e
-moved-cond m false v w v′ w′ e e′ = e′
-
-judge-with-moved :
-    (m : ℕ → ℕ) (size p number size′ p′ : ℕ) → ltb p′ size′ ≡ ltb p size → p′ ≡ m p → size′ ≡ m size →
-    judgeWith size′ p′ number ≡ atMoved m (judgeWith size p number)
-judge-with-moved m size p number size′ p′ test place end =
-    ap (λ (b : Bool). cond b (cond (eqb number 0) Sound (refused number p′)) (refused 1 size′)) test ∙
-    moved-cond m (ltb p size) _ _ _ _
-    (moved-cond m (eqb number 0) Sound (refused number p) Sound (refused number p′) refl (ap (refused number) place))
-    (ap (refused 1) end)
-
--- the first of verdicts that have moved one by one, and of those among which some that are sound were put
-pub first-of-moved :
-    (m : ℕ → ℕ) (f g : ℕ → Verdict) (k : ℕ) → ((i : ℕ) → i < k → g i ≡ atMoved m (f i)) → firstOf g k ≡ atMoved m (firstOf f k)
-unfolding firstOf
-first-of-moved m f g zero each = refl
-first-of-moved m f g (suc k) each =
-    rw (first-of-moved m f g k (λ i h. each i (omega arith)), each k (omega arith)) (moved-or-else m (firstOf f k) (f k))
-
-first-of-some-more : (g : ℕ → Verdict) (a d : ℕ) → ((i : ℕ) → a ≤ i → i < a + d → g i ≡ Sound) → firstOf g (a + d) ≡ firstOf g a
-unfolding firstOf
-first-of-some-more g a zero sound = ap (firstOf g) (add-zero a)
-first-of-some-more g a (suc d) sound =
-    let next : a + suc d ≡ suc (a + d) = omega arith in
-    rw (next, sound (a + d) (omega arith) (omega arith), first-of-some-more g a d (λ i h l. sound i h (omega arith))) (or-else-nothing (firstOf g a))
-
-first-of-shifted :
-    (m : ℕ → ℕ) (f g : ℕ → Verdict) (a d k : ℕ) → firstOf g (a + d) ≡ atMoved m (firstOf f a) →
-    ((i : ℕ) → a ≤ i → g (i + d) ≡ atMoved m (f i)) → firstOf g (a + k + d) ≡ atMoved m (firstOf f (a + k))
-unfolding firstOf
-first-of-shifted m f g a d zero start each = rw add-zero start
-first-of-shifted m f g a d (suc k) start each =
-    let ours : a + suc k ≡ suc (a + k) = omega arith in
-    let theirs : suc (a + k) + d ≡ suc (a + k + d) = omega arith in
-    rw (ours, theirs, first-of-shifted m f g a d k start each, each (a + k) (omega arith)) (moved-or-else m (firstOf f (a + k)) (f (a + k)))
-
--- ---- two tests of numbers to which the same was added
-
-same-ltb : (d a b : ℕ) → ltb (a + d) (b + d) ≡ ltb a b
-same-ltb d a b = same-leb (suc (a + d)) (b + d) (suc a) b (λ h. omega arith) (λ h. omega arith)
-
-same-eqb : (d a b : ℕ) → eqb (a + d) (b + d) ≡ eqb a b
-same-eqb d a b = by-test (eqb a b) refl
-  where
-    by-test : (t : Bool) → eqb a b ≡ t → eqb (a + d) (b + d) ≡ eqb a b
-    by-test true e = eq-eqb (a + d) (b + d) (ap (λ (x : ℕ). x + d) (eqb-true a b e)) ∙ sym e
-    by-test false e = ne-eqb (a + d) (b + d) (λ same. eqb-false a b e (omega arith)) ∙ sym e
 
 -- ---- the words of the filled sheet
 
@@ -250,16 +182,9 @@ module _ (n : ℕ) (s : List ℕ) (c : CanFill n s) where
       rw (zero-filled p after before)
       (fact-good (resecuritisation f) p 0 least (record { pool-kind = λ _. refl; code = λ _. omega arith; mark = λ _ _. refl }))
 
-  -- the row and the column of a word that has moved with its section
-  same-row-of : (size at p : ℕ) → rowOf size (at + d) (p + d) ≡ rowOf size at p
-  same-row-of size at p =
-      let same : p + d - (at + d + 1) ≡ p - (at + 1) = omega arith in
-      ap (λ (x : ℕ). x / size) same
-
-  same-column-of : (size at p : ℕ) → columnOf size (at + d) (p + d) ≡ columnOf size at p
-  same-column-of size at p =
-      let same : p + d - (at + d + 1) ≡ p - (at + 1) = omega arith in
-      ap (λ (x : ℕ). x % size) same
+  -- a word that has moved with its section is as far behind the count as before, so its row and its column are the same
+  same-distance : (at p : ℕ) → p + d - (at + d + 1) ≡ p - (at + 1)
+  same-distance at p = omega arith
 
   same-amount : (i : ℕ) → amount f i ≡ amount s i
   same-amount i = simp add-zero at (same-tranche-word i 0)
@@ -281,9 +206,8 @@ module _ (n : ℕ) (s : List ℕ) (c : CanFill n s) where
         same-ltb d p (tranchesAt s),
         same-eqb d p (tranchesAt s),
         filled-same-facts .same-resecuritisation,
-        same-row-of 7 (tranchesAt s) p,
-        same-column-of 4 (poolAt s) p,
-        same-column-of 7 (tranchesAt s) p,
+        same-distance (poolAt s) p,
+        same-distance (tranchesAt s) p,
         before,
         whole,
         rest-kept p after,

@@ -10,4 +10,5 @@ pub mod JudgedLaws
 pub mod GoodSheetLaw
 pub mod GoodRowLaw
 pub mod WordsLaw
+pub mod MovedVerdicts
 pub mod FilledFacts

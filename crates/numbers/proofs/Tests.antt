@@ -1,12 +1,12 @@
--- Laws of tests and of what they pick: both, neither or either of two, two tests that say the same, and a picked number. No axioms.
+-- Laws of tests and of what they pick: both, neither or either of two, two tests that say the same, numbers that were raised alike, and a picked number. No axioms.
 use mathlib.Core.Bool.{Bool, true, false, cond, _&&_, _||_}
 use mathlib.Core.Logic.{_⊎_, inl, inr, ⊎-elim}
-use mathlib.Core.Path.{_≡_, refl, _∙_, sym}
-use Prim.Native.Nat.{ℕ, _-_, _≤_, _<_}
+use mathlib.Core.Path.{_≡_, refl, _∙_, sym, ap}
+use Prim.Native.Nat.{ℕ, suc, _+_, _-_, _≤_, _<_}
 use native.Mathlib.Nat.{eq-zero-or-pos, lt-of-not-le, not-le-of-lt}
 use native.Mathlib.Omega.{arith}
-use lib.Dec.{T, leb}
-use borrow.Author.Tests.{leb-true, le-leb, lt-leb}
+use lib.Dec.{T, leb, ltb, eqb}
+use borrow.Author.Tests.{leb-true, eqb-true, eqb-false, le-leb, lt-leb, eq-eqb, ne-eqb}
 
 pub and-both : (a b : Bool) → T (a && b) → T a × T b
 and-both true b t = (tt, t)
@@ -47,6 +47,17 @@ same-leb a b m n forth back =
     let h : n < m = omega arith in
     lt-leb a b (lt-of-not-le (λ k. not-le-of-lt h (forth k))) ∙ sym (lt-leb m n h))
     (eq-zero-or-pos (m - n))
+
+-- two numbers to which the same was added pass a test just where they did before
+pub same-ltb : (d a b : ℕ) → ltb (a + d) (b + d) ≡ ltb a b
+same-ltb d a b = same-leb (suc (a + d)) (b + d) (suc a) b (λ h. omega arith) (λ h. omega arith)
+
+pub same-eqb : (d a b : ℕ) → eqb (a + d) (b + d) ≡ eqb a b
+same-eqb d a b = by-test (eqb a b) refl
+  where
+    by-test : (t : Bool) → eqb a b ≡ t → eqb (a + d) (b + d) ≡ eqb a b
+    by-test true e = eq-eqb (a + d) (b + d) (ap (λ (x : ℕ). x + d) (eqb-true a b e)) ∙ sym e
+    by-test false e = ne-eqb (a + d) (b + d) (λ same. eqb-false a b e (omega arith)) ∙ sym e
 
 -- what holds of each of two numbers where it is picked holds of the picked one
 pub at-cond : {A : Type 0} (P : A → Type 0) (b : Bool) (x y : A) → (b ≡ true → P x) → (b ≡ false → P y) → P (cond b x y)
