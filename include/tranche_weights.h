@@ -34,7 +34,7 @@ extern "C" {
 #endif
 
 /* The version of the interface. */
-#define TRANCHE_WEIGHTS_INTERFACE 2
+#define TRANCHE_WEIGHTS_INTERFACE 3
 
 /*
  * The parts of a sheet: the fewest and the most facts, of one word each; the most pool rows and the words of one; the most tranches and the words of one. The facts in
@@ -106,11 +106,11 @@ enum {
 };
 
 /* The functions as the archive names them. They take what the functions below take, and no null pointer. */
-uint64_t tranche_weights_weigh_v2(const uint64_t *sheet, size_t words, uint64_t *results, size_t room, uint64_t *place, uint64_t *count,
+uint64_t tranche_weights_weigh_v3(const uint64_t *sheet, size_t words, uint64_t *results, size_t room, uint64_t *place, uint64_t *count,
                                   uint64_t *charge);
-uint64_t tranche_weights_weigh_file_v2(const uint8_t *file, size_t size, uint64_t *results, size_t room, uint64_t *place, uint64_t *count,
+uint64_t tranche_weights_weigh_file_v3(const uint8_t *file, size_t size, uint64_t *results, size_t room, uint64_t *place, uint64_t *count,
                                        uint64_t *charge);
-uint64_t tranche_weights_report_v2(const uint8_t *file, size_t size, uint8_t *text, size_t room);
+uint64_t tranche_weights_report_v3(const uint8_t *file, size_t size, uint8_t *text, size_t room);
 
 /*
  * Weighs every tranche of a deal sheet.
@@ -128,7 +128,7 @@ static inline uint64_t tranche_weights_weigh(const uint64_t *sheet, size_t words
                                              uint64_t *count, uint64_t *charge)
 {
     uint64_t nothing = 0;
-    return tranche_weights_weigh_v2(words ? sheet : &nothing, words, room ? results : &nothing, room, place, count, charge);
+    return tranche_weights_weigh_v3(words ? sheet : &nothing, words, room ? results : &nothing, room, place, count, charge);
 }
 
 /*
@@ -144,7 +144,7 @@ static inline uint64_t tranche_weights_weigh_file(const uint8_t *file, size_t si
 {
     uint8_t no_byte = 0;
     uint64_t nothing = 0;
-    return tranche_weights_weigh_file_v2(size ? file : &no_byte, size, room ? results : &nothing, room, place, count, charge);
+    return tranche_weights_weigh_file_v3(size ? file : &no_byte, size, room ? results : &nothing, room, place, count, charge);
 }
 
 /*
@@ -159,7 +159,7 @@ static inline uint64_t tranche_weights_weigh_file(const uint8_t *file, size_t si
 static inline uint64_t tranche_weights_report(const uint8_t *file, size_t size, uint8_t *text, size_t room)
 {
     uint8_t nothing = 0;
-    return tranche_weights_report_v2(size ? file : &nothing, size, room ? text : &nothing, room);
+    return tranche_weights_report_v3(size ? file : &nothing, size, room ? text : &nothing, room);
 }
 
 #ifdef __cplusplus

@@ -1,16 +1,17 @@
 #!/usr/bin/env python3
-"""The text that crates/checked_examples must print, worked out from the papers alone: 01, S-1 of 02, and Tables 3 and 4 of source document 001. Exact
+"""The text that crates/checked_examples must print, worked out from the papers alone: 01, S-1 and S-2 of 02, and Tables 3 and 4 of source document 001. Exact
 fractions, exponentials to a hundred digits.
 
     python3 tests/worked_examples.py | cmp - crates/checked_examples/stdout
 
-Where two raw weights pass, this prints the lower, the exact value rounded up. It fails where a figure of the rating tables is missing from the examples' weights.
-It needs Python's standard library and is no part of the gate.
+Where two raw weights pass, this prints the lower, the exact value rounded up. It fails where a figure of the rating tables is missing from the examples' weights, or
+where a case of several ratings is met by no example. It needs Python's standard library and is no part of the gate.
 """
 import os
 import sys
 from decimal import ROUND_CEILING, Decimal, getcontext
 from fractions import Fraction
+from itertools import permutations
 
 getcontext().prec = 100
 getcontext().Emin = -999999999
@@ -136,6 +137,11 @@ def weight_by_rating(code, stc, senior, months, thickness):
     return up((100 * exact).numerator, (100 * exact).denominator)
 
 
+def weight_that_counts(weights):
+    """One rating's own weight; of two the higher; of three the two lowest are picked, and the higher of these counts."""
+    return max(sorted(weights)[:2])
+
+
 # ---- the formula
 
 
@@ -164,6 +170,9 @@ def raw_weight(a, d, k, p):
 
 # ---- the report
 
+# The rating words of each tranche under SEC-ERBA, with the weights by those that are ratings.
+RATED = []
+
 
 def parameter_and_floor(resecuritised, stc, senior):
     if resecuritised:
@@ -183,8 +192,13 @@ def line(tranche, a, d, charge, known, deal):
         raise Refused(13, at)
     weight = TOP
     if approach != FALLBACK:
-        table = [weight_by_rating(c, stc, rank == 1, months, d - a) for c in codes if c]
-        weight = max(floor, max(table) if approach == ERBA else raw_weight(a, d, charge, parameter))
+        if approach == ERBA:
+            table = [weight_by_rating(c, stc, rank == 1, months, d - a) for c in codes if c]
+            RATED.append((codes, table))
+            weight = weight_that_counts(table)
+        else:
+            weight = raw_weight(a, d, charge, parameter)
+        weight = max(floor, weight)
         if rank == 1 and not resecuritised and composition:
             weight = min(weight, up(100 * sum(e * w for e, _, w, _ in rows), sum(e for e, _, _, _ in rows)))
     return approach, a, d, weight, up(held * weight, 10_000), up(held * weight * 8, MILLION)
@@ -271,7 +285,43 @@ def check_tables(texts):
                 sys.exit("%s_table_%s.txt: not the column of the table" % (kind, name))
 
 
+def rating_cases(codes, weights):
+    """What a tranche's ratings are an example of."""
+    if len(weights) == 1:
+        yield "one rating in word %d" % [bool(c) for c in codes].index(True)
+    elif len(weights) == 2:
+        yield "two ratings, none in word %d, the higher %s" % (codes.index(0), "first" if weights[0] > weights[1] else "last" if weights[0] < weights[1] else "equal")
+    else:
+        low, middle, high = sorted(weights)
+        if low < middle < high:
+            yield "three weights in the order %s" % " ".join("low middle high".split()[sorted(weights).index(w)] for w in weights)
+        elif low < middle:
+            yield "two equal and one lower, in word %d" % weights.index(low)
+        elif middle < high:
+            yield "two equal and one higher, in word %d" % weights.index(high)
+        else:
+            yield "three equal"
+        if weights[codes.index(sorted(codes)[1])] != middle:
+            yield "another rating by code than by weight"
+        if min(codes) < 19 < max(codes):
+            yield "three ratings, long and short term"
+
+
+def check_ratings():
+    """Every case of one, two and three ratings is met."""
+    met = {case for rated in RATED for case in rating_cases(*rated)}
+    due = ["one rating in word %d" % n for n in range(3)]
+    due += ["two ratings, none in word %d, the higher %s" % (n, place) for n in range(3) for place in ("first", "last")]
+    due += ["three weights in the order %s" % " ".join(o) for o in permutations(("low", "middle", "high"))]
+    due += ["two equal and one %s, in word %d" % (which, n) for which in ("lower", "higher") for n in range(3)]
+    due += ["three equal", "another rating by code than by weight", "three ratings, long and short term"]
+    missing = [case for case in due if case not in met]
+    if missing:
+        sys.exit("no example of: %s" % ", ".join(missing))
+
+
 if __name__ == "__main__":
     print_figures()
     print_limits()
     check_tables(print_examples(os.path.join(os.path.dirname(os.path.abspath(__file__)), "..", "crates", "checked_examples")))
+    check_ratings()

@@ -7,7 +7,8 @@ use borrow.Author.Tests.{lt-ltb, le-ltb}
 use Rattle.series.specs.Fraction.{over}
 use Rattle.series.specs.Series.{factorial, low}
 use Rattle.formula.specs.FixedPoint.{decayDistance, meanDecayDistance, decayBelow, meanDecayOfSmall, meanDecayOfLarge, meanDecayAbove}
-use Rattle.series.proofs.Numbers.{le-or-lt, at-min, at-difference}
+use Rattle.numbers.proofs.SmallerLarger.{le-or-lt, at-min}
+use Rattle.series.proofs.Numbers.{at-difference}
 use Rattle.series.proofs.DecayBounds.{not-above-weaker, not-below-weaker, not-above-smaller, not-below-larger}
 use Rattle.series.proofs.Rest.{second, second-equation, second-not-below, third, third-equation, third-not-above}
 use Rattle.series.proofs.MeanDecayBounds.{MeanDecayHigh, MeanDecayLow, mean-decay-low-weaker, scale-up, small-third, by-third, small-second, by-second, by-quotient, from-quotient, mean-decay-high-one}

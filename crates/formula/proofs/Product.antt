@@ -7,7 +7,8 @@ use native.Mathlib.Nat.{mul-le-mul-left, mul-le-mul-right, min-le-left}
 use native.Mathlib.Omega.{arith}
 use Rattle.series.specs.Fraction.{Fraction, over}
 use Rattle.formula.specs.FixedPoint.{decayDistance, meanDecayDistance, productDistance, decayBelow, decayAbove, meanDecayAbove, productAbove}
-use Rattle.series.proofs.Numbers.{le-or-lt, at-min, at-difference}
+use Rattle.numbers.proofs.SmallerLarger.{le-or-lt, at-min}
+use Rattle.series.proofs.Numbers.{at-difference}
 use Rattle.series.proofs.SeriesLaws.{low-at-least-one}
 use Rattle.series.proofs.DecayBounds.{NotBelow}
 use Rattle.formula.proofs.StepBounds.{decay-below-at-most, mean-decay-above-at-most, product-above-at-most}

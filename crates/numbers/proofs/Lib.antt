@@ -1,4 +1,5 @@
 pub mod RoundingLaws
+pub mod SmallerLarger
 pub mod Tests
 pub mod Table
 pub mod SumLaws

@@ -16,6 +16,13 @@ pub fn larger(a: u64, b: u64) -> u64
     if a < b { b } else { a }
 }
 
+// The middle of three numbers: the first, raised to the smaller of the others and lowered to the larger of them.
+pub fn middle(a: u64, b: u64, c: u64) -> u64
+    ensures { λ r. ⌜ r ≡ min (max a (min b c)) (max b c) ⌝ }
+{
+    smaller(larger(a, smaller(b, c)), larger(b, c))
+}
+
 // What a has above b: max(a − b, 0).
 pub fn excess(a: u64, b: u64) -> u64
     ensures { λ r. ⌜ r ≡ a - b ⌝ }

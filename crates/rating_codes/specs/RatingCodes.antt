@@ -1,6 +1,7 @@
 -- 01, "The deal sheet": "Rating codes: 0 none; 1 to 18 the rows of the rating table; 21 to 24 the short-term grades." What a rating weighs is in
 -- RatingTable.antt of `ratings`.
-use mathlib.Core.Bool.{Bool, _&&_, _||_}
+use mathlib.Core.Bool.{Bool, cond, _&&_, _||_}
+use mathlib.Core.List.{List, [], _∷_}
 use Prim.Native.Nat.{ℕ}
 use lib.Dec.{leb, eqb}
 
@@ -19,3 +20,8 @@ present code = longTerm code || shortTerm code
 -- "0 none", or a rating
 abbrev pub listed : ℕ → Bool
 listed code = eqb code 0 || present code
+
+-- the ratings among some codes, in their order: a code that is none is left out
+abbrev pub ratingsAmong : List ℕ → List ℕ
+ratingsAmong [] = []
+ratingsAmong (code ∷ codes) = cond (present code) (code ∷ ratingsAmong codes) (ratingsAmong codes)

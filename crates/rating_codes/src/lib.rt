@@ -1,6 +1,9 @@
 // Which codes are ratings, and of what kind. A crate of their own, since a sheet's words are judged by the codes alone, whatever the rating table says.
 ghost use mathlib.Core.Path.{_≡_};
-ghost use Rattle.rating_codes.specs.RatingCodes.{longTerm, shortTerm, present, listed};
+ghost use mathlib.Core.List.{[], _∷_};
+ghost use Prim.Native.Nat.{_≤_};
+ghost use lib.ListN.{length};
+ghost use Rattle.rating_codes.specs.RatingCodes.{longTerm, shortTerm, present, listed, ratingsAmong};
 
 // Whether a code is a row of the rating table.
 pub fn long_term(code: u64) -> bool
@@ -40,4 +43,18 @@ pub fn is_listed(code: u64) -> bool
         return true;
     }
     is_present(code)
+}
+
+// How many ratings a code is: one, or none.
+fn count_one(code: u64) -> u64
+    ensures { λ r. ⌜ (r ≡ length (ratingsAmong (code ∷ []))) × (r ≤ 1) ⌝ }
+{
+    if is_present(code) { 1 } else { 0 }
+}
+
+// How many of three codes are ratings.
+pub fn count_present(first: u64, second: u64, third: u64) -> u64
+    ensures { λ r. ⌜ r ≡ length (ratingsAmong (first ∷ second ∷ third ∷ [])) ⌝ }
+{
+    count_one(first) + count_one(second) + count_one(third)
 }

@@ -1,1 +1,2 @@
+pub mod PickLaws
 pub mod TableLaws

@@ -1,23 +1,23 @@
--- Laws of the weight by ratings: bounds, the maturities of one and of five years, a non-senior tranche beside a senior one, and the highest of three. "What
+-- Laws of the weight by ratings: bounds, the maturities of one and of five years, a non-senior tranche beside a senior one, and several ratings. "What
 -- is shown of rows and maturities is shown once for any table of 18 rows": the laws are over any figures, and a table needs only the computed test of its figures
 -- that the bounds rest on. No axioms.
-use mathlib.Core.Bool.{Bool, true, false, _&&_}
-use mathlib.Core.List.{List, []}
-use mathlib.Core.Logic.{_⊎_, inl, inr, ⊎-elim}
-use mathlib.Core.Path.{_≡_, refl, ap}
+use mathlib.Core.Bool.{Bool, true, false, cond, _&&_}
+use mathlib.Core.List.{List, [], _∷_, map, map-map, List·Mem, Perm, Perm·map}
+use mathlib.Core.Path.{_≡_, refl, _∙_, sym, ap}
 use Prim.Native.Nat.{ℕ, _+_, _*_, _-_, min, max, _≤_, _<_}
-use native.Mathlib.Nat.{eq-zero-or-pos, le-refl, mul-le-mul, mul-le-mul-right}
+use native.Mathlib.Nat.{le-refl, mul-le-mul, mul-le-mul-right}
 use native.Mathlib.Omega.{arith}
 use lib.Dec.{T, leb, leb→le}
-use lib.ListN.{getD}
+use lib.ListN.{length, getD}
 use borrow.Author.Tests.{le-leb}
 use Rattle.numbers.specs.Rounding.{roundedUp}
-use Rattle.numbers.proofs.RoundingLaws.{rounded-up-at-most, rounded-up-monotone, rounded-up-exact}
+use Rattle.numbers.proofs.RoundingLaws.{rounded-up-at-most, rounded-up-monotone, rounded-up-exact, rounded-up-zero}
 use Rattle.numbers.proofs.Table.{allBelow, at-each}
 use Rattle.numbers.proofs.Tests.{and-both, at-cond, cond-le, neither-true}
-use Rattle.rating_codes.specs.RatingCodes.{longTerm, shortTerm, present}
-use Rattle.rating_codes.proofs.CodeLaws.{long-term-within, short-term-within}
+use Rattle.rating_codes.specs.RatingCodes.{longTerm, shortTerm, present, ratingsAmong}
+use Rattle.rating_codes.proofs.CodeLaws.{long-term-within, short-term-within, ratings-permuted}
 use Rattle.ratings.specs.RatingTable.{RatingFigures, figuresOf, figure, maturityFifths, linear, nonSeniorLinear, besideSenior, longTermExact, exactParts, exactWeight, weightByRating, pick, weightByRatings}
+use Rattle.ratings.proofs.PickLaws.{each-value, pick-at-most, pick-is-one, pick-of-rising, pick-permuted, pick-three}
 
 -- ---- the figures
 
@@ -135,18 +135,6 @@ module _ (figures : RatingFigures) (t : T (figuresAtMost 1250 figures)) where
       rounded-up-at-most (exactWeight figures code senior months thickness) exactParts 125000
       (exact-weight-at-most code senior months thickness)
 
-  pub weight-by-ratings-at-most :
-      (first second third : ℕ) (senior : Bool) (months thickness : ℕ) →
-      weightByRatings figures first second third senior months thickness ≤ 125000
-  unfolding weightByRatings
-  weight-by-ratings-at-most first second third senior months thickness =
-      omega (
-        arith,
-        weight-by-rating-at-most first senior months thickness,
-        weight-by-rating-at-most second senior months thickness,
-        weight-by-rating-at-most third senior months thickness,
-      )
-
 -- ---- the weight by one rating
 
 module _ (figures : RatingFigures) where
@@ -208,34 +196,117 @@ pub stc-below-senior :
 unfolding weightByRating exactWeight
 stc-below-senior = (refl, refl, refl, refl)
 
--- ---- the weight by three ratings
+-- ---- the weight by several ratings
 
-pub each-rating-counts :
-    (figures : RatingFigures) (first second third : ℕ) (senior : Bool) (months thickness : ℕ) →
-    let w = weightByRatings figures first second third senior months thickness in
-    (weightByRating figures first senior months thickness ≤ w) ×
-    (weightByRating figures second senior months thickness ≤ w) ×
-    (weightByRating figures third senior months thickness ≤ w)
+-- By weight and not by code: AA, the second short-term grade and BBB, senior and five years, weigh 40%, 50% and 105%, so 50% counts. Equal ratings count separately: AAA twice and BBB
+-- give the weight of AAA. Two ratings give the higher weight, whichever word is none
+pub several-ratings-by-numbers :
+    (weightByRatings (figuresOf false) 3 22 9 true 72 0 ≡ 5000) × (weightByRatings (figuresOf false) 1 1 9 true 72 0 ≡ 2000) ×
+    (weightByRatings (figuresOf false) 0 9 1 true 72 0 ≡ 10500) × (weightByRatings (figuresOf false) 9 0 1 true 72 0 ≡ 10500)
+unfolding weightByRatings weightByRating exactWeight
+several-ratings-by-numbers = (refl, refl, refl, refl)
+
+pub weight-by-ratings-at-most :
+    (figures : RatingFigures) → T (figuresAtMost 1250 figures) → (first second third : ℕ) (senior : Bool) (months thickness : ℕ) →
+    weightByRatings figures first second third senior months thickness ≤ 125000
 unfolding weightByRatings
-each-rating-counts figures first second third senior months thickness = (omega arith, omega arith, omega arith)
+weight-by-ratings-at-most figures t first second third senior months thickness =
+    pick-at-most 125000 (map weightBy codes)
+    (each-value (λ w. w ≤ 125000) weightBy (λ code. weight-by-rating-at-most figures t code senior months thickness) codes)
+  where
+    weightBy : ℕ → ℕ
+    weightBy code = weightByRating figures code senior months thickness
 
--- the highest of three numbers is one of them
-pick-one : (a b c : ℕ) → (pick a b c ≡ a) ⊎ ((pick a b c ≡ b) ⊎ (pick a b c ≡ c))
-pick-one a b c =
-    ⊎-elim
-    (λ e. inl (omega arith))
-    (λ l. inr (⊎-elim (λ e. inl (omega arith)) (λ m. inr (omega arith)) (eq-zero-or-pos (c - b))))
-    (eq-zero-or-pos (max b c - a))
+    codes : List ℕ
+    codes = ratingsAmong (first ∷ second ∷ third ∷ [])
 
-pub one-rating-counts :
-    (figures : RatingFigures) (first second third : ℕ) (senior : Bool) (months thickness : ℕ) →
-    let w = weightByRatings figures first second third senior months thickness in
-    (w ≡ weightByRating figures first senior months thickness) ⊎
-    ((w ≡ weightByRating figures second senior months thickness) ⊎
-    (w ≡ weightByRating figures third senior months thickness))
-unfolding weightByRatings
-one-rating-counts figures first second third senior months thickness =
-    pick-one
-    (weightByRating figures first senior months thickness)
-    (weightByRating figures second senior months thickness)
-    (weightByRating figures third senior months thickness)
+module _ (figures : RatingFigures) (senior : Bool) (months thickness : ℕ) where
+  abbrev weightBy : ℕ → ℕ
+  weightBy code = weightByRating figures code senior months thickness
+
+  abbrev exactBy : ℕ → ℕ
+  exactBy code = exactWeight figures code senior months thickness
+
+  abbrev byRatings : ℕ → ℕ → ℕ → ℕ
+  byRatings first second third = weightByRatings figures first second third senior months thickness
+
+  -- the codes that pass their tests, as `ratingsAmong` keeps them
+  abbrev kept : Bool → Bool → Bool → ℕ → ℕ → ℕ → List ℕ
+  kept p q r first second third =
+      let one = cond r (third ∷ []) [] in
+      let two = cond q (second ∷ one) one in
+      cond p (first ∷ two) two
+
+  -- One rating or two: the higher weight. A code that is none weighs nothing, so that it is the highest of all three words. Such a tranche keeps the weight that 01 gives it
+  pub fewer-than-three :
+      (first second third : ℕ) → length (ratingsAmong (first ∷ second ∷ third ∷ [])) < 3 →
+      byRatings first second third ≡ max (weightBy first) (max (weightBy second) (weightBy third))
+  unfolding weightByRatings
+  fewer-than-three first second third =
+      by-tests (present first) (present second) (present third) (nothing first) (nothing second) (nothing third)
+    where
+      nothing : (code : ℕ) → present code ≡ false → weightBy code ≡ 0
+      nothing code e = no-rating-no-weight figures code senior months thickness e
+
+      by-tests :
+          (p q r : Bool) → (p ≡ false → weightBy first ≡ 0) → (q ≡ false → weightBy second ≡ 0) → (r ≡ false → weightBy third ≡ 0) →
+          length (kept p q r first second third) < 3 →
+          pick (map weightBy (kept p q r first second third)) ≡ max (weightBy first) (max (weightBy second) (weightBy third))
+      by-tests true true true a b c few = omega arith
+      by-tests true true false a b c few = omega (arith, c refl)
+      by-tests true false true a b c few = omega (arith, b refl)
+      by-tests true false false a b c few = omega (arith, b refl, c refl)
+      by-tests false true true a b c few = omega (arith, a refl)
+      by-tests false true false a b c few = omega (arith, a refl, c refl)
+      by-tests false false true a b c few = omega (arith, a refl, b refl)
+      by-tests false false false a b c few = omega (arith, a refl, b refl, c refl)
+
+  -- "with three, the two lowest weights are picked and the higher of these counts": the middle one
+  pub three-ratings :
+      (first second third : ℕ) → 3 ≤ length (ratingsAmong (first ∷ second ∷ third ∷ [])) →
+      byRatings first second third ≡ min (max (weightBy first) (min (weightBy second) (weightBy third))) (max (weightBy second) (weightBy third))
+  unfolding weightByRatings
+  three-ratings first second third = by-tests (present first) (present second) (present third)
+    where
+      by-tests :
+          (p q r : Bool) → 3 ≤ length (kept p q r first second third) →
+          pick (map weightBy (kept p q r first second third)) ≡
+          min (max (weightBy first) (min (weightBy second) (weightBy third))) (max (weightBy second) (weightBy third))
+      by-tests true true true many = pick-three (weightBy first) (weightBy second) (weightBy third)
+      by-tests true true false many = omega arith
+      by-tests true false true many = omega arith
+      by-tests true false false many = omega arith
+      by-tests false true true many = omega arith
+      by-tests false true false many = omega arith
+      by-tests false false true many = omega arith
+      by-tests false false false many = omega arith
+
+  -- the order of the three rating words does not matter
+  pub order-of-ratings :
+      (first second third a b c : ℕ) → Perm (first ∷ second ∷ third ∷ []) (a ∷ b ∷ c ∷ []) → byRatings first second third ≡ byRatings a b c
+  unfolding weightByRatings
+  order-of-ratings first second third a b c p = pick-permuted (Perm·map weightBy (ratings-permuted p))
+
+  -- the weight is that by one of the ratings, where there is one
+  pub one-rating-counts :
+      (first second third : ℕ) → 1 ≤ length (ratingsAmong (first ∷ second ∷ third ∷ [])) →
+      List·Mem (byRatings first second third) (map weightBy (ratingsAmong (first ∷ second ∷ third ∷ [])))
+  unfolding weightByRatings
+  one-rating-counts first second third = of-some (ratingsAmong (first ∷ second ∷ third ∷ []))
+    where
+      of-some : (codes : List ℕ) → 1 ≤ length codes → List·Mem (pick (map weightBy codes)) (map weightBy codes)
+      of-some [] some = absurd (omega arith)
+      of-some (code ∷ others) some = pick-is-one (weightBy code) (map weightBy others)
+
+  -- each weight is rounded before they are compared; the exact weights, compared and then rounded, give the same
+  pub pick-then-rounded :
+      (first second third : ℕ) →
+      byRatings first second third ≡ roundedUp (pick (map exactBy (ratingsAmong (first ∷ second ∷ third ∷ [])))) exactParts
+  unfolding weightByRatings weightByRating
+  pick-then-rounded first second third = of-codes (ratingsAmong (first ∷ second ∷ third ∷ []))
+    where
+      of-codes : (codes : List ℕ) → pick (map weightBy codes) ≡ roundedUp (pick (map exactBy codes)) exactParts
+      of-codes [] = sym (rounded-up-zero exactParts)
+      of-codes (code ∷ others) =
+          ap pick (sym (map-map (λ w. roundedUp w exactParts) exactBy (code ∷ others))) ∙
+          pick-of-rising (λ w. roundedUp w exactParts) (λ w v. rounded-up-monotone w v exactParts) (exactBy code) (map exactBy others)

@@ -1,13 +1,13 @@
--- 01, "The rating table", and S-1 of 02, "STC deals" (source document 001: CRE42.2 for short-term grades, CRE42.4 for the table, CRE42.5 for maturity
--- and thickness, CRE42.7 for the comparison with the senior figure, CRE42.8 for several ratings; CRE42.12 to CRE42.14 in place of CRE42.2, CRE42.4 and
--- CRE42.7 for STC deals, by CRE42.11; CRE40.22 and CRE40.23 for the tranche maturity). Figures are in percent, a weight in hundredths of a percent, a thickness in
--- millionths; months are those of the final legal maturity.
+-- 01, "The rating table", with S-1 of 02, "STC deals", and S-2, "Paper with three ratings" (source document 001: CRE42.2 for short-term grades, CRE42.4 for the
+-- table, CRE42.5 for maturity and thickness, CRE42.7 for the comparison with the senior figure, CRE42.8, which refers to CRE21.6 to CRE21.8, for several ratings;
+-- CRE42.12 to CRE42.14 in place of CRE42.2, CRE42.4 and CRE42.7 for STC deals, by CRE42.11; CRE40.22 and CRE40.23 for the tranche maturity). Figures are in percent, a
+-- weight in hundredths of a percent, a thickness in millionths; months are those of the final legal maturity.
 use mathlib.Core.Bool.{Bool, true, false, cond}
-use mathlib.Core.List.{List, [], _∷_}
+use mathlib.Core.List.{List, [], _∷_, map}
 use Prim.Native.Nat.{ℕ, _+_, _*_, _-_, min, max}
-use lib.ListN.{getD}
+use lib.ListN.{getD, take}
 use Rattle.numbers.specs.Rounding.{roundedUp}
-use Rattle.rating_codes.specs.RatingCodes.{longTerm, shortTerm}
+use Rattle.rating_codes.specs.RatingCodes.{longTerm, shortTerm, ratingsAmong}
 
 -- ---- the figures from which the weight by a rating is worked out. 02, S-1: "What is shown of rows and maturities is shown once for any table of 18 rows.": what
 -- follows, and its laws (proofs/TableLaws.antt), are over any figures of this form.
@@ -134,15 +134,31 @@ exactWeight figures code senior months thickness =
 unfoldable pub weightByRating : RatingFigures → ℕ → Bool → ℕ → ℕ → ℕ
 weightByRating figures code senior months thickness = roundedUp (exactWeight figures code senior months thickness) exactParts
 
--- ---- "With several ratings the highest weight counts."
+-- ---- several ratings (02, S-2). "By CRE21, two ratings still give the higher weight; with three, the two lowest weights are picked and the higher of these
+-- counts. [...] This replaces 01's highest weight."
 
-abbrev pub pick : ℕ → ℕ → ℕ → ℕ
-pick first second third = max first (max second third)
+-- a number inserted among numbers in ascending order: the lower of it and the first of them comes first, the higher is inserted among the others
+abbrev pub insertAscending : ℕ → List ℕ → List ℕ
+insertAscending n [] = n ∷ []
+insertAscending n (first ∷ others) = min n first ∷ insertAscending (max n first) others
 
--- the weight by a tranche's three ratings; 0 where none is present
+-- numbers in ascending order; equal ones stand side by side
+abbrev pub ascending : List ℕ → List ℕ
+ascending [] = []
+ascending (n ∷ others) = insertAscending n (ascending others)
+
+-- the highest of some numbers; 0 where there is none
+abbrev pub highest : List ℕ → ℕ
+highest [] = 0
+highest (n ∷ others) = max n (highest others)
+
+-- the weight that counts among those by each rating: "the two lowest weights are picked and the higher of these counts". Of two weights both are picked, so that
+-- the higher counts, and one rating's own weight counts
+abbrev pub pick : List ℕ → ℕ
+pick weights = highest (take 2 (ascending weights))
+
+-- "The weight by each rating is worked out in full before they are compared.": the weight by a tranche's three rating words, by the pick among those of the words that
+-- are ratings; a word that is none is left out and counts as no weight. 0 where none is a rating
 unfoldable pub weightByRatings : RatingFigures → ℕ → ℕ → ℕ → Bool → ℕ → ℕ → ℕ
 weightByRatings figures first second third senior months thickness =
-    pick
-    (weightByRating figures first senior months thickness)
-    (weightByRating figures second senior months thickness)
-    (weightByRating figures third senior months thickness)
+    pick (map (λ code. weightByRating figures code senior months thickness) (ratingsAmong (first ∷ second ∷ third ∷ [])))

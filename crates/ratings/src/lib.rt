@@ -1,4 +1,4 @@
-// The weight by ratings: the rating tables, the tranche maturity, the thickness, and the highest of three ratings.
+// The weight by ratings: the rating tables, the tranche maturity, the thickness, and the pick among several ratings.
 ghost use mathlib.Core.Path.{_≡_};
 ghost use mathlib.Core.List.{[]};
 ghost use Prim.Native.Nat.{_-_, max, _≤_, _<_};
@@ -8,8 +8,10 @@ ghost use Rattle.ratings.specs.RatingTable.{ratingTable, stcRatingTable,
 mod table;
 
 use numbers::larger;
+use numbers::middle;
 use numbers::rounded_up;
 use numbers::smaller;
+use rating_codes::count_present;
 use rating_codes::long_term;
 use rating_codes::short_term;
 use table::LONG_TERM;
@@ -142,7 +144,8 @@ pub fn weight_by_rating(stc: bool, code: u64, senior: bool, months: u64, thickne
     )
 }
 
-// The weight by three ratings, of which the highest counts; 0 where none is present.
+// The weight by a tranche's rating words: of three ratings the higher of the two lowest weights, which is the middle one; of fewer the highest weight, a word that is
+// no rating having weight 0, so that it is never the highest.
 pub fn weight_by_ratings(
     stc: bool,
     first: u64,
@@ -157,5 +160,8 @@ pub fn weight_by_ratings(
     let a = weight_by_rating(stc, first, senior, months, thickness);
     let b = weight_by_rating(stc, second, senior, months, thickness);
     let c = weight_by_rating(stc, third, senior, months, thickness);
-    larger(a, larger(b, c))
+    if count_present(first, second, third) < 3 {
+        return larger(a, larger(b, c));
+    }
+    middle(a, b, c)
 }

@@ -12,7 +12,7 @@ use Rattle.series.specs.Fraction.{over, dividedBy, whole, Below}
 use Rattle.series.specs.Series.{factorial, low, up, Admitted}
 use Rattle.series.specs.DecayTable.{DecayEntry}
 use Rattle.series.specs.TableEntry.{entry}
-use Rattle.series.proofs.Numbers.{le-or-lt}
+use Rattle.numbers.proofs.SmallerLarger.{le-or-lt}
 use Rattle.numbers.proofs.Table.{allBelow, at-each, agrees, entry-is}
 use Rattle.series.proofs.SeriesLaws.{low-top-pos}
 use Rattle.series.proofs.WholePartLaw.{at-most-quotient, quotient-below}

@@ -6,7 +6,7 @@ use Prim.Native.Nat.{ℕ, suc, _+_, _*_, _^_, _≤_, _<_}
 use native.Mathlib.Nat.{mul-le-mul, mul-le-mul-left, mul-le-mul-right, mul-pos, le-mul-of-pos-right}
 use native.Mathlib.Omega.{arith}
 use Rattle.series.specs.Fraction.{over}
-use Rattle.series.proofs.Numbers.{le-or-lt}
+use Rattle.numbers.proofs.SmallerLarger.{le-or-lt}
 use Rattle.series.proofs.DecayBounds.{NotAbove, NotBelow}
 use Rattle.series.proofs.Rest.{third, third-equation, third-not-above}
 

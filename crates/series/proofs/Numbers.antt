@@ -1,20 +1,9 @@
--- Laws of whole numbers that several proofs share, here and in `formula`: cases, least values, truncated differences, and quotients. No axioms.
-use mathlib.Core.Logic.{_⊎_, inl, inr, ⊎-elim}
+-- Laws of whole numbers that several proofs share, here and in `formula`: truncated differences, and quotients. No axioms.
+use mathlib.Core.Logic.{⊎-elim}
 use mathlib.Core.Path.{_≡_, _∙_, ap, sym}
-use Prim.Native.Nat.{ℕ, _+_, _*_, _-_, _/_, _%_, min, _≤_, _<_}
-use native.Mathlib.Nat.{eq-zero-or-pos, min-eq-left, min-eq-right, le-trans, le-of-lt, mul-le-mul-left, div-mul-le-self, div-add-mod', mul-add-div-right}
+use Prim.Native.Nat.{ℕ, _+_, _*_, _-_, _/_, _%_, _≤_, _<_}
+use native.Mathlib.Nat.{eq-zero-or-pos, le-trans, mul-le-mul-left, div-mul-le-self, div-add-mod', mul-add-div-right}
 use native.Mathlib.Omega.{arith}
-
-pub le-or-lt : (a b : ℕ) → (a ≤ b) ⊎ (b < a)
-le-or-lt a b = ⊎-elim (λ e. inl (omega arith)) (λ l. inr (omega arith)) (eq-zero-or-pos (a - b))
-
--- what holds of two numbers holds of the smaller
-pub at-min : (P : ℕ → Type 0) (a b : ℕ) → P a → P b → P (min a b)
-at-min P a b p q =
-    ⊎-elim
-    (λ l. rw (min-eq-left {n = a} {m = b} l) p)
-    (λ l. rw (min-eq-right {n = b} {m = a} (le-of-lt l)) q)
-    (le-or-lt a b)
 
 -- what holds of 0, and of every g with g + d = h, holds of the truncated difference h − d
 pub at-difference : (P : ℕ → Type 0) (h d : ℕ) → P 0 → ((g : ℕ) → g + d ≡ h → P g) → P (h - d)

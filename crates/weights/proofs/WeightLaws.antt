@@ -1,7 +1,8 @@
 -- Which weight a tranche has by each approach, and what it depends on in a re-securitisation; what a deal without an STC mark has; that the parameter is one for
--- which the formula is computed; that no weight is above 125,000 (1250%), neither the formula's raw weight, nor the table's, nor either after floor and cap; and
--- where a tranche of no thickness lies. No axioms.
+-- which the formula is computed; that no weight is above 125,000 (1250%), neither the formula's raw weight, nor the table's, nor either after floor and cap; that
+-- floor and cap keep the order of weights; and where a tranche of no thickness lies. No axioms.
 use mathlib.Core.Bool.{Bool, true, false, cond}
+use mathlib.Core.List.{List, _∷_, map}
 use mathlib.Core.Logic.{⊎-elim}
 use mathlib.Core.Path.{_≡_, refl, _∙_}
 use Prim.Native.Nat.{ℕ, _-_, _≤_, _<_}
@@ -9,12 +10,13 @@ use native.Mathlib.Nat.{eq-zero-or-pos, le-refl}
 use native.Mathlib.Omega.{arith}
 use lib.Dec.{eqb}
 use borrow.Author.Tests.{ltb-false, eqb-true, eq-eqb, ne-eqb}
-use Rattle.numbers.proofs.Tests.{at-cond}
+use Rattle.numbers.proofs.Tests.{at-cond, cond-le}
 use Rattle.formula.specs.Formula.{WithinLimits}
 use Rattle.formula.specs.FixedPoint.{withinLimits, rawWeight}
 use Rattle.formula.proofs.RawWeightLaw.{raw-weight-is}
 use Rattle.formula.proofs.Limits.{limits-of-test}
-use Rattle.ratings.specs.RatingTable.{ordinaryFigures, figuresOf, weightByRatings}
+use Rattle.ratings.specs.RatingTable.{ordinaryFigures, figuresOf, pick, weightByRatings}
+use Rattle.ratings.proofs.PickLaws.{pick-of-rising}
 use Rattle.ratings.proofs.TableLaws.{figures-at-most, weight-by-ratings-at-most}
 use Rattle.weights.specs.ApproachFloorCap.{approach, formulaApproach, byFormula, parameter, floor, capApplies, afterFloorAndCap, weightOrHighest, formulaRawWeight, tableWeight, weight, WeightByFormula, thin}
 use Rattle.weights.specs.declared.Terms.{Terms}
@@ -167,6 +169,18 @@ weight-at-most t d =
     at-cond (λ x. x ≤ 125000) (byFormula t d) _ _
     (λ _. after-floor-and-cap-at-most t d (formulaRawWeight t d) (raw-weight-at-most t d))
     (λ _. after-floor-and-cap-at-most t d (tableWeight t d) (table-weight-at-most t d)))
+
+-- ---- floor and cap keep the order of weights
+
+pub after-floor-and-cap-rising :
+    (t : Tranche) (d : Terms) (w v : ℕ) → w ≤ v → afterFloorAndCap t d w ≤ afterFloorAndCap t d v
+after-floor-and-cap-rising t d w v h = cond-le (capApplies t d) _ _ _ _ (omega arith) (omega arith)
+
+-- so it is the same whether the weight that counts is picked before floor and cap or after them
+pub pick-then-floor-and-cap :
+    (t : Tranche) (d : Terms) (w : ℕ) (others : List ℕ) →
+    pick (map (afterFloorAndCap t d) (w ∷ others)) ≡ afterFloorAndCap t d (pick (w ∷ others))
+pick-then-floor-and-cap t d = pick-of-rising (afterFloorAndCap t d) (after-floor-and-cap-rising t d)
 
 -- ---- thickness
 

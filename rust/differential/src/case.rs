@@ -90,6 +90,10 @@ impl Case {
             Relation::Unused => return,
             Relation::FactAdded => return add_fact(&self.sheet, &mut self.second),
             Relation::RowOrder => random.shuffle(&mut self.deal.rows),
+            Relation::RatingOrder => {
+                let tranches = self.deal.tranches.iter_mut();
+                tranches.for_each(|tranche| random.shuffle(&mut tranche.ratings));
+            }
             Relation::OtherRatings => {
                 self.rerated = random.below(self.deal.tranches.len() as u64) as usize;
                 self.deal.tranches[self.rerated].ratings = tranches::any_ratings(random);

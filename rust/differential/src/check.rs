@@ -1,7 +1,7 @@
 //! All comparisons of one sheet.
 
 use crate::case::Case;
-use crate::difference::Difference;
+use crate::difference::{Difference, Part};
 use crate::kind::{File, Relation};
 use crate::lent::Lent;
 use crate::library::Library;
@@ -43,7 +43,8 @@ fn check_second(
 ) -> Result<(), Difference> {
     let compared = match case.relation {
         Relation::Unused => true,
-        Relation::RowOrder => second::compare_row_order(library, case, lent).map(|()| true)?,
+        Relation::RowOrder => second::compare_order(Part::RowOrder, library, case, lent).map(|()| true)?,
+        Relation::RatingOrder => second::compare_order(Part::RatingOrder, library, case, lent).map(|()| true)?,
         Relation::OtherRatings => second::compare_other_ratings(library, case, lent)?,
         Relation::WithoutCap => expected.as_ref().is_ok_and(|deal| {
             if second::cap_decided(deal, case) {

@@ -26,6 +26,8 @@ pub enum Part {
     Text,
     /// The answer changes with the order of the pool's rows.
     RowOrder,
+    /// The answer changes with the order of a tranche's ratings.
+    RatingOrder,
     /// A line changes with another tranche's ratings.
     OtherRatings,
     /// The answer changes with a fact of 0 that is stated.
@@ -48,6 +50,7 @@ impl fmt::Display for Part {
             Part::ResultsOnRefusal => "results were written on a refusal",
             Part::Text => "report text",
             Part::RowOrder => "order of rows",
+            Part::RatingOrder => "order of ratings",
             Part::OtherRatings => "another tranche's ratings",
             Part::FactAdded => "a fact of 0 added",
             Part::Panic => "a panic",

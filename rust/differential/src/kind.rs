@@ -202,6 +202,8 @@ pub enum Relation {
     Unused,
     /// The rows in another order: the same answer.
     RowOrder,
+    /// The ratings of each tranche in another order: the same answer.
+    RatingOrder,
     /// Other ratings on one tranche: the other tranches' lines are the same.
     OtherRatings,
     /// Composition not known: shows by the independent answer whether the cap decided.
@@ -213,9 +215,10 @@ pub enum Relation {
 
 impl Relation {
     /// All relations, in the order of the enum.
-    pub const TABLE: [Entry<Relation>; 5] = [
+    pub const TABLE: [Entry<Relation>; 6] = [
         (Relation::Unused, "no second sheet", 5),
         (Relation::RowOrder, "rows in another order", 1),
+        (Relation::RatingOrder, "ratings in another order", 1),
         (Relation::OtherRatings, "another tranche's ratings", 1),
         (Relation::WithoutCap, "without the cap", 1),
         (Relation::FactAdded, "a fact of 0 added", 2),

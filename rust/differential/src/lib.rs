@@ -1,5 +1,5 @@
 //! Holds the proved library of tranche weights against the independent implementation of document 01 ("the scope
-//! paper") and of request S-1 of document 02 ("later requests"), on seeded random sheets.
+//! paper") and of requests S-1 and S-2 of document 02 ("later requests"), on seeded random sheets.
 //!
 //! Every sheet is made from a seed and its index alone ([`Case`]), so that a run can be split over threads and any
 //! sheet can be made again. [`Run::go`] compares all sheets and gives the counts of what it met ([`Tally`]) or the
@@ -20,6 +20,7 @@ mod limits;
 mod line_feature;
 mod pool;
 mod random;
+mod rating_feature;
 mod run;
 mod second;
 mod seen;
@@ -38,6 +39,7 @@ pub use kind::{File, Kind, Relation, Room};
 pub use lent::Lent;
 pub use library::{Library, Reply, Weigh, WeighFile};
 pub use line_feature::{Feature, StcFeature};
+pub use rating_feature::RatingFeature;
 pub use run::{Found, Run};
 pub use sheet_feature::{FileFeature, SheetFeature};
 pub use tally::Tally;

@@ -16,15 +16,15 @@ fn weigh(library: &Library, sheet: &[u64], room: usize, lent: &mut Lent) -> Weig
     (reply, lent.lines_of(&reply).to_vec())
 }
 
-/// The order of the pool's rows does not matter: sums alone enter charge and points. The second sheet has the same
-/// answer and the same lines.
-pub fn compare_row_order(library: &Library, case: &Case, lent: &mut Lent) -> Result<(), Difference> {
+/// The order of the pool's rows does not matter, since sums alone enter charge and points, and neither does the order of a
+/// tranche's ratings, since their weights are compared (S-2). The second sheet has the same answer and the same lines.
+pub fn compare_order(part: Part, library: &Library, case: &Case, lent: &mut Lent) -> Result<(), Difference> {
     let first = weigh(library, &case.sheet, case.room, lent);
     let second = weigh(library, &case.second, case.room, lent);
     if first == second {
         return Ok(());
     }
-    Err(Difference::new(Part::RowOrder, first, (second, &case.second)))
+    Err(Difference::new(part, first, (second, &case.second)))
 }
 
 /// A tranche's line depends on no other tranche's ratings, both sheets being accepted ("Agreed between us"). Gives
@@ -90,6 +90,15 @@ mod tests {
         reply
     }
 
+    /// The proved library, with the first rating word of the first tranche added to the charge.
+    fn rating_order_matters(sheet: &[u64], results: &mut [u64]) -> Reply {
+        let mut reply = (Library::PROVED.weigh)(sheet, results);
+        if reply.number == 0 {
+            reply.charge += sheet[Layout::of_sheet(sheet).tranche_word(0, TrancheWord::FirstRating)];
+        }
+        reply
+    }
+
     /// The proved library, with all tranches' ratings added to each attachment point.
     fn ratings_matter(sheet: &[u64], results: &mut [u64]) -> Reply {
         let reply = (Library::PROVED.weigh)(sheet, results);
@@ -127,20 +136,26 @@ mod tests {
         cases.filter(|case| compare(case).is_err()).count()
     }
 
-    /// A library for which the order of rows matters is found out; the proved one is not.
+    /// A library for which the order of rows or of ratings matters is found out; the proved one is not.
     #[test]
-    fn row_order_is_compared() {
-        let wrong = Library {
-            weigh: order_matters,
-            ..Library::PROVED
-        };
-        let compare = |library| {
-            differences(Relation::RowOrder, |case| {
-                compare_row_order(library, case, &mut Lent::default())
+    fn orders_are_compared() {
+        let compare = |relation, part, weigh| {
+            let library = Library {
+                weigh,
+                ..Library::PROVED
+            };
+            differences(relation, |case| {
+                compare_order(part, &library, case, &mut Lent::default())
             })
         };
-        assert!(compare(&wrong) > 10);
-        assert_eq!(compare(&Library::PROVED), 0);
+        assert!(compare(Relation::RowOrder, Part::RowOrder, order_matters) > 10);
+        assert!(compare(Relation::RatingOrder, Part::RatingOrder, rating_order_matters) > 10);
+        for (relation, part) in [
+            (Relation::RowOrder, Part::RowOrder),
+            (Relation::RatingOrder, Part::RatingOrder),
+        ] {
+            assert_eq!(compare(relation, part, Library::PROVED.weigh), 0);
+        }
     }
 
     /// A library for which another tranche's ratings matter is found out; the proved one is not.

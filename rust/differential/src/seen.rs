@@ -1,8 +1,8 @@
-//! A line of an accepted sheet with what of the sheet bears on its weight ("Which approach, then floor, then cap", and
-//! S-1 for STC deals).
+//! A line of an accepted sheet with what of the sheet bears on its weight ("Which approach, then floor, then cap", with
+//! S-1 for STC deals and S-2 for several ratings).
 
 use crate::answer::Approach;
-use crate::sheet::{Fact, Layout, TrancheWord};
+use crate::sheet::{Fact, Layout, TrancheWord, RATINGS};
 use independent::rating::{self, Table};
 use independent::sheet::Tranche;
 use independent::{Deal, Line};
@@ -47,16 +47,18 @@ pub struct Rated {
     pub weight: u64,
     /// The weight before floor and cap that the tranche would have in class 1: its senior figure.
     pub senior_weight: u64,
-    /// The code of the tranche's only rating; none where it has several.
-    pub code: Option<u64>,
+    /// The tranche's rating words.
+    pub codes: [u64; RATINGS],
+    /// The weight by each of the words alone, before floor and cap; none where the word is no rating.
+    pub weights: [Option<u64>; RATINGS],
 }
 
 impl Rated {
     /// What the table of the deal gives the tranche with these words, so thick.
     fn new(kind: DealKind, words: &[u64; TrancheWord::COUNT], thickness: u64) -> Rated {
         let &[amount, class, months, held, first, second, third] = words;
-        let ratings = [first, second, third];
-        let weight = |class| {
+        let codes = [first, second, third];
+        let weight = |class, ratings| {
             let tranche = Tranche {
                 amount,
                 class,
@@ -67,13 +69,18 @@ impl Rated {
             };
             rating::weight(Table::of(kind == DealKind::Stc), &tranche, thickness)
         };
-        let mut codes = ratings.into_iter().filter(|&code| code != 0);
-        let code = codes.next().filter(|_| codes.next().is_none());
         Rated {
-            weight: weight(class),
-            senior_weight: weight(1),
-            code,
+            weight: weight(class, codes),
+            senior_weight: weight(1, codes),
+            codes,
+            weights: codes.map(|code| (code != 0).then(|| weight(class, [code, 0, 0]))),
         }
+    }
+
+    /// The code of the tranche's only rating; none where it has several.
+    pub fn only_code(&self) -> Option<u64> {
+        let mut codes = self.codes.into_iter().filter(|&code| code != 0);
+        codes.next().filter(|_| codes.next().is_none())
     }
 }
 
@@ -175,7 +182,9 @@ impl<'a> Seen<'a> {
     /// The code of the only rating, where the cap did not lower its weight.
     pub fn grade(&self) -> Option<u64> {
         let rated = self.rated.as_ref()?;
-        rated.code.filter(|_| self.weight() == rated.weight.max(self.floor()))
+        rated
+            .only_code()
+            .filter(|_| self.weight() == rated.weight.max(self.floor()))
     }
 }
 
@@ -259,6 +268,7 @@ mod tests {
         assert_eq!(grades(&[0, 0, 1, 1], [18, 18]), [None, Some(18)]);
         assert_eq!(grades(&[0, 0, 1, 1], [0, 7]), [None, Some(7)]);
         let several = Rated::new(DealKind::Stc, &[1, 2, 12, 0, 5, 5, 0], 0);
-        assert_eq!((several.weight, several.code), (3_500, None));
+        assert_eq!((several.weight, several.only_code()), (3_500, None));
+        assert_eq!(several.weights, [Some(3_500), Some(3_500), None]);
     }
 }

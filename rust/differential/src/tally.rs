@@ -5,6 +5,7 @@ use crate::case::Case;
 use crate::kind::{File, Kind, Relation, Room};
 use crate::lent::Lent;
 use crate::line_feature::{Feature, StcFeature};
+use crate::rating_feature::RatingFeature;
 use crate::seen::{DealKind, Seen};
 use crate::sheet::{status, Layout, RowWord, LONG_TERM, SHORT_TERM};
 use crate::sheet_feature::{FileFeature, SheetFeature};
@@ -58,6 +59,7 @@ fn names() -> Vec<String> {
     names.extend(statuses.map(|(code, name)| format!("accepted with status {code}, {name}")));
     names.extend(Feature::TABLE.map(|(_, name)| name.to_string()));
     names.extend(StcFeature::TABLE.map(|(_, name)| name.to_string()));
+    names.extend(RatingFeature::TABLE.map(|(_, name)| name.to_string()));
     names.extend(COLUMNS.map(|name| format!("lines: rarest grade, {name}")));
     names.extend(FileFeature::TABLE.map(|(_, name)| name.to_string()));
     names
@@ -88,6 +90,8 @@ pub struct Tally {
     pub features: [u64; Feature::TABLE.len()],
     /// Lines of STC deals that show each feature; sheets, for the cap that decided.
     pub stc_features: [u64; StcFeature::TABLE.len()],
+    /// Lines whose ratings show each feature.
+    pub rating_features: [u64; RatingFeature::TABLE.len()],
     /// Lines whose weight one grade gives, by column and grade.
     pub grades: [[u64; GRADES]; COLUMNS.len()],
     /// Files that show each feature.
@@ -148,6 +152,9 @@ impl Tally {
         for (count, (feature, _)) in self.stc_features.iter_mut().zip(StcFeature::TABLE) {
             *count += u64::from(feature.shown(seen));
         }
+        for (count, (feature, _)) in self.rating_features.iter_mut().zip(RatingFeature::TABLE) {
+            *count += u64::from(feature.shown(seen));
+        }
         if let Some(code) = seen.grade() {
             self.grades[column(seen)][grade_place(code)] += 1;
         }
@@ -192,6 +199,7 @@ impl Tally {
         add(&mut self.statuses, &other.statuses);
         add(&mut self.features, &other.features);
         add(&mut self.stc_features, &other.stc_features);
+        add(&mut self.rating_features, &other.rating_features);
         add(self.grades.as_flattened_mut(), other.grades.as_flattened());
         add(&mut self.file_features, &other.file_features);
         self.higher_taken += other.higher_taken;
@@ -212,6 +220,7 @@ impl Tally {
             &self.statuses,
             &self.features,
             &self.stc_features,
+            &self.rating_features,
             &rarest_grades,
             &self.file_features,
         ];

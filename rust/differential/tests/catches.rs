@@ -2,7 +2,7 @@
 //! of the proved one.
 
 use differential::answer::{refusal, Approach, LineWord, LINE_WORDS};
-use differential::sheet::{Fact, Layout, FACTS, FILE_BYTES, WORD_BYTES};
+use differential::sheet::{Fact, Layout, TrancheWord, FACTS, FILE_BYTES, LONG_TERM, RATINGS, WORD_BYTES};
 use differential::{show, Case, Difference, Feature, Found, Library, Part, Reply, Run, Tally, Weigh, WeighFile};
 use independent::rating::{self, Table};
 use independent::sheet::Tranche;
@@ -272,6 +272,69 @@ fn wrong_weight_of_an_stc_deal() {
     let one_floor: Weigh = |sheet, results| stc_weights(sheet, results, |_, weight| weight.max(1_500));
     assert_eq!(weighed(compared), Some(Part::Line(LineWord::Weight)));
     assert_eq!(weighed(one_floor), Some(Part::Line(LineWord::Weight)));
+}
+
+/// Weighs an accepted sheet as if each tranche had other rating words, made of its own. No tranche loses its last rating
+/// or gets a first one, so that the approaches stay.
+fn rerated(sheet: &[u64], results: &mut [u64], change: fn(&mut [u64; RATINGS])) -> Reply {
+    if independent::weigh(sheet, results.len() as u64).is_err() {
+        return proved(sheet, results);
+    }
+    let mut words = sheet.to_vec();
+    let layout = Layout::of_sheet(sheet);
+    for tranche in 0..layout.tranches {
+        let first = layout.tranche_word(tranche, TrancheWord::FirstRating);
+        let ratings = words[first..].first_chunk_mut().expect("three rating words");
+        change(ratings);
+    }
+    proved(&words, results)
+}
+
+/// Of three ratings the worst two, of which the higher weight counts.
+fn worst_two(ratings: &mut [u64; RATINGS]) {
+    ratings.sort_unstable();
+    ratings[0] = 0;
+}
+
+/// Of two ratings and a third of the best grade the middle one, which is the lower of the two.
+fn best_for_none(ratings: &mut [u64; RATINGS]) {
+    ratings.sort_unstable();
+    if ratings[0] == 0 && ratings[1] != 0 {
+        ratings[0] = LONG_TERM.0;
+    }
+}
+
+/// Of three ratings the one with the middle code.
+fn middle_code(ratings: &mut [u64; RATINGS]) {
+    ratings.sort_unstable();
+    if ratings[0] != 0 {
+        *ratings = [ratings[1], 0, 0];
+    }
+}
+
+/// Of equal ratings one.
+fn equal_once(ratings: &mut [u64; RATINGS]) {
+    ratings.sort_unstable();
+    for word in 1..RATINGS {
+        if ratings[word - 1] == ratings[word] {
+            ratings[word - 1] = 0;
+        }
+    }
+}
+
+/// The weights by several ratings: the highest of three, the lower of two, the one with the middle code, equal ones
+/// counted once.
+#[test]
+fn wrong_weight_of_several_ratings() {
+    let wrong: [Weigh; 4] = [
+        |sheet, results| rerated(sheet, results, worst_two),
+        |sheet, results| rerated(sheet, results, best_for_none),
+        |sheet, results| rerated(sheet, results, middle_code),
+        |sheet, results| rerated(sheet, results, equal_once),
+    ];
+    for weigh in wrong {
+        assert_eq!(weighed(weigh), Some(Part::Line(LineWord::Weight)));
+    }
 }
 
 /// The place of the last line of an accepted sheet in the results.

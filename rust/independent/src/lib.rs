@@ -1,5 +1,5 @@
-//! Exact tranche weights: the crate follows document 01 (the scope paper), request S-1 of document 02 (the paper of
-//! later requests) and the rating figures of source document 001 alone, and shares nothing with the proved code.
+//! Exact tranche weights: the crate follows document 01 (the scope paper), requests S-1 and S-2 of document 02 (the paper
+//! of later requests) and the rating figures of source document 001 alone, and shares nothing with the proved code.
 //!
 //! Nothing is rounded but where document 01 names a rounding. Sums and products are whole numbers of 128 bits, where
 //! every intermediate result fits (the largest is about 10^19). The exponentials of the formula are held between two

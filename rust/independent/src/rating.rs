@@ -1,5 +1,5 @@
-//! "The rating table" of document 01, and the second table of S-1. Table figures are in percent, weights in hundredths of
-//! a percent.
+//! "The rating table" of document 01, with the second table of S-1 and the several ratings of S-2. Table figures are in
+//! percent, weights in hundredths of a percent.
 
 use crate::charge::{to_word, WHOLE};
 use crate::sheet::Tranche;
@@ -81,14 +81,24 @@ const ONE_YEAR: u64 = 60;
 /// Five years in fifths of a month.
 const FIVE_YEARS: u64 = 300;
 
-/// The weight of a rated tranche whose thickness D - A is given in millionths: with several ratings the highest weight
-/// counts. Rating code 0 is no rating.
+/// The weight of a rated tranche whose thickness D - A is given in millionths. The weight by each rating is worked out in
+/// full before they are compared. Rating code 0 is no rating.
 pub fn weight(table: &Table, tranche: &Tranche, thickness: u64) -> u64 {
     let rated = tranche.ratings.iter().filter(|&&code| code != 0);
-    rated
-        .map(|&code| grade_weight(table, code, tranche.class == 1, tranche.months, thickness))
-        .max()
-        .expect("a rated tranche")
+    let weights = rated.map(|&code| grade_weight(table, code, tranche.class == 1, tranche.months, thickness));
+    weight_that_counts(weights.collect())
+}
+
+/// Which of the weights by one, two or three ratings counts. One is on its own; of two the higher counts; of three the
+/// two lowest are picked, and the higher of these counts.
+fn weight_that_counts(mut weights: Vec<u64>) -> u64 {
+    weights.sort_unstable();
+    match weights[..] {
+        [only] => only,
+        [_, higher] => higher,
+        [_, higher_of_two_lowest, _] => higher_of_two_lowest,
+        _ => unreachable!("a rated tranche has one to three ratings"),
+    }
 }
 
 /// Tranche maturity in fifths of a month: 4 x months + 12, held within 60 and 300.
@@ -178,27 +188,73 @@ mod tests {
         assert_eq!(grade_weight(&STC, 12, false, 72, 1_000_000), 32_750);
     }
 
-    /// Short-term grades take no adjustment, and the highest weight of several ratings counts.
+    /// Short-term grades take no adjustment.
     #[test]
-    fn short_term_and_several_ratings() {
-        let tranche = |ratings| Tranche {
+    fn short_term_is_unadjusted() {
+        let short_term = |table| [21, 22, 23, 24].map(|code| grade_weight(table, code, false, 72, 500_000));
+        assert_eq!(short_term(&GENERAL), [1_500, 5_000, 10_000, 125_000]);
+        assert_eq!(short_term(&STC), [1_000, 3_000, 6_000, 125_000]);
+    }
+
+    /// The weight of a tranche of 72 months without thickness that has these ratings.
+    fn rated(table: &Table, class: u64, ratings: [u64; 3]) -> u64 {
+        let tranche = Tranche {
             amount: 1,
-            class: 2,
+            class,
             months: 72,
             held: 1,
             ratings,
             place: 0,
         };
-        let short_term = |table| [21, 22, 23, 24].map(|code| grade_weight(table, code, false, 72, 500_000));
-        assert_eq!(short_term(&GENERAL), [1_500, 5_000, 10_000, 125_000]);
-        assert_eq!(short_term(&STC), [1_000, 3_000, 6_000, 125_000]);
-        let highest = |table, ratings| weight(table, &tranche(ratings), 0);
-        assert_eq!(highest(&GENERAL, [0, 1, 0]), 7_000);
-        assert_eq!(highest(&GENERAL, [21, 0, 1]), 7_000);
-        assert_eq!(highest(&GENERAL, [1, 23, 22]), 10_000);
-        assert_eq!(highest(&GENERAL, [1, 0, 18]), 125_000);
-        assert_eq!(highest(&STC, [21, 0, 1]), 4_000);
-        assert_eq!(highest(&STC, [1, 23, 22]), 6_000);
+        weight(table, &tranche, 0)
+    }
+
+    /// One rating counts in any of the words; of two the higher weight counts, whichever word has none.
+    #[test]
+    fn one_and_two_ratings() {
+        for ratings in [[1, 0, 0], [0, 1, 0], [0, 0, 1]] {
+            assert_eq!(rated(&GENERAL, 2, ratings), 7_000);
+        }
+        for ratings in [[1, 18, 0], [1, 0, 18], [0, 1, 18], [18, 1, 0], [18, 0, 1], [0, 18, 1]] {
+            assert_eq!(rated(&GENERAL, 2, ratings), 125_000);
+        }
+        assert_eq!(rated(&GENERAL, 2, [21, 0, 1]), 7_000);
+        assert_eq!(rated(&STC, 2, [21, 0, 1]), 4_000);
+    }
+
+    /// Of three the two lowest weights are picked and the higher of these counts, in any order: AAA 70%, short-term 50%
+    /// and 100%; in an STC deal 40%, 30% and 60%.
+    #[test]
+    fn three_ratings() {
+        for ratings in [
+            [1, 22, 23],
+            [1, 23, 22],
+            [22, 1, 23],
+            [22, 23, 1],
+            [23, 1, 22],
+            [23, 22, 1],
+        ] {
+            assert_eq!(rated(&GENERAL, 2, ratings), 7_000);
+            assert_eq!(rated(&STC, 2, ratings), 4_000);
+        }
+    }
+
+    /// Equal ratings count separately: two with a lower one and with a higher one, and three.
+    #[test]
+    fn equal_ratings_count_separately() {
+        for ratings in [[1, 9, 9], [9, 1, 9], [9, 9, 1], [9, 9, 9]] {
+            assert_eq!(rated(&GENERAL, 2, ratings), 31_000);
+        }
+        for ratings in [[1, 1, 9], [1, 9, 1], [9, 1, 1]] {
+            assert_eq!(rated(&GENERAL, 2, ratings), 7_000);
+        }
+    }
+
+    /// Weights are compared and not codes: senior AA 40%, short-term 50% and BBB 105%.
+    #[test]
+    fn weights_are_compared_and_not_codes() {
+        assert_eq!(rated(&GENERAL, 1, [3, 22, 9]), 5_000);
+        assert_eq!(rated(&GENERAL, 1, [9, 3, 22]), 5_000);
     }
 
     /// Weights never fall from one grade to the next, at either end of the maturities, and are no higher in an STC deal:

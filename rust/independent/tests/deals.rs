@@ -1,4 +1,5 @@
-//! The checked deals and the misreadings of document 01, the STC deals of S-1, and the largest deal, as whole sheets.
+//! The checked deals and the misreadings of document 01, the STC deals of S-1, several ratings by S-2, and the largest
+//! deal, as whole sheets.
 
 mod common;
 
@@ -273,7 +274,7 @@ fn stc_cap() {
     assert_eq!(all, [[500], [500], [1_500]]);
 }
 
-/// An STC deal is rated by the second table, short-term grades too, with the highest of several ratings.
+/// An STC deal is rated by the second table, short-term grades too. Of three ratings the middle weight counts.
 #[test]
 fn stc_table() {
     // Senior AA, 36 months: (15 + 5 x 96 / 240)%. BBB, 60 months: (180 + 75 x 192 / 240)% x 0.9. BB, 72 months:
@@ -290,7 +291,20 @@ fn stc_table() {
         assert_eq!(stc_weights(100, &short_term), [[senior], [junior]]);
     }
     let several = [[1_000, 1, 12, 0, 1, 22, 5]];
-    assert_eq!(stc_weights(100, &several), [[3_000]]);
+    assert_eq!(stc_weights(100, &several), [[2_000]]);
+}
+
+/// Floor and cap act on the weight that counts (S-2). Class 1 over loans of 30%: AAA 20%, AA 40% and BBB 105% give 40%,
+/// lowered to 3,000; AAA twice and BBB 2,000. Class 2 of an STC deal, a tenth thick: short-term 10%, AAA 15% x 0.9 and A
+/// 60% x 0.9 give 13.5%, raised to 1,500.
+#[test]
+fn floor_and_cap_after_several_ratings() {
+    let tranches = [[500, 1, 72, 0, 1, 3, 9], [500, 1, 72, 0, 1, 1, 9]];
+    let deal = weighed(&[0, 0, 1, 1], &pool_at(30), &tranches);
+    let all: Vec<Vec<u64>> = deal.lines.iter().map(weights).collect();
+    assert_eq!(all, [[3_000], [2_000]]);
+    let marked = [[900, 1, 12, 0, 1, 0, 0], [100, 2, 12, 0, 21, 1, 6]];
+    assert_eq!(stc_weights(100, &marked), [[1_000], [1_500]]);
 }
 
 /// A non-senior weight of an STC deal is not raised to the senior figure. AA, 13 months, one tenth thick: 1,433, and

@@ -90,12 +90,18 @@ impl Terms {
         }
     }
 
-    /// The highest weight of the ratings that are present.
+    /// The weight by the ratings that are present: of three the middle one, of fewer the highest.
     fn rated_weight(&self, tranche: &Tranche, points: &Points) -> f64 {
-        let present = tranche.ratings.iter().filter(|&&code| code != 0);
-        present
-            .map(|&code| rating::weight(self.kind.table, code, tranche.class == 1, tranche.months, points))
-            .fold(0.0, f64::max)
+        let weight = |code| match code {
+            0 => 0.0,
+            _ => rating::weight(self.kind.table, code, tranche.class == 1, tranche.months, points),
+        };
+        let [first, second, third] = tranche.ratings.map(weight);
+        if tranche.ratings.contains(&0) {
+            first.max(second).max(third)
+        } else {
+            first.max(second.min(third)).min(second.max(third))
+        }
     }
 
     /// The raw weight of SEC-SA. With D above K the tranche has a thickness: the other sheets were refused.

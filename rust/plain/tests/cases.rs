@@ -1,4 +1,5 @@
-//! Document 01's checked deals and refusals, and the STC deals of S-1, through the one function that callers have.
+//! Document 01's checked deals and refusals, the STC deals of S-1 and several ratings by S-2, through the one function
+//! that callers have.
 
 use plain::LINE_WORDS;
 
@@ -64,7 +65,8 @@ fn checked_deal_gives_the_lines_of_01_and_writes_no_later_word() {
     assert_eq!(later, [77, 77]);
 }
 
-/// Senior AA at 36 months; non-senior A+ at 12 months, half thick; senior AAA over loans of 10%; several ratings.
+/// Senior AA at 36 months; non-senior A+ at 12 months, half thick; senior AAA over loans of 10%; one, two and three
+/// ratings in every order.
 #[test]
 fn rated_cases() {
     let loans = [[1_000, 1_000, 100, 0]];
@@ -74,8 +76,24 @@ fn rated_cases() {
     assert_eq!(lines[1][WEIGHT], 4_000);
     let (_, lines) = weighed(&sheet(&FACTS, &[[1_000, 1_000, 10, 0]], &[tranche(1_000, 1, 1)]));
     assert_eq!(lines[0][WEIGHT], 1_000);
-    let (_, lines) = weighed(&sheet(&FACTS, &loans, &[[1_000, 1, 72, 0, 1, 21, 3]]));
-    assert_eq!(lines[0][WEIGHT], 4_000, "the highest of several ratings counts");
+    for (ratings, weight) in [
+        ([3, 0, 0], 4_000),
+        ([0, 1, 3], 4_000),
+        ([3, 0, 1], 4_000),
+        ([1, 3, 0], 4_000),
+        ([1, 22, 3], 4_000),
+        ([1, 3, 22], 4_000),
+        ([22, 1, 3], 4_000),
+        ([22, 3, 1], 4_000),
+        ([3, 1, 22], 4_000),
+        ([3, 22, 1], 4_000),
+        ([1, 3, 1], 2_000),
+        ([3, 1, 3], 4_000),
+    ] {
+        let [first, second, third] = ratings;
+        let (_, lines) = weighed(&sheet(&FACTS, &loans, &[[1_000, 1, 72, 0, first, second, third]]));
+        assert_eq!(lines[0][WEIGHT], weight, "{ratings:?}");
+    }
 }
 
 /// The rows (2, 100%) and (1, 50%).
