@@ -80,7 +80,7 @@ enum {
 /* The approaches. */
 enum {
     TRANCHE_WEIGHTS_BY_FALLBACK = 0, /* the fallback of 1250% */
-    TRANCHE_WEIGHTS_BY_SEC_ERBA = 1, /* the deal's rating table */
+    TRANCHE_WEIGHTS_BY_SEC_ERBA = 1, /* the deal's rating table: of two ratings the higher weight, of three the middle one */
     TRANCHE_WEIGHTS_BY_SEC_SA = 2    /* the formula */
 };
 

@@ -1,16 +1,16 @@
--- Laws of the pick among weights, over any numbers: what it is for one, two and three of them, that their order does not matter, that it is one of them, and that
--- it commutes with every rising function. No axioms.
+-- Laws of the pick among weights, over any numbers: what it is for one, two and three of them, that the order in which it puts them is one of all of them that
+-- rises, that the order in which they come does not matter, that it is one of them, and that it commutes with every rising function. No axioms.
 use mathlib.Core.HLevel.{hedberg}
 use mathlib.Core.List.{List, [], _∷_, map, List·Mem, mem-cons-self, mem-cons-of-mem}
-use mathlib.Core.List.{Perm, List·Permᴰ, List·Permᴰ·nil, List·Permᴰ·cons, List·Permᴰ·swap, List·Permᴰ·trans}
+use mathlib.Core.List.{Perm, List·Permᴰ, List·Permᴰ·nil, List·Permᴰ·cons, List·Permᴰ·swap, List·Permᴰ·trans, Permᴰ·refl}
 use mathlib.Core.Logic.{_⊎_, inl, inr, ⊎-elim, ∥∥₁-elim}
-use mathlib.Core.Path.{_≡_, refl, _∙_, sym, ap}
+use mathlib.Core.Path.{_≡_, refl, _∙_, ap}
 use Prim.Native.Nat.{ℕ, zero, suc, _-_, min, max, _≤_}
 use native.Mathlib.Decide.{ℕ-discrete}
-use native.Mathlib.Nat.{eq-zero-or-pos, min-comm, max-comm}
+use native.Mathlib.Nat.{eq-zero-or-pos, min-comm, max-comm, min-eq-left, min-eq-right, max-eq-left, max-eq-right, le-of-lt}
 use native.Mathlib.Omega.{arith}
 use lib.ListN.{take}
-use Rattle.numbers.proofs.SmallerLarger.{at-min, at-max, min-of-rising, max-of-rising}
+use Rattle.numbers.proofs.SmallerLarger.{le-or-lt, at-min, at-max, min-of-rising, max-of-rising}
 use Rattle.ratings.specs.RatingTable.{insertAscending, ascending, highest, pick}
 
 -- ---- by the number of weights
@@ -70,7 +70,7 @@ pub pick-permuted : {ns ms : List ℕ} → Perm ns ms → pick ns ≡ pick ms
 pick-permuted {ns} {ms} p =
     ∥∥₁-elim p (hedberg ℕ-discrete (pick ns) (pick ms)) (λ q. ap (λ (l : List ℕ). highest (take 2 l)) (ascending-permuted q))
 
--- ---- the pick is one of the weights
+-- ---- what each of the weights has
 
 -- of one weight or more, one or more are picked
 record Picked (n : ℕ) (ns : List ℕ) : Type 0 where
@@ -118,14 +118,56 @@ module _ (P : ℕ → Type 0) where
   each-value f has [] = tt
   each-value f has (n ∷ others) = (has n, each-value f has others)
 
-each-stronger : (P Q : ℕ → Type 0) → ((n : ℕ) → P n → Q n) → (ns : List ℕ) → Each P ns → Each Q ns
-each-stronger P Q f [] each = tt
-each-stronger P Q f (n ∷ others) each = (f n (each .0), each-stronger P Q f others (each .1))
+each-implies : (P Q : ℕ → Type 0) → ((n : ℕ) → P n → Q n) → (ns : List ℕ) → Each P ns → Each Q ns
+each-implies P Q f [] each = tt
+each-implies P Q f (n ∷ others) each = (f n (each .0), each-implies P Q f others (each .1))
 
 each-member : (ns : List ℕ) → Each (λ n. List·Mem n ns) ns
 each-member [] = tt
 each-member (n ∷ others) =
-    (mem-cons-self, each-stronger (λ m. List·Mem m others) (λ m. List·Mem m (n ∷ others)) (λ m. mem-cons-of-mem n) others (each-member others))
+    (mem-cons-self, each-implies (λ m. List·Mem m others) (λ m. List·Mem m (n ∷ others)) (λ m. mem-cons-of-mem n) others (each-member others))
+
+-- ---- the order in which the weights are put
+
+-- no number is above a later one
+abbrev pub Ascending : List ℕ → Type 0
+Ascending [] = Unit
+Ascending (n ∷ others) = Each (λ m. n ≤ m) others × Ascending others
+
+inserted-ascending : (n : ℕ) (ns : List ℕ) → Ascending ns → Ascending (insertAscending n ns)
+inserted-ascending n [] rises = (tt, tt)
+inserted-ascending n (first ∷ others) rises =
+    let least : ℕ → Type 0 = λ m. min n first ≤ m in (
+      inserted-have least (max n first) others (omega arith) (each-implies (λ m. first ≤ m) least (λ m h. omega arith) others (rises .0)),
+      inserted-ascending (max n first) others (rises .1),
+    )
+
+pub ascending-rises : (ns : List ℕ) → Ascending (ascending ns)
+ascending-rises [] = tt
+ascending-rises (n ∷ others) = inserted-ascending n (ascending others) (ascending-rises others)
+
+lower-then-higher : (a b : ℕ) (ns : List ℕ) → List·Permᴰ (min a b ∷ max a b ∷ ns) (a ∷ b ∷ ns)
+lower-then-higher a b ns =
+    ⊎-elim
+    (λ l. List·Permᴰ·cons (min-eq-left l) (List·Permᴰ·cons (max-eq-right l) (Permᴰ·refl ns)))
+    (λ l. List·Permᴰ·swap (min-eq-right (le-of-lt l)) (max-eq-left (le-of-lt l)))
+    (le-or-lt a b)
+
+inserted-permutes : (n : ℕ) (ns : List ℕ) → List·Permᴰ (insertAscending n ns) (n ∷ ns)
+inserted-permutes n [] = Permᴰ·refl (n ∷ [])
+inserted-permutes n (first ∷ others) =
+    List·Permᴰ·trans (List·Permᴰ·cons refl (inserted-permutes (max n first) others)) (lower-then-higher n first others)
+
+-- the same numbers, each as often as it was
+pub ascending-permutes : (ns : List ℕ) → Perm (ascending ns) ns
+ascending-permutes ns = ∣ derived ns ∣₁
+  where
+    derived : (ms : List ℕ) → List·Permᴰ (ascending ms) ms
+    derived [] = List·Permᴰ·nil
+    derived (n ∷ others) =
+        List·Permᴰ·trans (inserted-permutes n (ascending others)) (List·Permᴰ·cons refl (derived others))
+
+-- ---- the pick is one of the weights
 
 pub pick-is-one : (n : ℕ) (others : List ℕ) → List·Mem (pick (n ∷ others)) (n ∷ others)
 pick-is-one n others = pick-has (λ m. List·Mem m (n ∷ others)) n others (each-member (n ∷ others))

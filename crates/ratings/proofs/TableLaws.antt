@@ -17,7 +17,7 @@ use Rattle.numbers.proofs.Tests.{and-both, at-cond, cond-le, neither-true}
 use Rattle.rating_codes.specs.RatingCodes.{longTerm, shortTerm, present, ratingsAmong}
 use Rattle.rating_codes.proofs.CodeLaws.{long-term-within, short-term-within, ratings-permuted}
 use Rattle.ratings.specs.RatingTable.{RatingFigures, figuresOf, figure, maturityFifths, linear, nonSeniorLinear, besideSenior, longTermExact, exactParts, exactWeight, weightByRating, pick, weightByRatings}
-use Rattle.ratings.proofs.PickLaws.{each-value, pick-at-most, pick-is-one, pick-of-rising, pick-permuted, pick-three}
+use Rattle.ratings.proofs.PickLaws.{each-value, pick-at-most, pick-is-one, pick-of-rising, pick-one, pick-permuted, pick-three}
 
 -- ---- the figures
 
@@ -161,13 +161,18 @@ module _ (figures : RatingFigures) where
       whole-weight grade true months thickness (100 * figure (figures .longTermFigures) grade 1)
       (simp (le-leb 1 grade least, le-leb grade 18 most, maturity-five-years months long) (omega arith))
 
+  pub no-rating-no-exact :
+      (code : ℕ) (senior : Bool) (months thickness : ℕ) → present code ≡ false → exactWeight figures code senior months thickness ≡ 0
+  unfolding exactWeight
+  no-rating-no-exact code senior months thickness e =
+      let neither = neither-true (longTerm code) (shortTerm code) e in
+      simp (neither .0, neither .1)
+
   pub no-rating-no-weight :
       (code : ℕ) (senior : Bool) (months thickness : ℕ) →
       present code ≡ false → weightByRating figures code senior months thickness ≡ 0
-  unfolding exactWeight
   no-rating-no-weight code senior months thickness e =
-      let neither = neither-true (longTerm code) (shortTerm code) e in
-      whole-weight code senior months thickness 0 (simp (neither .0, neither .1))
+      whole-weight code senior months thickness 0 (no-rating-no-exact code senior months thickness e)
 
   -- "no lower than the senior figure of that rating and maturity", where the two are compared
   pub non-senior-at-least-senior :
@@ -198,8 +203,8 @@ stc-below-senior = (refl, refl, refl, refl)
 
 -- ---- the weight by several ratings
 
--- By weight and not by code: AA, the second short-term grade and BBB, senior and five years, weigh 40%, 50% and 105%, so 50% counts. Equal ratings count separately: AAA twice and BBB
--- give the weight of AAA. Two ratings give the higher weight, whichever word is none
+-- By weight and not by code: AA, the second short-term grade and BBB, senior and five years, weigh 40%, 50% and 105%, so 50% counts. Equal ratings count
+-- separately: AAA twice and BBB give the weight of AAA. Two ratings give the higher weight, whichever word is none
 pub several-ratings-by-numbers :
     (weightByRatings (figuresOf false) 3 22 9 true 72 0 ≡ 5000) × (weightByRatings (figuresOf false) 1 1 9 true 72 0 ≡ 2000) ×
     (weightByRatings (figuresOf false) 0 9 1 true 72 0 ≡ 10500) × (weightByRatings (figuresOf false) 9 0 1 true 72 0 ≡ 10500)
@@ -220,6 +225,54 @@ weight-by-ratings-at-most figures t first second third senior months thickness =
     codes : List ℕ
     codes = ratingsAmong (first ∷ second ∷ third ∷ [])
 
+-- the pick among the values of any function at those of three words that are ratings
+module _ (f : ℕ → ℕ) where
+  -- the codes that pass their tests, as `ratingsAmong` keeps them
+  abbrev kept : Bool → Bool → Bool → ℕ → ℕ → ℕ → List ℕ
+  kept p q r first second third =
+      let one = cond r (third ∷ []) [] in
+      let two = cond q (second ∷ one) one in
+      cond p (first ∷ two) two
+
+  -- three ratings: the middle value
+  pub pick-of-three :
+      (first second third : ℕ) → 3 ≤ length (ratingsAmong (first ∷ second ∷ third ∷ [])) →
+      pick (map f (ratingsAmong (first ∷ second ∷ third ∷ []))) ≡ min (max (f first) (min (f second) (f third))) (max (f second) (f third))
+  pick-of-three first second third = by-tests (present first) (present second) (present third)
+    where
+      by-tests :
+          (p q r : Bool) → 3 ≤ length (kept p q r first second third) →
+          pick (map f (kept p q r first second third)) ≡ min (max (f first) (min (f second) (f third))) (max (f second) (f third))
+      by-tests true true true many = pick-three (f first) (f second) (f third)
+      by-tests true true false many = omega arith
+      by-tests true false true many = omega arith
+      by-tests true false false many = omega arith
+      by-tests false true true many = omega arith
+      by-tests false true false many = omega arith
+      by-tests false false true many = omega arith
+      by-tests false false false many = omega arith
+
+  -- fewer: the highest value, of all three words where the function is 0 at a code that is none
+  pub pick-of-fewer :
+      ((code : ℕ) → present code ≡ false → f code ≡ 0) →
+      (first second third : ℕ) → length (ratingsAmong (first ∷ second ∷ third ∷ [])) < 3 →
+      pick (map f (ratingsAmong (first ∷ second ∷ third ∷ []))) ≡ max (f first) (max (f second) (f third))
+  pick-of-fewer none first second third =
+      by-tests (present first) (present second) (present third) (none first) (none second) (none third)
+    where
+      by-tests :
+          (p q r : Bool) → (p ≡ false → f first ≡ 0) → (q ≡ false → f second ≡ 0) → (r ≡ false → f third ≡ 0) →
+          length (kept p q r first second third) < 3 →
+          pick (map f (kept p q r first second third)) ≡ max (f first) (max (f second) (f third))
+      by-tests true true true a b c few = omega arith
+      by-tests true true false a b c few = omega (arith, c refl)
+      by-tests true false true a b c few = omega (arith, b refl)
+      by-tests true false false a b c few = omega (arith, b refl, c refl)
+      by-tests false true true a b c few = omega (arith, a refl)
+      by-tests false true false a b c few = omega (arith, a refl, c refl)
+      by-tests false false true a b c few = omega (arith, a refl, b refl)
+      by-tests false false false a b c few = omega (arith, a refl, b refl, c refl)
+
 module _ (figures : RatingFigures) (senior : Bool) (months thickness : ℕ) where
   abbrev weightBy : ℕ → ℕ
   weightBy code = weightByRating figures code senior months thickness
@@ -230,56 +283,28 @@ module _ (figures : RatingFigures) (senior : Bool) (months thickness : ℕ) wher
   abbrev byRatings : ℕ → ℕ → ℕ → ℕ
   byRatings first second third = weightByRatings figures first second third senior months thickness
 
-  -- the codes that pass their tests, as `ratingsAmong` keeps them
-  abbrev kept : Bool → Bool → Bool → ℕ → ℕ → ℕ → List ℕ
-  kept p q r first second third =
-      let one = cond r (third ∷ []) [] in
-      let two = cond q (second ∷ one) one in
-      cond p (first ∷ two) two
+  -- one rating's own weight counts
+  pub one-rating : (code : ℕ) → byRatings code 0 0 ≡ weightBy code
+  unfolding weightByRatings
+  one-rating code = by-test (present code) (no-rating-no-weight figures code senior months thickness)
+    where
+      by-test : (t : Bool) → (t ≡ false → weightBy code ≡ 0) → pick (map weightBy (cond t (code ∷ []) [])) ≡ weightBy code
+      by-test true none = pick-one (weightBy code)
+      by-test false none = sym (none refl)
 
-  -- One rating or two: the higher weight. A code that is none weighs nothing, so that it is the highest of all three words. Such a tranche keeps the weight that 01 gives it
+  -- one rating or two: the higher weight. So a tranche with no more than two keeps the weight that 01 gives it, the highest of all
   pub fewer-than-three :
       (first second third : ℕ) → length (ratingsAmong (first ∷ second ∷ third ∷ [])) < 3 →
       byRatings first second third ≡ max (weightBy first) (max (weightBy second) (weightBy third))
   unfolding weightByRatings
-  fewer-than-three first second third =
-      by-tests (present first) (present second) (present third) (nothing first) (nothing second) (nothing third)
-    where
-      nothing : (code : ℕ) → present code ≡ false → weightBy code ≡ 0
-      nothing code e = no-rating-no-weight figures code senior months thickness e
-
-      by-tests :
-          (p q r : Bool) → (p ≡ false → weightBy first ≡ 0) → (q ≡ false → weightBy second ≡ 0) → (r ≡ false → weightBy third ≡ 0) →
-          length (kept p q r first second third) < 3 →
-          pick (map weightBy (kept p q r first second third)) ≡ max (weightBy first) (max (weightBy second) (weightBy third))
-      by-tests true true true a b c few = omega arith
-      by-tests true true false a b c few = omega (arith, c refl)
-      by-tests true false true a b c few = omega (arith, b refl)
-      by-tests true false false a b c few = omega (arith, b refl, c refl)
-      by-tests false true true a b c few = omega (arith, a refl)
-      by-tests false true false a b c few = omega (arith, a refl, c refl)
-      by-tests false false true a b c few = omega (arith, a refl, b refl)
-      by-tests false false false a b c few = omega (arith, a refl, b refl, c refl)
+  fewer-than-three = pick-of-fewer weightBy (λ code. no-rating-no-weight figures code senior months thickness)
 
   -- "with three, the two lowest weights are picked and the higher of these counts": the middle one
   pub three-ratings :
       (first second third : ℕ) → 3 ≤ length (ratingsAmong (first ∷ second ∷ third ∷ [])) →
       byRatings first second third ≡ min (max (weightBy first) (min (weightBy second) (weightBy third))) (max (weightBy second) (weightBy third))
   unfolding weightByRatings
-  three-ratings first second third = by-tests (present first) (present second) (present third)
-    where
-      by-tests :
-          (p q r : Bool) → 3 ≤ length (kept p q r first second third) →
-          pick (map weightBy (kept p q r first second third)) ≡
-          min (max (weightBy first) (min (weightBy second) (weightBy third))) (max (weightBy second) (weightBy third))
-      by-tests true true true many = pick-three (weightBy first) (weightBy second) (weightBy third)
-      by-tests true true false many = omega arith
-      by-tests true false true many = omega arith
-      by-tests true false false many = omega arith
-      by-tests false true true many = omega arith
-      by-tests false true false many = omega arith
-      by-tests false false true many = omega arith
-      by-tests false false false many = omega arith
+  three-ratings = pick-of-three weightBy
 
   -- the order of the three rating words does not matter
   pub order-of-ratings :
@@ -310,3 +335,20 @@ module _ (figures : RatingFigures) (senior : Bool) (months thickness : ℕ) wher
       of-codes (code ∷ others) =
           ap pick (sym (map-map (λ w. roundedUp w exactParts) exactBy (code ∷ others))) ∙
           pick-of-rising (λ w. roundedUp w exactParts) (λ w v. rounded-up-monotone w v exactParts) (exactBy code) (map exactBy others)
+
+  -- the exact weights, of which the highest or the middle one counts and is rounded up
+  pub fewer-than-three-rounded :
+      (first second third : ℕ) → length (ratingsAmong (first ∷ second ∷ third ∷ [])) < 3 →
+      byRatings first second third ≡ roundedUp (max (exactBy first) (max (exactBy second) (exactBy third))) exactParts
+  fewer-than-three-rounded first second third few =
+      pick-then-rounded first second third ∙
+      ap (λ (w : ℕ). roundedUp w exactParts)
+      (pick-of-fewer exactBy (λ code. no-rating-no-exact figures code senior months thickness) first second third few)
+
+  pub three-ratings-rounded :
+      (first second third : ℕ) → 3 ≤ length (ratingsAmong (first ∷ second ∷ third ∷ [])) →
+      byRatings first second third ≡
+      roundedUp (min (max (exactBy first) (min (exactBy second) (exactBy third))) (max (exactBy second) (exactBy third))) exactParts
+  three-ratings-rounded first second third many =
+      pick-then-rounded first second third ∙
+      ap (λ (w : ℕ). roundedUp w exactParts) (pick-of-three exactBy first second third many)

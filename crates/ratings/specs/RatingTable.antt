@@ -1,5 +1,5 @@
 -- 01, "The rating table", with S-1 of 02, "STC deals", and S-2, "Paper with three ratings" (source document 001: CRE42.2 for short-term grades, CRE42.4 for the
--- table, CRE42.5 for maturity and thickness, CRE42.7 for the comparison with the senior figure, CRE42.8, which refers to CRE21.6 to CRE21.8, for several ratings;
+-- table, CRE42.5 for maturity and thickness, CRE42.7 for the comparison with the senior figure, CRE42.8 (4), which refers to CRE21.6 to CRE21.8, for several ratings;
 -- CRE42.12 to CRE42.14 in place of CRE42.2, CRE42.4 and CRE42.7 for STC deals, by CRE42.11; CRE40.22 and CRE40.23 for the tranche maturity). Figures are in percent, a
 -- weight in hundredths of a percent, a thickness in millionths; months are those of the final legal maturity.
 use mathlib.Core.Bool.{Bool, true, false, cond}

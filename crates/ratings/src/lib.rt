@@ -36,31 +36,16 @@ pub fn maturity_fifths(months: u64) -> u64
     larger(60, 4 * smaller(months, 72) + 12)
 }
 
-// The row of the first table at a grade, counted from 1.
-fn ordinary_row(grade: u64) -> [u16; 4]
-    requires { ⌜ (1 ≤ grade) × (grade ≤ 18) ⌝ }
-    ensures { λ r. ⌜ r ≡ getD ratingTable (grade - 1) [] ⌝ }
-{
-    LONG_TERM[(grade - 1) as usize]
-}
-
-// The row of the table of STC deals at a grade, counted from 1.
-fn stc_row(grade: u64) -> [u16; 4]
-    requires { ⌜ (1 ≤ grade) × (grade ≤ 18) ⌝ }
-    ensures { λ r. ⌜ r ≡ getD stcRatingTable (grade - 1) [] ⌝ }
-{
-    STC_LONG_TERM[(grade - 1) as usize]
-}
-
-// The row of a deal's rating table at a grade, counted from 1. A table is written to memory at each use, so a rating takes all its figures from one row. Both
-// rows are read and one is picked: where each table was read in a branch of its own, the compiler wrote them figure by figure (docs/DECISIONS.md).
-fn table_row(stc: bool, grade: u64) -> [u16; 4]
-    requires { ⌜ (1 ≤ grade) × (grade ≤ 18) ⌝ }
+// The row of a deal's rating table at a grade, counted from 1, with both tables lent. The rows of both are read and one is picked: where each table was read in a branch
+// of its own, the compiler wrote them figure by figure (docs/DECISIONS.md).
+fn table_row(ordinary: &[[u16; 4]; 18], marked: &[[u16; 4]; 18], stc: bool, grade: u64) -> [u16; 4]
+    requires { ⌜ (now ordinary ≡ ratingTable) × (now marked ≡ stcRatingTable) × (1 ≤ grade) × (grade ≤ 18) ⌝ }
     ensures { λ r. ⌜ r ≡ getD (figuresOf stc .longTermFigures) (grade - 1) [] ⌝ }
 {
-    let ordinary = ordinary_row(grade);
-    let marked = stc_row(grade);
-    if stc { marked } else { ordinary }
+    let at = (grade - 1) as usize;
+    let unmarked_row = ordinary[at];
+    let marked_row = marked[at];
+    if stc { marked_row } else { unmarked_row }
 }
 
 // The figure of a deal's short-term grade.
@@ -100,11 +85,19 @@ fn beside_senior(stc: bool, own: u64, senior: u64) -> u64
 }
 
 // The exact weight by a long-term grade, times EXACT_PARTS: a non-senior tranche's falls with its thickness.
-fn long_term_exact(stc: bool, grade: u64, senior: bool, fifths: u64, thickness: u64) -> u64
-    requires { ⌜ (1 ≤ grade) × (grade ≤ 18) × (60 ≤ fifths) × (fifths ≤ 300) ⌝ }
+fn long_term_exact(
+    ordinary: &[[u16; 4]; 18],
+    marked: &[[u16; 4]; 18],
+    stc: bool,
+    grade: u64,
+    senior: bool,
+    fifths: u64,
+    thickness: u64,
+) -> u64
+    requires { ⌜ (now ordinary ≡ ratingTable) × (now marked ≡ stcRatingTable) × (1 ≤ grade) × (grade ≤ 18) × (60 ≤ fifths) × (fifths ≤ 300) ⌝ }
     ensures { λ r. ⌜ r ≡ longTermExact (figuresOf stc) grade senior fifths thickness ⌝ }
 {
-    let row = table_row(stc, grade);
+    let row = table_row(ordinary, marked, stc, grade);
     let least = linear_percent(row[0], row[1], fifths) * MILLION;
     if senior {
         return 100 * least;
@@ -122,11 +115,28 @@ fn short_term_exact(stc: bool, code: u64) -> u64
 }
 
 // The exact weight by a code, times EXACT_PARTS; 0 where the code is no rating.
-fn exact_weight(stc: bool, code: u64, senior: bool, months: u64, thickness: u64) -> u64
+fn exact_weight(
+    ordinary: &[[u16; 4]; 18],
+    marked: &[[u16; 4]; 18],
+    stc: bool,
+    code: u64,
+    senior: bool,
+    months: u64,
+    thickness: u64,
+) -> u64
+    requires { ⌜ (now ordinary ≡ ratingTable) × (now marked ≡ stcRatingTable) ⌝ }
     ensures { λ r. ⌜ r ≡ exactWeight (figuresOf stc) code senior months thickness ⌝ }
 {
     if long_term(code) {
-        return long_term_exact(stc, code, senior, maturity_fifths(months), thickness);
+        return long_term_exact(
+            ordinary,
+            marked,
+            stc,
+            code,
+            senior,
+            maturity_fifths(months),
+            thickness,
+        );
     }
     if short_term(code) {
         return short_term_exact(stc, code);
@@ -134,18 +144,34 @@ fn exact_weight(stc: bool, code: u64, senior: bool, months: u64, thickness: u64)
     0
 }
 
-// The weight by one rating, by the STC mark of its deal, rounded up once; 0 where the code is no rating.
-pub fn weight_by_rating(stc: bool, code: u64, senior: bool, months: u64, thickness: u64) -> u64
-    ensures { λ r. ⌜ r ≡ weightByRating (figuresOf stc) code senior months thickness ⌝ }
+// The weight by a tranche's rating words: of three ratings the higher of the two lowest weights, which is the middle one; of fewer the highest weight, a word that is no
+// rating having weight 0, so that it is never the highest. The exact weights are compared and the one that counts is rounded up, which gives the same as rounding each
+// before (`pick-then-rounded`).
+fn weight_by_tables(
+    ordinary: &[[u16; 4]; 18],
+    marked: &[[u16; 4]; 18],
+    stc: bool,
+    first: u64,
+    second: u64,
+    third: u64,
+    senior: bool,
+    months: u64,
+    thickness: u64,
+) -> u64
+    requires { ⌜ (now ordinary ≡ ratingTable) × (now marked ≡ stcRatingTable) ⌝ }
+    ensures { λ r. ⌜ r ≡ weightByRatings (figuresOf stc) first second third senior months thickness ⌝ }
 {
-    rounded_up(
-        exact_weight(stc, code, senior, months, thickness),
-        EXACT_PARTS,
-    )
+    let a = exact_weight(ordinary, marked, stc, first, senior, months, thickness);
+    let b = exact_weight(ordinary, marked, stc, second, senior, months, thickness);
+    let c = exact_weight(ordinary, marked, stc, third, senior, months, thickness);
+    if count_present(first, second, third) < 3 {
+        return rounded_up(larger(a, larger(b, c)), EXACT_PARTS);
+    }
+    rounded_up(middle(a, b, c), EXACT_PARTS)
 }
 
-// The weight by a tranche's rating words: of three ratings the higher of the two lowest weights, which is the middle one; of fewer the highest weight, a word that is
-// no rating having weight 0, so that it is never the highest.
+// The weight by a tranche's three rating words, by the STC mark of its deal; 0 where none is a rating. A table is written to memory at each use, so the tables are lent
+// to what reads them, once for all three.
 pub fn weight_by_ratings(
     stc: bool,
     first: u64,
@@ -157,11 +183,24 @@ pub fn weight_by_ratings(
 ) -> u64
     ensures { λ r. ⌜ r ≡ weightByRatings (figuresOf stc) first second third senior months thickness ⌝ }
 {
-    let a = weight_by_rating(stc, first, senior, months, thickness);
-    let b = weight_by_rating(stc, second, senior, months, thickness);
-    let c = weight_by_rating(stc, third, senior, months, thickness);
-    if count_present(first, second, third) < 3 {
-        return larger(a, larger(b, c));
-    }
-    middle(a, b, c)
+    let ordinary = LONG_TERM;
+    let marked = STC_LONG_TERM;
+    weight_by_tables(
+        &ordinary,
+        &marked,
+        stc,
+        first,
+        second,
+        third,
+        senior,
+        months,
+        thickness,
+    )
+}
+
+// The weight by one rating, by the STC mark of its deal, rounded up once; 0 where the code is no rating.
+pub fn weight_by_rating(stc: bool, code: u64, senior: bool, months: u64, thickness: u64) -> u64
+    ensures { λ r. ⌜ r ≡ weightByRating (figuresOf stc) code senior months thickness ⌝ }
+{
+    weight_by_ratings(stc, code, 0, 0, senior, months, thickness)
 }

@@ -18,10 +18,11 @@ type Row = [u64; ROW_WORDS];
 type Tranche = [u64; TRANCHE_WORDS];
 
 /// The sheets on which the versions are compared, with their names in the table.
-pub fn compared() -> [(&'static str, Vec<u64>); 8] {
+pub fn compared() -> [(&'static str, Vec<u64>); 9] {
     [
         ("small: 3 rows, 3 tranches, one unrated", small()),
         ("small, all tranches rated", small_rated()),
+        ("small, three ratings on each tranche", small_rated_thrice()),
         ("small STC deal: 3 rows, 3 tranches, one unrated", small_stc()),
         ("small STC deal, all tranches rated", small_stc_rated()),
         ("large: 1,000 rows, 32 tranches", large()),
@@ -43,6 +44,16 @@ pub fn small() -> Vec<u64> {
 /// The same, but the junior tranche has a rating.
 fn small_rated() -> Vec<u64> {
     sheet(ORDINARY, &few_rows(100), &three_tranches(1_000_000_000, 14))
+}
+
+/// The same, but each tranche has three ratings, of different weights and in different orders.
+fn small_rated_thrice() -> Vec<u64> {
+    let mut tranches = three_tranches(1_000_000_000, 14);
+    let ratings = [[1, 3, 2], [9, 10, 8], [15, 13, 14]];
+    for (tranche, ratings) in tranches.iter_mut().zip(ratings) {
+        tranche[TRANCHE_WORDS - 3..].copy_from_slice(&ratings);
+    }
+    sheet(ORDINARY, &few_rows(100), &tranches)
 }
 
 /// The small deal as an STC deal: half the parameter, and the second rating table.
@@ -182,9 +193,25 @@ mod tests {
             assert!(needs_formula(&small.lines[2], small.charge));
         }
         let rated = |line: &Line| line.approach == Approach::SecErba.word();
-        for all_rated in [small_rated(), small_stc_rated()] {
+        for all_rated in [small_rated(), small_rated_thrice(), small_stc_rated()] {
             assert!(deal(&all_rated).lines.iter().all(rated));
         }
+    }
+
+    /// With three ratings each weight is that of the middle one, and neither floor nor cap hides it: AA+ 30%, BBB and B+ as
+    /// where they are alone.
+    #[test]
+    fn middle_ratings_count() {
+        let weights = |sheet: &[u64]| {
+            deal(sheet)
+                .lines
+                .iter()
+                .map(|line| line.amounts[0].weight)
+                .collect::<Vec<_>>()
+        };
+        let (one, three) = (weights(&small_rated()), weights(&small_rated_thrice()));
+        assert_eq!(three[0], 3_000);
+        assert_eq!(three[1..], one[1..]);
     }
 
     /// With the STC mark every weight of the small deals is lower.

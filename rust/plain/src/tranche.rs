@@ -92,15 +92,16 @@ impl Terms {
 
     /// The weight by the ratings that are present: of three the middle one, of fewer the highest.
     fn rated_weight(&self, tranche: &Tranche, points: &Points) -> f64 {
-        let weight = |code| match code {
-            0 => 0.0,
-            _ => rating::weight(self.kind.table, code, tranche.class == 1, tranche.months, points),
-        };
-        let [first, second, third] = tranche.ratings.map(weight);
-        if tranche.ratings.contains(&0) {
-            first.max(second).max(third)
-        } else {
-            first.max(second.min(third)).min(second.max(third))
+        let mut weights = [0.0; RATINGS];
+        let mut count = 0;
+        for &code in tranche.ratings.iter().filter(|&&code| code != 0) {
+            weights[count] = rating::weight(self.kind.table, code, tranche.class == 1, tranche.months, points);
+            count += 1;
+        }
+        let [first, second, third] = weights;
+        match count {
+            RATINGS => first.max(second.min(third)).min(second.max(third)),
+            _ => first.max(second),
         }
     }
 

@@ -79,7 +79,7 @@ impl Line {
 pub enum Approach {
     /// 0: the fallback of 1250%.
     Fallback,
-    /// 1: SEC-ERBA, the deal's rating table.
+    /// 1: SEC-ERBA, the deal's rating table. Of two ratings the higher weight counts, of three the middle one.
     SecErba,
     /// 2: SEC-SA, the formula.
     SecSa,

@@ -66,7 +66,7 @@
 //!   re-securitisation and only there);
 //! - the number of tranches, 1 to [`MOST_TRANCHES`], then for each: amount (1 to 10^13), class, final legal maturity in
 //!   months (1 to 1200), amount held (0 to the amount), [`MOST_RATINGS`] rating codes (0 for none, else
-//!   [`Rating::code`]).
+//!   [`Rating::code`]), in any order.
 //!
 //! The class is the rank: class 1 is the senior class, which bears losses last. Tranches stand from senior to junior:
 //! the first has class 1, each next the class of the one before it, with which it ranks pari passu, or one more.

@@ -25,7 +25,10 @@ maturity-fifths-requires : tie.Need-maturity-fifths-requires
 maturity-fifths-requires c κs = search needs
 
 long-term-exact-requires : tie.Need-long-term-exact-requires
-long-term-exact-requires c κs = omega (arith, long-term-within (c .before .before .before .args .code) (is-long-term (c .before)))
+long-term-exact-requires c κs =
+    let start = c .before .before .before in
+    let within = long-term-within (start .args .code) (is-long-term (c .before)) in
+    (start .pre .0, start .pre .1, within .0, within .1, omega arith, omega arith)
 
 returns : tie.Need-returns
 unfolding exactWeight

@@ -1,18 +1,17 @@
--- `weight_by_rating`: the exact weight, rounded up. No axioms.
+-- `weight_by_rating`: one rating's own weight counts. No axioms.
 use borrow.Author.Needs.{needs}
-use Rattle.ratings.specs.RatingTable.{weightByRating}
+use Rattle.ratings.specs.RatingTable.{figuresOf}
+use Rattle.ratings.proofs.TableLaws.{one-rating}
 use Rattle.ratings.proofs.weight_by_rating.Statement.{statement}
 use Rattle.ratings.proofs.weight_by_rating.Tie as tie
 
-exact-weight-requires : tie.Need-exact-weight-requires
-exact-weight-requires c κs = search needs
-
-rounded-up-requires : tie.Need-rounded-up-requires
-rounded-up-requires c κs = search needs
+weight-by-ratings-requires : tie.Need-weight-by-ratings-requires
+weight-by-ratings-requires c κs = search needs
 
 returns : tie.Need-returns
-unfolding weightByRating
-returns c = simp (c .rounded-up .ensures, c .before .exact-weight .ensures)
+returns c =
+    let a = c .before .args in
+    simp (c .weight-by-ratings .ensures, one-rating (figuresOf (a .stc)) (a .senior) (a .months) (a .thickness) (a .code))
 
 pub weight-by-rating-spec : {M : Type 1} → statement M
-weight-by-rating-spec = tie.close (tie.spec exact-weight-requires rounded-up-requires returns)
+weight-by-rating-spec = tie.close (tie.spec weight-by-ratings-requires returns)

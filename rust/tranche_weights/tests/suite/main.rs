@@ -11,6 +11,7 @@ mod places;
 mod ratings;
 mod refusals;
 mod results;
+mod several_ratings;
 mod stack;
 mod stc;
 mod texts;
