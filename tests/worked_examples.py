@@ -5,7 +5,7 @@ fractions, exponentials to a hundred digits.
     python3 tests/worked_examples.py | cmp - crates/checked_examples/stdout
 
 Where two raw weights pass, this prints the lower, the exact value rounded up. It fails where a figure of the rating tables is missing from the examples' weights, or
-where a case of several ratings is met by no example. It needs Python's standard library and is no part of the gate.
+where a case of one, two or three ratings is met by no example. It needs Python's standard library and is no part of the gate.
 """
 import os
 import sys
@@ -266,7 +266,8 @@ def print_limits():
 
 
 def print_examples(folder):
-    """Prints the report on each example, and returns the reports by name."""
+    """Prints the report on each example, and returns the reports by name. Leaves in RATED the ratings of the examples alone."""
+    RATED.clear()
     texts = {}
     for name in open(os.path.join(folder, "args")).read().split():
         text = open(os.path.join(folder, "data", name)).read()

@@ -21,7 +21,7 @@ present code = longTerm code || shortTerm code
 abbrev pub listed : ℕ → Bool
 listed code = eqb code 0 || present code
 
--- the ratings among some codes, in their order: a code that is none is left out
+-- the ratings among some codes, in their order: "0 none" is left out, and so is a code that is not listed
 abbrev pub ratingsAmong : List ℕ → List ℕ
 ratingsAmong [] = []
 ratingsAmong (code ∷ codes) = cond (present code) (code ∷ ratingsAmong codes) (ratingsAmong codes)

@@ -1,5 +1,5 @@
--- Laws of the pick among weights, over any numbers: what it is for one, two and three of them, that the order in which it puts them is one of all of them that
--- rises, that the order in which they come does not matter, that it is one of them, and that it commutes with every rising function. No axioms.
+-- Laws of the pick among weights, over any numbers: what it is for one, two and three of them, that it puts them in ascending order, that the order in which they
+-- come does not matter, that it is one of them, and that it commutes with every rising function. No axioms.
 use mathlib.Core.HLevel.{hedberg}
 use mathlib.Core.List.{List, [], _∷_, map, List·Mem, mem-cons-self, mem-cons-of-mem}
 use mathlib.Core.List.{Perm, List·Permᴰ, List·Permᴰ·nil, List·Permᴰ·cons, List·Permᴰ·swap, List·Permᴰ·trans, Permᴰ·refl}
@@ -127,7 +127,7 @@ each-member [] = tt
 each-member (n ∷ others) =
     (mem-cons-self, each-implies (λ m. List·Mem m others) (λ m. List·Mem m (n ∷ others)) (λ m. mem-cons-of-mem n) others (each-member others))
 
--- ---- the order in which the weights are put
+-- ---- the weights in ascending order
 
 -- no number is above a later one
 abbrev pub Ascending : List ℕ → Type 0
@@ -178,7 +178,7 @@ pub pick-between :
     (least ≤ pick (n ∷ others)) × (pick (n ∷ others) ≤ most)
 pick-between least most n others = pick-has (λ m. (least ≤ m) × (m ≤ most)) n others
 
--- none is above a limit that no weight passes
+-- and it is not above a limit that no weight passes
 pub pick-at-most : (most : ℕ) (ns : List ℕ) → Each (λ m. m ≤ most) ns → pick ns ≤ most
 pick-at-most most [] each = omega arith
 pick-at-most most (n ∷ others) each = pick-has (λ m. m ≤ most) n others each

@@ -207,9 +207,10 @@ stc-below-senior = (refl, refl, refl, refl)
 -- separately: AAA twice and BBB give the weight of AAA. Two ratings give the higher weight, whichever word is none
 pub several-ratings-by-numbers :
     (weightByRatings (figuresOf false) 3 22 9 true 72 0 ≡ 5000) × (weightByRatings (figuresOf false) 1 1 9 true 72 0 ≡ 2000) ×
-    (weightByRatings (figuresOf false) 0 9 1 true 72 0 ≡ 10500) × (weightByRatings (figuresOf false) 9 0 1 true 72 0 ≡ 10500)
+    (weightByRatings (figuresOf false) 0 9 1 true 72 0 ≡ 10500) × (weightByRatings (figuresOf false) 9 0 1 true 72 0 ≡ 10500) ×
+    (weightByRatings (figuresOf false) 1 9 0 true 72 0 ≡ 10500)
 unfolding weightByRatings weightByRating exactWeight
-several-ratings-by-numbers = (refl, refl, refl, refl)
+several-ratings-by-numbers = (refl, refl, refl, refl, refl)
 
 pub weight-by-ratings-at-most :
     (figures : RatingFigures) → T (figuresAtMost 1250 figures) → (first second third : ℕ) (senior : Bool) (months thickness : ℕ) →

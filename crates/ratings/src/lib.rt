@@ -36,8 +36,7 @@ pub fn maturity_fifths(months: u64) -> u64
     larger(60, 4 * smaller(months, 72) + 12)
 }
 
-// The row of a deal's rating table at a grade, counted from 1, with both tables lent. The rows of both are read and one is picked: where each table was read in a branch
-// of its own, the compiler wrote them figure by figure (docs/DECISIONS.md).
+// The row of a deal's rating table at a grade, counted from 1, with both tables lent: the rows of both are read and one is picked.
 fn table_row(ordinary: &[[u16; 4]; 18], marked: &[[u16; 4]; 18], stc: bool, grade: u64) -> [u16; 4]
     requires { ⌜ (now ordinary ≡ ratingTable) × (now marked ≡ stcRatingTable) × (1 ≤ grade) × (grade ≤ 18) ⌝ }
     ensures { λ r. ⌜ r ≡ getD (figuresOf stc .longTermFigures) (grade - 1) [] ⌝ }
@@ -170,8 +169,8 @@ fn weight_by_tables(
     rounded_up(middle(a, b, c), EXACT_PARTS)
 }
 
-// The weight by a tranche's three rating words, by the STC mark of its deal; 0 where none is a rating. A table is written to memory at each use, so the tables are lent
-// to what reads them, once for all three.
+// The weight by a tranche's three rating words, by the STC mark of its deal; 0 where none is a rating. A table is written to memory at each use, so both are written
+// here, once for all three words, and lent to what reads them (docs/DECISIONS.md says why both).
 pub fn weight_by_ratings(
     stc: bool,
     first: u64,

@@ -219,7 +219,8 @@ mod tests {
         );
     }
 
-    /// Ratings of both terms, with and without another one by code: 44%, 100% and 176%, then 15%, 64% and 1250%.
+    /// Ratings of both terms, whose middle code has another weight than the middle one: 48%, 176% and 100%, then 15%, 64%
+    /// and 1250%. Of the short-term grades alone the middle code has the middle weight.
     #[test]
     fn both_terms_and_codes() {
         let both = [RatingFeature::MiddleThird, RatingFeature::BothTerms];

@@ -65,8 +65,8 @@ fn checked_deal_gives_the_lines_of_01_and_writes_no_later_word() {
     assert_eq!(later, [77, 77]);
 }
 
-/// Senior AA at 36 months; non-senior A+ at 12 months, half thick; senior AAA over loans of 10%; one, two and three
-/// ratings in every order.
+/// Senior AA at 36 months; non-senior A+ at 12 months, half thick; senior AAA over loans of 10%; one rating, two with none
+/// in each word, three in every order.
 #[test]
 fn rated_cases() {
     let loans = [[1_000, 1_000, 100, 0]];

@@ -29,7 +29,7 @@ const MIDDLE: Rating = Rating::ShortTerm(ShortTerm::Second);
 /// BBB, 105%.
 const HIGH: Rating = Rating::LongTerm(LongTerm::Bbb);
 
-/// Of two ratings the higher weight counts, whichever of the three is left out.
+/// One rating counts; of two the higher weight counts, whichever of the three is left out.
 #[test]
 fn of_two_the_higher_counts() -> Result<(), Box<dyn Error>> {
     for ratings in [
