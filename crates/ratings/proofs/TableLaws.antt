@@ -9,7 +9,7 @@ use native.Mathlib.Nat.{le-refl, mul-le-mul, mul-le-mul-right}
 use native.Mathlib.Omega.{arith}
 use lib.Dec.{T, leb, leb→le}
 use lib.ListN.{length, getD}
-use borrow.Author.Tests.{le-leb}
+use borrow.Author.Tests.{le-leb, lt-leb}
 use Rattle.numbers.specs.Rounding.{roundedUp}
 use Rattle.numbers.proofs.RoundingLaws.{rounded-up-at-most, rounded-up-monotone, rounded-up-exact, rounded-up-zero}
 use Rattle.numbers.proofs.Table.{allBelow, at-each}
@@ -212,67 +212,49 @@ pub several-ratings-by-numbers :
 unfolding weightByRatings weightByRating exactWeight
 several-ratings-by-numbers = (refl, refl, refl, refl, refl)
 
-pub weight-by-ratings-at-most :
-    (figures : RatingFigures) → T (figuresAtMost 1250 figures) → (first second third : ℕ) (senior : Bool) (months thickness : ℕ) →
-    weightByRatings figures first second third senior months thickness ≤ 125000
-unfolding weightByRatings
-weight-by-ratings-at-most figures t first second third senior months thickness =
-    pick-at-most 125000 (map weightBy codes)
-    (each-value (λ w. w ≤ 125000) weightBy (λ code. weight-by-rating-at-most figures t code senior months thickness) codes)
-  where
-    weightBy : ℕ → ℕ
-    weightBy code = weightByRating figures code senior months thickness
+-- those of three codes that pass their tests, as `ratingsAmong` keeps them
+abbrev kept : Bool → Bool → Bool → ℕ → ℕ → ℕ → List ℕ
+kept p q r first second third =
+    let one = cond r (third ∷ []) [] in
+    let two = cond q (second ∷ one) one in
+    cond p (first ∷ two) two
 
-    codes : List ℕ
-    codes = ratingsAmong (first ∷ second ∷ third ∷ [])
-
--- the pick among the values of any function at those of three words that are ratings
-module _ (f : ℕ → ℕ) where
-  -- the codes that pass their tests, as `ratingsAmong` keeps them
-  abbrev kept : Bool → Bool → Bool → ℕ → ℕ → ℕ → List ℕ
-  kept p q r first second third =
-      let one = cond r (third ∷ []) [] in
-      let two = cond q (second ∷ one) one in
-      cond p (first ∷ two) two
-
-  -- three ratings: the middle value
-  pub pick-of-three :
-      (first second third : ℕ) → 3 ≤ length (ratingsAmong (first ∷ second ∷ third ∷ [])) →
-      pick (map f (ratingsAmong (first ∷ second ∷ third ∷ []))) ≡ min (max (f first) (min (f second) (f third))) (max (f second) (f third))
-  pick-of-three first second third = by-tests (present first) (present second) (present third)
-    where
-      by-tests :
-          (p q r : Bool) → 3 ≤ length (kept p q r first second third) →
-          pick (map f (kept p q r first second third)) ≡ min (max (f first) (min (f second) (f third))) (max (f second) (f third))
-      by-tests true true true many = pick-three (f first) (f second) (f third)
-      by-tests true true false many = omega arith
-      by-tests true false true many = omega arith
-      by-tests true false false many = omega arith
-      by-tests false true true many = omega arith
-      by-tests false true false many = omega arith
-      by-tests false false true many = omega arith
-      by-tests false false false many = omega arith
-
-  -- fewer: the highest value, of all three words where the function is 0 at a code that is none
-  pub pick-of-fewer :
-      ((code : ℕ) → present code ≡ false → f code ≡ 0) →
-      (first second third : ℕ) → length (ratingsAmong (first ∷ second ∷ third ∷ [])) < 3 →
-      pick (map f (ratingsAmong (first ∷ second ∷ third ∷ []))) ≡ max (f first) (max (f second) (f third))
-  pick-of-fewer none first second third =
+-- the pick among the values of a function at those of three words that are ratings, where it is 0 at a code that is none
+module _ (f : ℕ → ℕ) (none : (code : ℕ) → present code ≡ false → f code ≡ 0) where
+  -- with three ratings the middle value, with fewer the highest of all three words
+  pick-by-count :
+      (first second third : ℕ) →
+      pick (map f (ratingsAmong (first ∷ second ∷ third ∷ []))) ≡
+      cond (leb 3 (length (ratingsAmong (first ∷ second ∷ third ∷ []))))
+      (min (max (f first) (min (f second) (f third))) (max (f second) (f third)))
+      (max (f first) (max (f second) (f third)))
+  pick-by-count first second third =
       by-tests (present first) (present second) (present third) (none first) (none second) (none third)
     where
       by-tests :
           (p q r : Bool) → (p ≡ false → f first ≡ 0) → (q ≡ false → f second ≡ 0) → (r ≡ false → f third ≡ 0) →
-          length (kept p q r first second third) < 3 →
-          pick (map f (kept p q r first second third)) ≡ max (f first) (max (f second) (f third))
-      by-tests true true true a b c few = omega arith
-      by-tests true true false a b c few = omega (arith, c refl)
-      by-tests true false true a b c few = omega (arith, b refl)
-      by-tests true false false a b c few = omega (arith, b refl, c refl)
-      by-tests false true true a b c few = omega (arith, a refl)
-      by-tests false true false a b c few = omega (arith, a refl, c refl)
-      by-tests false false true a b c few = omega (arith, a refl, b refl)
-      by-tests false false false a b c few = omega (arith, a refl, b refl, c refl)
+          pick (map f (kept p q r first second third)) ≡
+          cond (leb 3 (length (kept p q r first second third)))
+          (min (max (f first) (min (f second) (f third))) (max (f second) (f third)))
+          (max (f first) (max (f second) (f third)))
+      by-tests true true true a b c = pick-three (f first) (f second) (f third)
+      by-tests true true false a b c = omega (arith, c refl)
+      by-tests true false true a b c = omega (arith, b refl)
+      by-tests true false false a b c = omega (arith, b refl, c refl)
+      by-tests false true true a b c = omega (arith, a refl)
+      by-tests false true false a b c = omega (arith, a refl, c refl)
+      by-tests false false true a b c = omega (arith, a refl, b refl)
+      by-tests false false false a b c = omega (arith, a refl, b refl, c refl)
+
+  pub pick-of-three :
+      (first second third : ℕ) → 3 ≤ length (ratingsAmong (first ∷ second ∷ third ∷ [])) →
+      pick (map f (ratingsAmong (first ∷ second ∷ third ∷ []))) ≡ min (max (f first) (min (f second) (f third))) (max (f second) (f third))
+  pick-of-three first second third many = rw (le-leb 3 _ many) at (pick-by-count first second third)
+
+  pub pick-of-fewer :
+      (first second third : ℕ) → length (ratingsAmong (first ∷ second ∷ third ∷ [])) < 3 →
+      pick (map f (ratingsAmong (first ∷ second ∷ third ∷ []))) ≡ max (f first) (max (f second) (f third))
+  pick-of-fewer first second third few = rw (lt-leb 3 _ few) at (pick-by-count first second third)
 
 module _ (figures : RatingFigures) (senior : Bool) (months thickness : ℕ) where
   abbrev weightBy : ℕ → ℕ
@@ -284,10 +266,11 @@ module _ (figures : RatingFigures) (senior : Bool) (months thickness : ℕ) wher
   abbrev byRatings : ℕ → ℕ → ℕ → ℕ
   byRatings first second third = weightByRatings figures first second third senior months thickness
 
-  -- one rating's own weight counts
-  pub one-rating : (code : ℕ) → byRatings code 0 0 ≡ weightBy code
+  -- one rating's own weight counts, the other words being none
+  pub one-rating :
+      (code second third : ℕ) → present second ≡ false → present third ≡ false → byRatings code second third ≡ weightBy code
   unfolding weightByRatings
-  one-rating code = by-test (present code) (no-rating-no-weight figures code senior months thickness)
+  one-rating code second third p q = simp (p, q) (by-test (present code) (no-rating-no-weight figures code senior months thickness))
     where
       by-test : (t : Bool) → (t ≡ false → weightBy code ≡ 0) → pick (map weightBy (cond t (code ∷ []) [])) ≡ weightBy code
       by-test true none = pick-one (weightBy code)
@@ -305,7 +288,7 @@ module _ (figures : RatingFigures) (senior : Bool) (months thickness : ℕ) wher
       (first second third : ℕ) → 3 ≤ length (ratingsAmong (first ∷ second ∷ third ∷ [])) →
       byRatings first second third ≡ min (max (weightBy first) (min (weightBy second) (weightBy third))) (max (weightBy second) (weightBy third))
   unfolding weightByRatings
-  three-ratings = pick-of-three weightBy
+  three-ratings = pick-of-three weightBy (λ code. no-rating-no-weight figures code senior months thickness)
 
   -- the order of the three rating words does not matter
   pub order-of-ratings :
@@ -352,4 +335,15 @@ module _ (figures : RatingFigures) (senior : Bool) (months thickness : ℕ) wher
       roundedUp (min (max (exactBy first) (min (exactBy second) (exactBy third))) (max (exactBy second) (exactBy third))) exactParts
   three-ratings-rounded first second third many =
       pick-then-rounded first second third ∙
-      ap (λ (w : ℕ). roundedUp w exactParts) (pick-of-three exactBy first second third many)
+      ap (λ (w : ℕ). roundedUp w exactParts)
+      (pick-of-three exactBy (λ code. no-rating-no-exact figures code senior months thickness) first second third many)
+
+pub weight-by-ratings-at-most :
+    (figures : RatingFigures) → T (figuresAtMost 1250 figures) → (first second third : ℕ) (senior : Bool) (months thickness : ℕ) →
+    weightByRatings figures first second third senior months thickness ≤ 125000
+unfolding weightByRatings
+weight-by-ratings-at-most figures t first second third senior months thickness =
+    let weights = weightBy figures senior months thickness in
+    let codes = ratingsAmong (first ∷ second ∷ third ∷ []) in
+    pick-at-most 125000 (map weights codes)
+    (each-value (λ w. w ≤ 125000) weights (λ code. weight-by-rating-at-most figures t code senior months thickness) codes)
