@@ -34,15 +34,16 @@ extern "C" {
 #endif
 
 /* The version of the interface. */
-#define TRANCHE_WEIGHTS_INTERFACE 3
+#define TRANCHE_WEIGHTS_INTERFACE 4
 
 /*
  * The parts of a sheet: the fewest and the most facts, of one word each; the most pool rows and the words of one; the most tranches and the words of one. The facts in
- * their order: pool kind, re-securitisation, due diligence held, pool composition known, STC mark (a simple, transparent and comparable deal). A fact that the sheet
- * leaves out at the end of its list counts as 0. The README says what each word of a sheet may be.
+ * their order: pool kind, re-securitisation, due diligence held, pool composition known, STC mark (a simple, transparent and comparable deal), reporting date. A fact
+ * that the sheet leaves out at the end of its list counts as 0. Where the reporting date is 0, a tranche's maturity is a number of months; else both are dates, written
+ * year * 10000 + month * 100 + day, and the maturity is the later one. The README says what each word of a sheet may be.
  */
 #define TRANCHE_WEIGHTS_FEWEST_FACTS 4
-#define TRANCHE_WEIGHTS_MOST_FACTS 5
+#define TRANCHE_WEIGHTS_MOST_FACTS 6
 #define TRANCHE_WEIGHTS_MOST_ROWS 1000
 #define TRANCHE_WEIGHTS_ROW_WORDS 4
 #define TRANCHE_WEIGHTS_MOST_TRANCHES 32
@@ -102,15 +103,16 @@ enum {
     TRANCHE_WEIGHTS_REFUSED_THIN_TRANCHE = 13,  /* a tranche too thin for the formula; the place of its amount */
     TRANCHE_WEIGHTS_REFUSED_ROOM = 14,          /* too few result words; place 0 */
     TRANCHE_WEIGHTS_REFUSED_FILE_LENGTH = 15,   /* a file's length is no multiple of TRANCHE_WEIGHTS_BYTES_PER_WORD or above TRANCHE_WEIGHTS_FILE_BYTES; place 0 */
-    TRANCHE_WEIGHTS_REFUSED_STC_MARK = 16       /* an STC mark on a re-securitisation */
+    TRANCHE_WEIGHTS_REFUSED_STC_MARK = 16,      /* an STC mark on a re-securitisation */
+    TRANCHE_WEIGHTS_REFUSED_DATE = 17           /* with a reporting date: no day of the years 2000 to 2199, or a maturity not after the reporting date */
 };
 
 /* The functions as the archive names them. They take what the functions below take, and no null pointer. */
-uint64_t tranche_weights_weigh_v3(const uint64_t *sheet, size_t words, uint64_t *results, size_t room, uint64_t *place, uint64_t *count,
+uint64_t tranche_weights_weigh_v4(const uint64_t *sheet, size_t words, uint64_t *results, size_t room, uint64_t *place, uint64_t *count,
                                   uint64_t *charge);
-uint64_t tranche_weights_weigh_file_v3(const uint8_t *file, size_t size, uint64_t *results, size_t room, uint64_t *place, uint64_t *count,
+uint64_t tranche_weights_weigh_file_v4(const uint8_t *file, size_t size, uint64_t *results, size_t room, uint64_t *place, uint64_t *count,
                                        uint64_t *charge);
-uint64_t tranche_weights_report_v3(const uint8_t *file, size_t size, uint8_t *text, size_t room);
+uint64_t tranche_weights_report_v4(const uint8_t *file, size_t size, uint8_t *text, size_t room);
 
 /*
  * Weighs every tranche of a deal sheet.
@@ -128,7 +130,7 @@ static inline uint64_t tranche_weights_weigh(const uint64_t *sheet, size_t words
                                              uint64_t *count, uint64_t *charge)
 {
     uint64_t nothing = 0;
-    return tranche_weights_weigh_v3(words ? sheet : &nothing, words, room ? results : &nothing, room, place, count, charge);
+    return tranche_weights_weigh_v4(words ? sheet : &nothing, words, room ? results : &nothing, room, place, count, charge);
 }
 
 /*
@@ -144,7 +146,7 @@ static inline uint64_t tranche_weights_weigh_file(const uint8_t *file, size_t si
 {
     uint8_t no_byte = 0;
     uint64_t nothing = 0;
-    return tranche_weights_weigh_file_v3(size ? file : &no_byte, size, room ? results : &nothing, room, place, count, charge);
+    return tranche_weights_weigh_file_v4(size ? file : &no_byte, size, room ? results : &nothing, room, place, count, charge);
 }
 
 /*
@@ -159,7 +161,7 @@ static inline uint64_t tranche_weights_weigh_file(const uint8_t *file, size_t si
 static inline uint64_t tranche_weights_report(const uint8_t *file, size_t size, uint8_t *text, size_t room)
 {
     uint8_t nothing = 0;
-    return tranche_weights_report_v3(size ? file : &nothing, size, room ? text : &nothing, room);
+    return tranche_weights_report_v4(size ? file : &nothing, size, room ? text : &nothing, room);
 }
 
 #ifdef __cplusplus

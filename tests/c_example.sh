@@ -26,7 +26,7 @@ held() {
     echo "$1: ok"
 }
 
-for name in ordinary stc resecuritisation refused; do
+for name in ordinary stc dated resecuritisation refused; do
     target/bin/sheet_words "examples/$name.txt" > "$room/$name"
 done
 cp crates/tranche_report/data/deal "$room/checked"
@@ -46,7 +46,7 @@ held "file too long" "$room/longer" 1 "refused 15 at 0\n" ""
 held "no such file" "$room/none" 2 "" "print_lines: $room/none can't be read\n"
 
 # The report by way of C is that of the program.
-for name in ordinary stc resecuritisation refused checked half longest longer; do
+for name in ordinary stc dated resecuritisation refused checked half longest longer; do
     "$room/calls" "$room/$name" > "$room/out"
     target/bin/tranche_report "$room/$name" > "$room/due.out"
     cmp "$room/due.out" "$room/out"

@@ -1,7 +1,7 @@
 /*
  * Calls the functions of the header as a program in C does, on threads with small stacks, and prints the report on a file's bytes. Held here: lent memory that must
  * be as it was, the answer where the room is one byte short and where it is just enough, the four numbers of an accepted and of a refused sheet and file, the STC mark,
- * and a null pointer for every list of length 0. Stops with status 1 and one line where something is not what is due. tests/c_example.sh runs it.
+ * the reporting date, and a null pointer for every list of length 0. Stops with status 1 and one line where something is not what is due. tests/c_example.sh runs it.
  */
 #include <pthread.h>
 #include <stdio.h>
@@ -36,6 +36,11 @@ static const uint64_t stc_sheet[WORDS + 1] = {5, 0, 0, 1, 1, 1, 1, 100, 100, 100
 #define STC_WEIGHT 1000
 static const uint64_t stc_resecuritisation[] = {5, 0, 1, 1, 1, 1};
 #define STC_PLACE 5
+
+/* The same sheet with a sixth fact, the reporting date, and the maturity as a date 60 months on; the places of both. */
+static const uint64_t dated_sheet[WORDS + 2] = {6, 0, 0, 1, 1, 0, 20240228, 1, 100, 100, 100, 0, 1, 80, 1, 20290131, 80, 1, 0, 0};
+#define REPORTING_DATE_PLACE 6
+#define MATURITY_PLACE 15
 
 static unsigned char file[TRANCHE_WEIGHTS_FILE_BYTES + 1];
 static size_t size;
@@ -135,6 +140,25 @@ static void *try_stc(void *unused)
     return unused;
 }
 
+/* One call on the sheet with a reporting date, with the word at a place replaced. */
+static struct given weigh_dated(size_t at, uint64_t word)
+{
+    uint64_t words[WORDS + 2];
+    memcpy(words, dated_sheet, sizeof words);
+    words[at] = word;
+    return weigh(words, WORDS + 2, TRANCHE_WEIGHTS_LINE_WORDS);
+}
+
+/* The reporting date: the line is that of the months; dates that do not exist, and a maturity on the reporting date. */
+static void *try_dates(void *unused)
+{
+    accepted(weigh(dated_sheet, WORDS + 2, TRANCHE_WEIGHTS_LINE_WORDS), "a sheet with a reporting date");
+    refused(weigh_dated(REPORTING_DATE_PLACE, 20230229), TRANCHE_WEIGHTS_REFUSED_DATE, REPORTING_DATE_PLACE, "a reporting date that does not exist");
+    refused(weigh_dated(MATURITY_PLACE, 60), TRANCHE_WEIGHTS_REFUSED_DATE, MATURITY_PLACE, "months with a reporting date");
+    refused(weigh_dated(MATURITY_PLACE, dated_sheet[REPORTING_DATE_PLACE]), TRANCHE_WEIGHTS_REFUSED_DATE, MATURITY_PLACE, "a maturity on the reporting date");
+    return unused;
+}
+
 /* The same of its file; and a bad length, which comes before too little room. */
 static void *try_weigh_file(void *unused)
 {
@@ -187,6 +211,7 @@ int main(int argc, char **argv)
         before.results[i] = WORD_BEFORE;
     on_stack(WEIGH_STACK, try_weigh);
     on_stack(WEIGH_STACK, try_stc);
+    on_stack(WEIGH_STACK, try_dates);
     on_stack(FILE_STACK, try_weigh_file);
     on_stack(FILE_STACK, try_null);
     on_stack(FILE_STACK, try_report);

@@ -66,6 +66,7 @@ fi
 part "library built" rt staticlib tranche_weights
 part "programs tried" sh tests/programs.sh
 part "C example" sh tests/c_example.sh
+part "calendar" sh tests/calendar.sh
 part "Rust tests" cargo test --offline --release --quiet --manifest-path rust/Cargo.toml
 part "README examples" sh tests/readme_examples.sh
 part "version of the interface" sh tests/interface.sh

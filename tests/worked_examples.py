@@ -1,14 +1,16 @@
 #!/usr/bin/env python3
-"""The text that crates/checked_examples must print, worked out from the papers alone: 01, S-1 and S-2 of 02, and Tables 3 and 4 of source document 001. Exact
-fractions, exponentials to a hundred digits.
+"""The text that crates/checked_examples must print, worked out from the papers alone: 01, S-1 to S-3 of 02, and Tables 3 and 4 of source document 001. Exact
+fractions, exponentials to a hundred digits, Python's own calendar.
 
     python3 tests/worked_examples.py | cmp - crates/checked_examples/stdout
 
-Where two raw weights pass, this prints the lower, the exact value rounded up. It fails where a figure of the rating tables is missing from the examples' weights, or
-where a case of one, two or three ratings is met by no example. It needs Python's standard library and is no part of the gate.
+Where two raw weights pass, this prints the lower, the exact value rounded up. It fails where a figure of the rating tables is missing from the examples' weights,
+where a case of one, two or three ratings or of dates is met by no example, or where a deal in dates has other lines than the same deal in months. It needs Python's
+standard library and is no part of the gate; tests/calendar_due.py, which is, takes from it the months between two days and the weight by a rating.
 """
 import os
 import sys
+from datetime import date, timedelta
 from decimal import ROUND_CEILING, Decimal, getcontext
 from fractions import Fraction
 from itertools import permutations
@@ -20,11 +22,15 @@ MILLION = 10**6
 TOP = 125_000
 FALLBACK, ERBA, SA = 0, 1, 2
 
-# Four facts, and a fifth that may be left out; "Pool, count 1 to 1,000", "Tranches, count 1 to 32"; the words of a pool row, of a tranche and of a line.
-FACTS_LEAST, FACTS_MOST, ROWS, TRANCHES = 4, 5, 1000, 32
+# Four facts, a fifth and a sixth that may be left out; "Pool, count 1 to 1,000", "Tranches, count 1 to 32"; the words of a pool row, of a tranche and of a line.
+FACTS_LEAST, FACTS_MOST, ROWS, TRANCHES = 4, 6, 1000, 32
 ROW_SIZE, TRANCHE_SIZE, LINE_SIZE = 4, 7, 6
-# The bytes of the longest sheet: three counts, facts, rows and tranches, eight bytes each.
-MOST_BYTES = 8 * (3 + FACTS_MOST + ROW_SIZE * ROWS + TRANCHE_SIZE * TRANCHES)
+# The words of the longest sheet, three counts, facts, rows and tranches, 4,233 in all; eight bytes each make 33,864.
+MOST_WORDS = 3 + FACTS_MOST + ROW_SIZE * ROWS + TRANCHE_SIZE * TRANCHES
+MOST_BYTES = 8 * MOST_WORDS
+
+# The place of the sixth fact, the reporting date; the years of a date; the most months of a maturity.
+REPORTING_AT, YEARS, MONTHS_MOST = 6, range(2000, 2200), 1200
 
 # Senior 1 year, senior 5 years, non-senior 1 year, non-senior 5 years, in percent; one figure for a short-term grade.
 ORDINARY = {
@@ -55,6 +61,35 @@ def up(x, y):
     return -(-x // y)
 
 
+# ---- dates
+
+
+def day_of(word):
+    """The day of the years 2000 to 2199 that a word names, year × 10,000 + month × 100 + day; None where it names none."""
+    year, month, day = word // 10_000, word // 100 % 100, word % 100
+    try:
+        return date(year, month, day) if year in YEARS else None
+    except ValueError:
+        return None
+
+
+def months_between(reporting, maturity):
+    """12 × years apart + months apart, plus one when the maturity's day of the month is the later."""
+    return 12 * (maturity.year - reporting.year) + maturity.month - reporting.month + (maturity.day > reporting.day)
+
+
+def months_of(word, reporting):
+    """The months of a maturity word: itself, and with a reporting date the months from there to the day that it names."""
+    return months_between(reporting, day_of(word)) if reporting else word
+
+
+def maturity_fault(word, reporting):
+    """With a reporting date 17 for a word that names no day after it; then 10 for months outside 1 to 1200."""
+    if reporting and not (day_of(word) and day_of(word) > reporting):
+        return 17
+    return 0 if 1 <= months_of(word, reporting) <= MONTHS_MOST else 10
+
+
 # ---- the sheet, judged word by word
 
 
@@ -78,7 +113,8 @@ def judged(words):
     facts = take(within(FACTS_LEAST, FACTS_MOST, 2))
     take(lambda w: 4 if w > 2 else 12 if w else 0)
     resecuritised, diligence, composition = (take(within(0, 1, 4)) for _ in range(3))
-    stc = take(lambda w: 4 if w > 1 else 16 if w and resecuritised else 0) if facts == FACTS_MOST else 0
+    stc = take(lambda w: 4 if w > 1 else 16 if w and resecuritised else 0) if facts > 4 else 0
+    reporting = day_of(take(lambda w: 17 if w and not day_of(w) else 0)) if facts > 5 else None
     rows, tranches, last = [], [], 0
     for _ in range(take(within(1, ROWS, 2))):
         exposure, nominal = take(within(1, 10**10, 5)), take(within(1, 10**10, 5))
@@ -88,7 +124,8 @@ def judged(words):
         at = place
         amount = take(within(1, 10**13, 8))
         last = take(within(max(last, 1), last + 1, 9))
-        months, held = take(within(1, 1200, 10)), take(within(0, amount, 8))
+        months = months_of(take(lambda w: maturity_fault(w, reporting)), reporting)
+        held = take(within(0, amount, 8))
         codes = [take(lambda w: 0 if w == 0 or w in ORDINARY else 11) for _ in range(3)]
         tranches.append((at, amount, last, months, held, codes))
     if place < len(words):
@@ -252,26 +289,34 @@ def print_figures():
 
 
 def print_limits():
-    """14 before 13, files of zeros, and the largest deals: five facts, 1,000 rows of 10^10, 32 tranches of a 32nd of the pool."""
+    """14 before 13, files of zeros, and the largest deals: six facts, 1,000 rows of 10^10, 32 tranches of a 32nd of the pool."""
     print("thin tranche, results of %d words: refused 14 at 0" % (3 * LINE_SIZE - 1))
     print("thin tranche, results of %d words: %s" % (3 * LINE_SIZE, report(THIN)))
     for length in (0, 7, MOST_BYTES - 1, MOST_BYTES, MOST_BYTES + 1, MOST_BYTES + 8):
         text = "refused 15 at 0" if length % 8 or length > MOST_BYTES else report([0] * (length // 8))
         print("file of zeros, bytes %d: %s" % (length, text))
     for weight, stc in ((1250, 0), (100, 0), (100, 1)):
-        sheet = [FACTS_MOST, 0, 0, 1, 1, stc, ROWS] + [10**10, 10**10, weight, 0] * ROWS + [TRANCHES]
+        sheet = [FACTS_MOST, 0, 0, 1, 1, stc, 0, ROWS] + [10**10, 10**10, weight, 0] * ROWS + [TRANCHES]
         for rank in range(1, TRANCHES + 1):
             sheet += [312500000000, rank, 1200, 312500000000, 0, 0, 0]
         print("largest deal, risk weight %d, STC mark %d\n%s" % (weight, stc, report(sheet)))
 
 
-def print_examples(folder):
+def read_examples(folder):
+    """The words of each example, by name."""
+    sheets = {}
+    for name in open(os.path.join(folder, "args")).read().split():
+        text = open(os.path.join(folder, "data", name)).read()
+        sheets[name] = [int(w) for l in text.splitlines() for w in l.split("#")[0].split()]
+    return sheets
+
+
+def print_examples(sheets):
     """Prints the report on each example, and returns the reports by name. Leaves in RATED the ratings of the examples alone."""
     RATED.clear()
     texts = {}
-    for name in open(os.path.join(folder, "args")).read().split():
-        text = open(os.path.join(folder, "data", name)).read()
-        texts[name] = report([int(w) for l in text.splitlines() for w in l.split("#")[0].split()])
+    for name, words in sheets.items():
+        texts[name] = report(words)
         print("%s\n%s" % (name, texts[name]))
     return texts
 
@@ -308,6 +353,13 @@ def rating_cases(codes, weights):
             yield "three ratings, long and short term"
 
 
+def check_met(due, met):
+    """Every case that is due is met."""
+    missing = [case for case in due if case not in met]
+    if missing:
+        sys.exit("no example of: %s" % "; ".join(missing))
+
+
 def check_ratings():
     """Every case of one, two and three ratings is met."""
     met = {case for rated in RATED for case in rating_cases(*rated)}
@@ -316,13 +368,115 @@ def check_ratings():
     due += ["three weights in the order %s" % " ".join(o) for o in permutations(("low", "middle", "high"))]
     due += ["two equal and one %s, in word %d" % (which, n) for which in ("lower", "higher") for n in range(3)]
     due += ["three equal", "another rating by code than by weight", "three ratings, long and short term"]
-    missing = [case for case in due if case not in met]
-    if missing:
-        sys.exit("no example of: %s" % ", ".join(missing))
+    check_met(due, met)
+
+
+# ---- the cases of dates
+
+
+def no_day(word):
+    """What is wrong with a word that names no day of the years 2000 to 2199."""
+    year, month, day = word // 10_000, word // 100 % 100, word % 100
+    if year not in YEARS:
+        return "2^64 - 1" if word == 2**64 - 1 else "2^32 above a day" if day_of(word - 2**32) else "year %d" % year
+    if not 1 <= month <= 12:
+        return "month %d" % month
+    if (month, day) == (2, 29):
+        return "29 February 2100" if year == 2100 else "29 February of a common year"
+    return "%d of month %d" % (day, month) if 1 <= day <= 31 else "day %d" % day
+
+
+def span_cases(reporting, maturity, number):
+    """What a maturity after the reporting date, with the refusal that it gets, is an example of; of the day of the month, where the rating table tells the months."""
+    months = months_between(reporting, maturity)
+    yield "%d %s to %d %s, months %d" % (reporting.day, reporting.strftime("%B"), maturity.day, maturity.strftime("%B"), months)
+    yield "months %d, refusal %d" % (months, number)
+    next_day = [day + timedelta(1) for day in (reporting, maturity)]
+    if 12 < months < 72:
+        order = "equal" if maturity.day == reporting.day else "later" if maturity.day > reporting.day else "earlier"
+        yield "the maturity's day of the month %s" % order
+        if all(day.day == 1 for day in next_day):
+            yield "month end to month end, the maturity's day of the month %s" % order
+    for day, end in ((reporting, "from"), (maturity, "to")):
+        if (day.month, day.day) == (2, 29):
+            yield "%s 29 February %d" % (end, day.year)
+    if maturity == next_day[0]:
+        yield "the day after, %s" % ("1 " + maturity.strftime("%B") if maturity.day == 1 else "in the same month")
+
+
+def maturity_cases(reporting, word, number):
+    """What a maturity beside a reporting date, with the refusal that it gets, is an example of."""
+    day = day_of(word)
+    if not day:
+        yield "%d at a maturity, %s" % (number, no_day(word))
+        if word // 10_000 > reporting.year + MONTHS_MOST // 12:
+            yield "%d at a maturity, %s and above 1200 months" % (number, no_day(word))
+    elif day > reporting:
+        yield from span_cases(reporting, day, number)
+    else:
+        yield "%d at a maturity, %d days before" % (number, (reporting - day).days)
+
+
+def date_cases(words, text):
+    """What a sheet with a sixth fact and the report on it are an example of."""
+    if words[:1] != [6] or len(words) <= REPORTING_AT:
+        return
+    number, place = (int(n) for n in text.split()[1::2]) if text.startswith("refused") else (0, len(words))
+    word, reporting = words[REPORTING_AT], day_of(words[REPORTING_AT])
+    rows_at = REPORTING_AT + 1
+    first = rows_at + 1 + ROW_SIZE * (words + [0])[rows_at] + 1
+    maturities = {at: words[at] for at in range(first + 2, len(words), TRANCHE_SIZE)}
+    if place == REPORTING_AT:
+        yield "%d at the reporting date, %s" % (number, no_day(word))
+        if any(w and not day_of(w) for w in maturities.values()):
+            yield "%d at the reporting date before a bad maturity" % number
+    for at, maturity in maturities.items():
+        fault = number if at == place else 0
+        if at > place:
+            break
+        if reporting:
+            yield from maturity_cases(reporting, maturity, fault)
+        elif word == 0:
+            yield "sixth fact 0, %s, refusal %d" % ("a date" if day_of(maturity) else "months %d" % maturity, fault)
+
+
+def check_dates(sheets, texts):
+    """Every case of dates is met."""
+    met = {case for name, words in sheets.items() for case in date_cases(words, texts[name])}
+    met |= {"seven facts, %s" % texts[name] for name, words in sheets.items() if words[:1] == [7]}
+    no_days = ["31 of month 4", "30 of month 2", "29 February of a common year", "29 February 2100", "year 1999", "year 2200", "month 0", "month 13", "day 0", "day 32"]
+    no_days += ["year 0", "2^32 above a day", "2^64 - 1"]
+    due = ["17 at %s, %s" % (place, fault) for place in ("the reporting date", "a maturity") for fault in no_days]
+    due += ["17 at a maturity, %d days before" % days for days in (0, 1, 365)] + ["17 at a maturity, year 2200 and above 1200 months"]
+    due += ["17 at the reporting date before a bad maturity", "seven facts, refused 2 at 0"]
+    due += ["31 January to 28 February, months %d" % n for n in (1, 25)] + ["28 February to 31 March, months %d" % n for n in (2, 26)]
+    due += ["%sthe maturity's day of the month %s" % (ends, order) for ends in ("", "month end to month end, ") for order in ("equal", "earlier", "later")]
+    due += ["%s 29 February %d" % (end, year) for end in ("from", "to") for year in (2000, 2004, 2024)]
+    due += ["the day after, %s" % month for month in ("in the same month", "1 January", "1 March", "1 May")]
+    due += ["months %d, refusal %d" % case for case in ((1, 0), (1200, 0), (1201, 10), (2400, 10))]
+    due += ["sixth fact 0, months %d, refusal %d" % case for case in ((1, 0), (1200, 0), (0, 10), (1201, 10))] + ["sixth fact 0, a date, refusal 10"]
+    check_met(due, met)
+
+
+def check_same_lines(texts):
+    """A deal in dates, or with a sixth fact of 0, has the report of the deal in months with fewer facts. Every approach is among the deals in dates."""
+    approaches = set()
+    for name, text in texts.items():
+        for ending in ("_dated.txt", "_sixth_fact_0.txt"):
+            base = name.removesuffix(ending) + ".txt"
+            if name.endswith(ending) and text != texts[base]:
+                sys.exit("%s: not the report on %s" % (name, base))
+        if name.endswith("_dated.txt"):
+            approaches |= {int(l.split()[1]) for l in text.splitlines()[1:-1]}
+    check_met(["approach %d in dates" % a for a in (FALLBACK, ERBA, SA)], ["approach %d in dates" % a for a in approaches])
 
 
 if __name__ == "__main__":
     print_figures()
     print_limits()
-    check_tables(print_examples(os.path.join(os.path.dirname(os.path.abspath(__file__)), "..", "crates", "checked_examples")))
+    SHEETS = read_examples(os.path.join(os.path.dirname(os.path.abspath(__file__)), "..", "crates", "checked_examples"))
+    TEXTS = print_examples(SHEETS)
+    check_tables(TEXTS)
     check_ratings()
+    check_dates(SHEETS, TEXTS)
+    check_same_lines(TEXTS)

@@ -12,7 +12,7 @@ use Rattle.judgement.specs.Refusals.{refused, orElse, firstOf, wordsVerdict}
 use Rattle.judgement.specs.declared.Verdict.{Verdict}
 use Rattle.judgement.specs.declared.Verdict.the-variants.{Sound, Faulty}
 use Rattle.judgement.proofs.MovedVerdicts.{atMoved, moved-or-else, moved-cond, first-of-moved}
-use Rattle.judgement.proofs.FilledFacts.{same-rows, same-tranche-count, tranche-at-moved, same-row-word, same-tranche-word, filled-same-facts, kept-place, later-place, words-moved}
+use Rattle.judgement.proofs.FilledFacts.{same-rows, same-tranche-count, tranche-at-moved, same-row-word, same-tranche-word, filled-same-facts, filled-same-date, kept-place, later-place, words-moved}
 use Rattle.judgement.proofs.NeededLaws.{pool-at-least, tranches-at-past-rows}
 use Rattle.pool.specs.PoolSums.{poolSums}
 use Rattle.pool.proofs.SameSums.{same-sums-in-order}
@@ -22,7 +22,7 @@ use Rattle.deal.specs.Refusals.{roomVerdict, thinVerdict, verdict}
 use Rattle.deal.specs.Results.{Reply, replyTo, replyFor, lines, resultsFor, resultsAfter}
 use Rattle.deal.specs.FilledAnswer.{movedReply, SameWhenFilled}
 use Rattle.deal.proofs.LineLaws.{lines-same}
-use Rattle.deal.proofs.SameTerms.{same-terms, same-tranche}
+use Rattle.deal.proofs.SameTerms.{same-terms, same-months, same-tranche}
 
 module _ (n : ℕ) (s : List ℕ) (c : CanFill n s) where
   abbrev f : List ℕ
@@ -39,7 +39,8 @@ module _ (n : ℕ) (s : List ℕ) (c : CanFill n s) where
   filled-tranche : (i : ℕ) → i < trancheCount s → tranche f i ≡ tranche s i
   filled-tranche i l =
       same-tranche s f i (same-tranche-count n s c) filled-sums l (λ j k row column. same-tranche-word n s c j k)
-      (λ k column. same-tranche-word n s c i k)
+      (same-months s f i (filled-same-date n s c) (same-tranche-word n s c i 2))
+      (λ k past column. same-tranche-word n s c i k)
 
   -- ---- the verdict
 
@@ -98,4 +99,16 @@ pub fifth-fact-zero : (a b c d : ℕ) (rest : List ℕ) → SameWhenFilled 5 (4 
 unfolding poolAt
 fifth-fact-zero a b c d rest =
     filled-facts 5 (4 ∷ a ∷ b ∷ c ∷ d ∷ rest)
+    (record { least = omega arith; most = omega arith; limit = omega arith; there = omega arith })
+
+-- ---- a sheet with five facts, and the same sheet with a sixth fact of 0: "0 or absent means months as before."
+
+pub five-filled : (a b c d e : ℕ) (rest : List ℕ) → filled 6 (5 ∷ a ∷ b ∷ c ∷ d ∷ e ∷ rest) ≡ 6 ∷ a ∷ b ∷ c ∷ d ∷ e ∷ 0 ∷ rest
+unfolding filled poolAt
+five-filled a b c d e rest = refl
+
+pub sixth-fact-zero : (a b c d e : ℕ) (rest : List ℕ) → SameWhenFilled 6 (5 ∷ a ∷ b ∷ c ∷ d ∷ e ∷ rest)
+unfolding poolAt
+sixth-fact-zero a b c d e rest =
+    filled-facts 6 (5 ∷ a ∷ b ∷ c ∷ d ∷ e ∷ rest)
     (record { least = omega arith; most = omega arith; limit = omega arith; there = omega arith })

@@ -6,7 +6,7 @@ use native.Mathlib.Nat.{le-refl}
 use native.Mathlib.Omega.{arith}
 use lib.ListN.{length, getD}
 use Rattle.limits.specs.SheetSize.{lineSize}
-use Rattle.judgement.specs.DealSheet.{word, rowAt, tranchesAt, trancheCount, trancheAt, needed}
+use Rattle.judgement.specs.DealSheet.{word, poolAt, rowAt, tranchesAt, trancheCount, trancheAt, needed}
 use Rattle.pool.specs.PoolSums.{poolSums}
 use Rattle.pool.proofs.SameSums.{same-sums-in-order}
 use Rattle.deal.specs.Lines.{terms, tranche, lineWords}
@@ -16,11 +16,11 @@ use Rattle.deal.specs.Results.{resultsAfter}
 use Rattle.deal.specs.OtherRatings.{SameButOtherRatings}
 use Rattle.judgement.specs.declared.Verdict.the-variants.{Sound}
 use Rattle.judgement.proofs.NeededLaws.{tranches-at-past-rows}
-use Rattle.judgement.proofs.SameLayout.{SameCounts, same-counts, same-facts}
+use Rattle.judgement.proofs.SameLayout.{SameCounts, same-counts, same-facts, same-reporting-date}
 use Rattle.judgement.proofs.SheetLimits.{facts-counted, pool-at-within}
 use Rattle.deal.proofs.JudgedLaws.{accepted-judged}
 use Rattle.deal.proofs.LineLaws.{results-line}
-use Rattle.deal.proofs.SameTerms.{same-terms, same-tranche}
+use Rattle.deal.proofs.SameTerms.{same-terms, same-months, same-tranche}
 
 -- no rating stands before the tranches, or in the first four columns of a tranche, and none of another tranche stands in tranche i
 module _ (s s′ : List ℕ) (i : ℕ) (same : SameButOtherRatings s s′ i) where
@@ -38,7 +38,8 @@ module _ (s s′ : List ℕ) (i : ℕ) (same : SameButOtherRatings s s′ i) whe
       r .other row)
 
   ratings-counts : SameCounts s s′
-  ratings-counts = same-counts s s′ (λ p h. same-head p (omega (arith, tranches-at-past-rows s))) (same-head (tranchesAt s) (le-refl _))
+  ratings-counts =
+      same-counts s s′ (same-head 0 (omega arith)) (same-head (poolAt s) (omega (arith, tranches-at-past-rows s))) (same-head (tranchesAt s) (le-refl _))
 
   pub ratings-count : trancheCount s′ ≡ trancheCount s
   ratings-count = ratings-counts .tranche-count
@@ -51,14 +52,17 @@ module _ (s s′ : List ℕ) (i : ℕ) (same : SameButOtherRatings s s′ i) whe
   pub ratings-terms : judged s (needed s) ≡ Sound → terms s′ ≡ terms s
   ratings-terms e =
       same-terms s s′
-      (same-facts s s′ (λ p h. same-head p (omega (arith, tranches-at-past-rows s))) (pool-at-within s (facts-counted s e) .0))
+      (same-facts s s′ (λ p h before. same-head p (omega (arith, tranches-at-past-rows s))) (pool-at-within s (facts-counted s e) .0))
       ratings-sums
 
-  pub ratings-tranche : i < trancheCount s → tranche s′ i ≡ tranche s i
-  ratings-tranche l =
+  pub ratings-tranche : judged s (needed s) ≡ Sound → i < trancheCount s → tranche s′ i ≡ tranche s i
+  ratings-tranche e l =
       same-tranche s s′ i ratings-count ratings-sums l
-      (λ j c row column. rw (ratings-counts .tranches-at) (same-plain j c column))
-      (λ c column. rw (ratings-counts .tranches-at) (same-own c column))
+      (λ j c row column. rw (ratings-counts .tranches-at) (same-plain j c (omega arith)))
+      (same-months s s′ i
+      (same-reporting-date s s′ (λ p before. same-head p (omega (arith, tranches-at-past-rows s))) (pool-at-within s (facts-counted s e) .0))
+      (rw (ratings-counts .tranches-at) (same-own 2 (omega arith))))
+      (λ c past column. rw (ratings-counts .tranches-at) (same-own c column))
 
 -- ---- the theorem
 
@@ -89,4 +93,4 @@ line-apart-from-other-ratings s s′ i room e e′ same l =
     shared = ratings-terms s s′ i same (accepted-judged s room e)
 
     line : lineWords (tranche s′ i) (terms s′) ≡ lineWords (tranche s i) (terms s)
-    line = rw (ratings-tranche s s′ i same l, shared)
+    line = rw (ratings-tranche s s′ i same (accepted-judged s room e) l, shared)

@@ -12,3 +12,4 @@ pub mod WeighSteps
 pub mod AnswerLaw
 pub mod ReplyLaws
 pub mod FilledFacts
+pub mod InMonths

@@ -9,7 +9,7 @@ use native.Mathlib.Omega.{arith}
 use lib.ListN.{length}
 use borrow.Author.Tests.{lt-ltb}
 use Rattle.limits.specs.SheetSize.{factsLeast}
-use Rattle.judgement.specs.DealSheet.{word, poolAt, rows, rowAt, tranchesAt, trancheCount, trancheAt, needed}
+use Rattle.judgement.specs.DealSheet.{word, reportingDate, poolAt, rows, rowAt, tranchesAt, trancheCount, trancheAt, needed}
 use Rattle.pool.specs.PoolSums.{poolSums}
 use Rattle.pool.specs.OrderOfRows.{Reordered}
 use Rattle.pool.proofs.SameSums.{same-sums}
@@ -22,18 +22,19 @@ use Rattle.judgement.specs.declared.Verdict.the-variants.{Sound}
 use Rattle.judgement.proofs.FirstFault.{first-of-all}
 use Rattle.judgement.proofs.NeededLaws.{tranches-at-past-rows, row-word-needed}
 use Rattle.judgement.proofs.Judgement.{good-word, fault-of-row, InSection, in-section}
-use Rattle.judgement.proofs.SameLayout.{SameCounts, same-counts, same-needed, SameFacts, same-facts}
+use Rattle.judgement.proofs.SameLayout.{SameCounts, same-counts, same-needed, SameFacts, same-facts, same-reporting-date}
 use Rattle.judgement.proofs.SheetLimits.{facts-counted, pool-at-within}
 use Rattle.judgement.proofs.JudgedLaws.{judged-good}
 use Rattle.deal.proofs.JudgedLaws.{accepted-means, accepted-judged, accepted-when}
 use Rattle.deal.proofs.LineLaws.{lines-same, results-accepted}
-use Rattle.deal.proofs.SameTerms.{same-terms, same-tranche}
+use Rattle.deal.proofs.SameTerms.{same-terms, same-months, same-tranche}
 
 module _ (s s′ : List ℕ) (π σ : ℕ → ℕ) (r : Reordered s s′ π σ) where
   -- ---- what the order does not touch
 
   order-counts : SameCounts s s′
-  order-counts = same-counts s s′ (λ p h. r .same-before p (omega arith)) (r .same-after (tranchesAt s) (le-refl _))
+  order-counts =
+      same-counts s s′ (r .same-before 0 (omega arith)) (r .same-before (poolAt s) (omega arith)) (r .same-after (tranchesAt s) (le-refl _))
 
   order-needed : needed s′ ≡ needed s
   order-needed = same-needed s s′ order-counts
@@ -43,20 +44,27 @@ module _ (s s′ : List ℕ) (π σ : ℕ → ℕ) (r : Reordered s s′ π σ) 
       same-sums s s′ π σ (order-counts .row-count) (r .permutation)
       (λ i c row column. rw (order-counts .pool-at) (r .row-moved i c row column))
 
-  order-tranche : (i : ℕ) → i < trancheCount s → tranche s′ i ≡ tranche s i
-  order-tranche i l =
-      same-tranche s s′ i (order-counts .tranche-count) order-sums l
-      (λ j c row column. rw (order-counts .tranches-at) (r .same-after (trancheAt s j + c) (omega arith)))
-      (λ c column. rw (order-counts .tranches-at) (r .same-after (trancheAt s i + c) (omega arith)))
-
   -- ---- where the first word is good, the facts are the same
 
   module _ (facts : factsLeast < poolAt s) where
     order-facts : SameFacts s s′
-    order-facts = same-facts s s′ (λ p h. r .same-before p (omega arith)) facts
+    order-facts = same-facts s s′ (λ p h before. r .same-before p (omega arith)) facts
+
+    order-date : reportingDate s′ ≡ reportingDate s
+    order-date = same-reporting-date s s′ (λ p before. r .same-before p (omega arith)) facts
 
     order-terms : terms s′ ≡ terms s
     order-terms = same-terms s s′ order-facts order-sums
+
+    order-word : (j c : ℕ) → word s′ (trancheAt s′ j + c) ≡ word s (trancheAt s j + c)
+    order-word j c = rw (order-counts .tranches-at) (r .same-after (trancheAt s j + c) (omega arith))
+
+    order-tranche : (i : ℕ) → i < trancheCount s → tranche s′ i ≡ tranche s i
+    order-tranche i l =
+        same-tranche s s′ i (order-counts .tranche-count) order-sums l
+        (λ j c row column. order-word j c)
+        (same-months s s′ i order-date (order-word i 2))
+        (λ c past column. order-word i c)
 
     -- ---- the faults: of a word in its place, and of a word that moved with its row
 
@@ -69,6 +77,7 @@ module _ (s s′ : List ℕ) (π σ : ℕ → ℕ) (r : Reordered s s′ π σ) 
           order-counts .pool-at,
           order-counts .tranches-at,
           order-facts .same-resecuritisation,
+          order-date,
           r .same-after (trancheAt s (i - 1) + 1) (omega arith),
           r .same-after (trancheAt s i) (omega arith),
         )
@@ -134,7 +143,7 @@ order-of-rows s s′ π σ room e r =
       same-reply = rw (e, e′, count, shared);
       same-results = λ old size.
           results-accepted s′ old (rw size e′) ∙
-          rw (count, lines-same s s′ (trancheCount s) shared (order-tranche s s′ π σ r)) (sym (results-accepted s old (rw size e)));
+          rw (count, lines-same s s′ (trancheCount s) shared own) (sym (results-accepted s old (rw size e)));
     }
   where
     parts : Accepted s room
@@ -149,6 +158,9 @@ order-of-rows s s′ π σ room e r =
     shared : terms s′ ≡ terms s
     shared = order-terms s s′ π σ r (facts-before s s′ π σ r sound)
 
+    own : (i : ℕ) → i < trancheCount s → tranche s′ i ≡ tranche s i
+    own = order-tranche s s′ π σ r (facts-before s s′ π σ r sound)
+
     e′ : verdict s′ room ≡ Sound
     e′ =
         accepted-when s′ room
@@ -160,5 +172,5 @@ order-of-rows s s′ π σ room e r =
           enough = omega (arith, parts .enough, count);
           none-thin = λ i l.
               let below : i < trancheCount s = omega (arith, count) in
-              rw (order-tranche s s′ π σ r i below, shared) (parts .none-thin i below);
+              rw (own i below, shared) (parts .none-thin i below);
         })

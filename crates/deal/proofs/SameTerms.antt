@@ -1,4 +1,4 @@
--- Two sheets of the same facts and pool sums have the same terms, and their tranches with the same words the same points, wherever these words stand. No axioms.
+-- Two sheets of the same facts and pool sums have the same terms, and their tranches with the same words and months the same points, wherever these words stand. No axioms.
 use mathlib.Core.List.{List}
 use mathlib.Core.Path.{_≡_, ap, _∙_}
 use Prim.Native.Nat.{ℕ, _+_, _<_}
@@ -7,7 +7,7 @@ use native.Mathlib.Omega.{arith}
 use lib.Dec.{ltb}
 use Rattle.numbers.specs.Sum.{sum, whereCounted}
 use Rattle.numbers.proofs.SumLaws.{sum-same}
-use Rattle.judgement.specs.DealSheet.{word, trancheCount, trancheAt, amount, class, layout}
+use Rattle.judgement.specs.DealSheet.{word, reportingDate, trancheCount, trancheAt, amount, class, maturity, months, layout}
 use Rattle.judgement.proofs.SameLayout.{SameFacts}
 use Rattle.pool.specs.PoolSums.{poolSums}
 use Rattle.deal.specs.Points.{seniorAmount, attachmentPoint, detachmentPoint}
@@ -21,6 +21,11 @@ same-terms s s′ facts sums =
     rw (facts .same-resecuritisation, facts .same-stc, facts .same-diligence, facts .same-composition, sums)
 
 -- ---- a tranche
+
+-- its months, where both sheets have the same reporting date
+pub same-months :
+    (s s′ : List ℕ) (i : ℕ) → reportingDate s′ ≡ reportingDate s → maturity s′ i ≡ maturity s i → months s′ i ≡ months s i
+same-months s s′ i date word = rw (date, word)
 
 -- the amounts and classes of all tranches are the same
 pub same-senior-amount :
@@ -38,21 +43,22 @@ same-senior-amount s s′ c count amounts classes =
 
 pub same-tranche :
     (s s′ : List ℕ) (i : ℕ) → trancheCount s′ ≡ trancheCount s → poolSums s′ ≡ poolSums s → i < trancheCount s →
-    ((j c : ℕ) → j < trancheCount s → c < 4 → word s′ (trancheAt s′ j + c) ≡ word s (trancheAt s j + c)) →
-    ((c : ℕ) → c < 7 → word s′ (trancheAt s′ i + c) ≡ word s (trancheAt s i + c)) →
+    ((j c : ℕ) → j < trancheCount s → c < 2 → word s′ (trancheAt s′ j + c) ≡ word s (trancheAt s j + c)) →
+    months s′ i ≡ months s i →
+    ((c : ℕ) → 2 < c → c < 7 → word s′ (trancheAt s′ i + c) ≡ word s (trancheAt s i + c)) →
     tranche s′ i ≡ tranche s i
 unfolding tranche attachmentPoint detachmentPoint
-same-tranche s s′ i count sums l alike own =
+same-tranche s s′ i count sums l alike maturity own =
     simp (
       sums,
       classes i l,
       same-senior-amount s s′ (class s i + 1) count amounts classes,
       same-senior-amount s s′ (class s i) count amounts classes,
-      own 2 (omega arith),
-      own 3 (omega arith),
-      own 4 (omega arith),
-      own 5 (omega arith),
-      own 6 (omega arith),
+      maturity,
+      own 3 (omega arith) (omega arith),
+      own 4 (omega arith) (omega arith),
+      own 5 (omega arith) (omega arith),
+      own 6 (omega arith) (omega arith),
     )
   where
     amounts : (j : ℕ) → j < trancheCount s → amount s′ j ≡ amount s j

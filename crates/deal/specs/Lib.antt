@@ -7,3 +7,4 @@ pub mod Results
 pub mod DemandThree
 pub mod OtherRatings
 pub mod FilledAnswer
+pub mod InMonths

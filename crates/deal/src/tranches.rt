@@ -10,6 +10,7 @@ ghost use Rattle.deal.specs.Lines.{terms, tranche, riskWeightedAmount, c
 ghost use Rattle.deal.specs.ClassPoints.{ClassPoints};
 ghost use Rattle.judgement.specs.Refusals.{firstOf};
 ghost use Rattle.deal.specs.Refusals.{thinVerdict};
+use dates::maturity_months;
 use judgement::Layout;
 use judgement::Refusal;
 use judgement::Verdict;
@@ -60,7 +61,7 @@ pub(crate) fn class_points(s: &[u64], l: Layout, nominal: u64) -> [u64; POINTS]
     points
 }
 
-// What is tranche i's own.
+// What is tranche i's own, its maturity in months, however the sheet states it.
 pub(crate) fn tranche_of(s: &[u64], l: Layout, points: &[u64; POINTS], i: u64) -> Tranche
     requires { ⌜ LaidOut (now s) l × ClassPoints (now s) (now points) × (i < trancheCount (now s)) ⌝ }
     ensures { λ r. ⌜ r ≡ tranche (now (s .entry)) i ⌝ }
@@ -70,7 +71,7 @@ pub(crate) fn tranche_of(s: &[u64], l: Layout, points: &[u64; POINTS], i: u64) -
         attachment: points[(class + 1) as usize],
         detachment: points[class as usize],
         senior: class == 1,
-        months: tranche_word(s, l, i, 2),
+        months: maturity_months(l.reporting_date, tranche_word(s, l, i, 2)),
         held: tranche_word(s, l, i, 3),
         first: tranche_word(s, l, i, 4),
         second: tranche_word(s, l, i, 5),

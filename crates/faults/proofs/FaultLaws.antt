@@ -3,16 +3,13 @@ use mathlib.Core.Bool.{Bool, true, false}
 use mathlib.Core.Path.{_≡_, refl}
 use Prim.Native.Nat.{ℕ, _≤_, _<_}
 use native.Mathlib.Omega.{arith}
-use borrow.Author.Tests.{le-leb}
+use Rattle.numbers.specs.Limits.{within}
 use Rattle.numbers.proofs.Tests.{between-true}
-use Rattle.faults.specs.WordFaults.{unless, within}
+use Rattle.faults.specs.WordFaults.{unless}
 
 pub unless-zero : (number : ℕ) (good : Bool) → 0 < number → unless number good ≡ 0 → good ≡ true
 unless-zero number true h e = refl
 unless-zero number false h e = absurd (omega arith)
-
-pub within-is : (least most w : ℕ) → least ≤ w → w ≤ most → within least most w ≡ true
-within-is least most w h l = simp (le-leb least w h, le-leb w most l)
 
 pub no-fault-within : (number least most w : ℕ) → 0 < number → unless number (within least most w) ≡ 0 → (least ≤ w) × (w ≤ most)
 no-fault-within number least most w h e = between-true least most w (unless-zero number (within least most w) h e)

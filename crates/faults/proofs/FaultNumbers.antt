@@ -1,11 +1,14 @@
 -- No word's fault has the number 13 or 14: these are judged after the words, by tranche and by the room for results. No axioms.
-use mathlib.Core.Bool.{Bool, true, false, cond, _&&_}
+use mathlib.Core.Bool.{Bool, true, false, cond, _&&_, _||_}
 use mathlib.Core.Path.{_≡_}
 use Prim.Native.Nat.{ℕ, _<_}
 use native.Mathlib.Omega.{arith}
 use lib.Dec.{leb, ltb, eqb}
+use Rattle.numbers.specs.Limits.{within}
 use Rattle.rating_codes.specs.RatingCodes.{listed}
-use Rattle.faults.specs.WordFaults.{unless, within, countFault, yesOrNo, codeFault, factFault, poolAmountInLimits, riskWeightInLimits, statusAllowed, rowFault, classInOrder, trancheAmountInLimits, monthsInLimits, heldInLimits, trancheFault}
+use Rattle.dates.specs.Calendar.{namesDay}
+use Rattle.dates.specs.Maturity.{maturityMonths, maturityDated}
+use Rattle.faults.specs.WordFaults.{unless, countFault, yesOrNo, codeFault, factFault, poolAmountInLimits, riskWeightInLimits, statusAllowed, rowFault, classInOrder, trancheAmountInLimits, monthsInLimits, heldInLimits, trancheFault}
 
 pub record WordNumber (n : ℕ) : Type 0 where
   pub not-thin : n ≡ 13 → ⊥
@@ -14,41 +17,46 @@ pub record WordNumber (n : ℕ) : Type 0 where
 below-13 : (n : ℕ) → n < 13 → WordNumber n
 below-13 n h = record { not-thin = λ e. omega arith; not-room = λ e. omega arith }
 
+above-14 : (n : ℕ) → 14 < n → WordNumber n
+above-14 n h = record { not-thin = λ e. omega arith; not-room = λ e. omega arith }
+
 -- a number that is picked from two, and one that stands unless the word is good
 
 pub picked : (b : Bool) (x y : ℕ) → WordNumber x → WordNumber y → WordNumber (cond b x y)
 picked true x y p q = p
 picked false x y p q = q
 
-stands : (number : ℕ) (good : Bool) → number < 13 → WordNumber (unless number good)
-stands number good h = picked good 0 number (below-13 0 (omega arith)) (below-13 number h)
+stands : (number : ℕ) (good : Bool) → WordNumber number → WordNumber (unless number good)
+stands number good is = picked good 0 number (below-13 0 (omega arith)) is
 
 -- ---- each rule
 
 pub count-number : (least most w : ℕ) → WordNumber (countFault least most w)
-count-number least most w = stands 2 (within least most w) (omega arith)
+count-number least most w = stands 2 (within least most w) (below-13 2 (omega arith))
 
 code-number : (w : ℕ) → WordNumber (codeFault w)
-code-number w = stands 4 (yesOrNo w) (omega arith)
+code-number w = stands 4 (yesOrNo w) (below-13 4 (omega arith))
 
 pub fact-number : (resecuritised : Bool) (p w : ℕ) → WordNumber (factFault resecuritised p w)
 fact-number resecuritised p w =
     picked (eqb p 1) _ _
     (picked (eqb w 0) _ _ (below-13 0 (omega arith)) (picked (leb w 2) _ _ (below-13 12 (omega arith)) (below-13 4 (omega arith))))
     (picked (eqb p 5) _ _
-    (picked (resecuritised && eqb w 1) _ _ (record { not-thin = λ e. omega arith; not-room = λ e. omega arith }) (code-number w))
-    (code-number w))
+    (picked (resecuritised && eqb w 1) _ _ (above-14 16 (omega arith)) (code-number w))
+    (picked (eqb p 6) _ _ (stands 17 (eqb w 0 || namesDay w) (above-14 17 (omega arith)))
+    (code-number w)))
 
 pub row-number : (resecuritised : Bool) (column w : ℕ) → WordNumber (rowFault resecuritised column w)
 row-number resecuritised column w =
-    picked (ltb column 2) _ _ (stands 5 (poolAmountInLimits w) (omega arith))
-    (picked (eqb column 2) _ _ (stands 6 (riskWeightInLimits w) (omega arith))
-    (stands 7 (statusAllowed resecuritised w) (omega arith)))
+    picked (ltb column 2) _ _ (stands 5 (poolAmountInLimits w) (below-13 5 (omega arith)))
+    (picked (eqb column 2) _ _ (stands 6 (riskWeightInLimits w) (below-13 6 (omega arith)))
+    (stands 7 (statusAllowed resecuritised w) (below-13 7 (omega arith))))
 
-pub tranche-number : (i before whole column w : ℕ) → WordNumber (trancheFault i before whole column w)
-tranche-number i before whole column w =
-    picked (eqb column 0) _ _ (stands 8 (trancheAmountInLimits w) (omega arith))
-    (picked (eqb column 1) _ _ (stands 9 (classInOrder i before w) (omega arith))
-    (picked (eqb column 2) _ _ (stands 10 (monthsInLimits w) (omega arith))
-    (picked (eqb column 3) _ _ (stands 8 (heldInLimits whole w) (omega arith))
-    (stands 11 (listed w) (omega arith)))))
+pub tranche-number : (reported i before whole column w : ℕ) → WordNumber (trancheFault reported i before whole column w)
+tranche-number reported i before whole column w =
+    picked (eqb column 0) _ _ (stands 8 (trancheAmountInLimits w) (below-13 8 (omega arith)))
+    (picked (eqb column 1) _ _ (stands 9 (classInOrder i before w) (below-13 9 (omega arith)))
+    (picked (eqb column 2) _ _
+    (picked (maturityDated reported w) _ _ (stands 10 (monthsInLimits (maturityMonths reported w)) (below-13 10 (omega arith))) (above-14 17 (omega arith)))
+    (picked (eqb column 3) _ _ (stands 8 (heldInLimits whole w) (below-13 8 (omega arith)))
+    (stands 11 (listed w) (below-13 11 (omega arith))))))

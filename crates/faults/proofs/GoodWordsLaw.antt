@@ -1,16 +1,20 @@
--- A fact, a pool row, a tranche row and a class keep the limits of 01's "The deal sheet" and 02's S-1 just where their words have no fault. No axioms.
-use mathlib.Core.Bool.{Bool, true, false, cond, _&&_}
-use mathlib.Core.Logic.{inl, inr, ⊎-elim}
+-- A fact, a pool row, a tranche row and a class keep the limits of 01's "The deal sheet" and 02's S-1 and S-3 just where their words have no fault. No axioms.
+use mathlib.Core.Bool.{Bool, true, false, cond, _&&_, _||_}
+use mathlib.Core.Logic.{_⊎_, inl, inr, ⊎-elim}
 use mathlib.Core.Path.{_≡_, refl, ap, _∙_}
 use Prim.Native.Nat.{ℕ, zero, suc, _+_, _≤_, _<_}
 use native.Mathlib.Omega.{arith}
 use lib.Dec.{leb, eqb}
 use borrow.Author.Tests.{leb-true, eqb-true, eqb-false, le-leb, eq-eqb, ne-eqb}
-use Rattle.numbers.proofs.Tests.{either-true, true-either}
+use Rattle.numbers.proofs.Tests.{within-is, either-true, true-either}
 use Rattle.rating_codes.specs.RatingCodes.{listed}
+use Rattle.dates.specs.Calendar.{namesDay, Day}
+use Rattle.dates.specs.Maturity.{maturityMonths, maturityDated}
+use Rattle.dates.proofs.CalendarLaws.{day-named, named-day}
+use Rattle.dates.proofs.MaturityLaws.{later-day, day-later}
 use Rattle.faults.specs.WordFaults.{yesOrNo, codeFault, factFault, riskWeightInLimits, statusAllowed, rowFault, classInOrder, heldInLimits, trancheFault}
 use Rattle.faults.specs.GoodWords.{GoodFact, GoodRow, GoodTranche, NextClass, GoodClass}
-use Rattle.faults.proofs.FaultLaws.{unless-zero, within-is, no-fault-within}
+use Rattle.faults.proofs.FaultLaws.{unless-zero, no-fault-within}
 
 -- ---- facts
 
@@ -37,6 +41,11 @@ mark-free : (resecuritised : Bool) (w : ℕ) → (resecuritised ≡ true → w �
 mark-free true w h = rw (h refl)
 mark-free false w h = refl
 
+-- the sixth fact is 0 or a day
+dated : (w : ℕ) → (w ≡ 0) ⊎ Day w → eqb w 0 || namesDay w ≡ true
+dated w (inl none) = true-either (eqb w 0) (namesDay w) (inl (eq-eqb w 0 none))
+dated w (inr day) = true-either (eqb w 0) (namesDay w) (inr (named-day w day))
+
 module _ (resecuritised : Bool) (p w : ℕ) where
   kind-code : p ≡ 1 → factFault resecuritised p w ≡ 0 → w ≡ 0
   kind-code is e = eqb-true w 0 (zero-alone (eqb w 0) (leb w 2) (rw (eq-eqb p 1 is) at e))
@@ -47,33 +56,50 @@ module _ (resecuritised : Bool) (p w : ℕ) where
       let code = code-of w (both .0) in
       (code, λ r. no-mark w code (both .1 r))
 
-  yes-or-no : 1 < p → factFault resecuritised p w ≡ 0 → w ≤ 1
-  yes-or-no h e = by-place (eqb p 5) refl
+  date-code : p ≡ 6 → factFault resecuritised p w ≡ 0 → (w ≡ 0) ⊎ Day w
+  date-code is e =
+      ⊎-elim (λ none. inl (eqb-true w 0 none)) (λ named. inr (day-named w named))
+      (either-true (eqb w 0) (namesDay w)
+      (unless-zero 17 (eqb w 0 || namesDay w) (omega arith)
+      (rw (ne-eqb p 1 (λ z. omega arith), ne-eqb p 5 (λ z. omega arith), eq-eqb p 6 is) at e)))
+
+  yes-or-no : 1 < p → (p ≡ 6 → ⊥) → factFault resecuritised p w ≡ 0 → w ≤ 1
+  yes-or-no h other e = by-place (eqb p 5) refl
     where
       by-place : (fifth : Bool) → eqb p 5 ≡ fifth → w ≤ 1
       by-place true at = stc-code (eqb-true p 5 at) e .0
-      by-place false at = code-of w (rw (ne-eqb p 1 (λ z. omega arith), at) at e)
+      by-place false at = code-of w (rw (ne-eqb p 1 (λ z. omega arith), at, ne-eqb p 6 other) at e)
 
   pub good-fact : factFault resecuritised p w ≡ 0 → GoodFact resecuritised p w
-  good-fact e = record { pool-kind = λ is. kind-code is e; code = λ h. yes-or-no h e; mark = λ is r. stc-code is e .1 r }
+  good-fact e = record {
+    pool-kind = λ is. kind-code is e;
+    code = λ h other. yes-or-no h other e;
+    mark = λ is r. stc-code is e .1 r;
+    reporting-date = λ is. date-code is e;
+  }
 
 pub fact-good : (resecuritised : Bool) (p w : ℕ) → 1 ≤ p → GoodFact resecuritised p w → factFault resecuritised p w ≡ 0
 fact-good resecuritised zero w least g = absurd (omega arith)
 fact-good resecuritised (suc zero) w least g = simp (g .pool-kind refl)
-fact-good resecuritised (suc (suc p)) w least g = by-place (eqb (suc (suc p)) 5) refl
+fact-good resecuritised (suc (suc p)) w least g = by-place (eqb (suc (suc p)) 5) refl (eqb (suc (suc p)) 6) refl
   where
     other : suc (suc p) ≡ 1 → ⊥
     other e = omega arith
 
-    by-place : (fifth : Bool) → eqb (suc (suc p)) 5 ≡ fifth → factFault resecuritised (suc (suc p)) w ≡ 0
-    by-place true at =
+    by-place :
+        (fifth : Bool) → eqb (suc (suc p)) 5 ≡ fifth → (sixth : Bool) → eqb (suc (suc p)) 6 ≡ sixth → factFault resecuritised (suc (suc p)) w ≡ 0
+    by-place true at sixth _ =
+        let is = eqb-true (suc (suc p)) 5 at in
         simp (
           ne-eqb (suc (suc p)) 1 other,
           at,
-          mark-free resecuritised w (g .mark (eqb-true (suc (suc p)) 5 at)),
-          le-leb w 1 (g .code (omega arith)),
+          mark-free resecuritised w (g .mark is),
+          le-leb w 1 (g .code (omega arith) (λ e. omega arith)),
         )
-    by-place false at = simp (ne-eqb (suc (suc p)) 1 other, at, le-leb w 1 (g .code (omega arith)))
+    by-place false not-fifth true at =
+        simp (ne-eqb (suc (suc p)) 1 other, not-fifth, at, dated w (g .reporting-date (eqb-true (suc (suc p)) 6 at)))
+    by-place false not-fifth false at =
+        simp (ne-eqb (suc (suc p)) 1 other, not-fifth, at, le-leb w 1 (g .code (omega arith) (eqb-false (suc (suc p)) 6 at)))
 
 -- ---- pool rows
 
@@ -114,9 +140,14 @@ module _ (resecuritised : Bool) (e n w t : ℕ) (g : GoodRow resecuritised e n w
   pub row-status-good : rowFault resecuritised 3 t ≡ 0
   row-status-good = simp (status-good resecuritised t (g .status-ordinary) (g .status-resecuritised))
 
--- ---- tranche rows; i is the row's number and b the class of the row before it
+-- ---- tranche rows; r is the reporting date or 0, i the row's number and b the class of the row before it
 
-module _ (i b : ℕ) where
+-- where a maturity has no fault it gets no 17, and its months no 10
+not-17 : (b : Bool) (n : ℕ) → cond b n 17 ≡ 0 → (b ≡ true) × (n ≡ 0)
+not-17 true n e = (refl, e)
+not-17 false n e = absurd (omega arith)
+
+module _ (r i b : ℕ) where
   next-class : (w : ℕ) → 0 < i → classInOrder i b w ≡ true → NextClass b w
   next-class w h e =
       ⊎-elim
@@ -124,7 +155,7 @@ module _ (i b : ℕ) where
       (λ more. let q = eqb-true w _ more in inr (omega arith))
       (either-true (eqb w b) _ (rw (ne-eqb i 0 (λ z. omega arith)) at e))
 
-  pub good-class : (a w : ℕ) → trancheFault i b a 1 w ≡ 0 → GoodClass i b w
+  pub good-class : (a w : ℕ) → trancheFault r i b a 1 w ≡ 0 → GoodClass i b w
   good-class a w e =
       let allowed = unless-zero 9 (classInOrder i b w) (omega arith) e in
       record {
@@ -133,16 +164,19 @@ module _ (i b : ℕ) where
       }
 
   pub good-tranche :
-      (a m h x y z : ℕ) → trancheFault i b a 0 a ≡ 0 → trancheFault i b a 2 m ≡ 0 → trancheFault i b a 3 h ≡ 0 → trancheFault i b a 4 x ≡ 0 →
-      trancheFault i b a 5 y ≡ 0 → trancheFault i b a 6 z ≡ 0 → GoodTranche a m h x y z
+      (a m h x y z : ℕ) → trancheFault r i b a 0 a ≡ 0 → trancheFault r i b a 2 m ≡ 0 → trancheFault r i b a 3 h ≡ 0 → trancheFault r i b a 4 x ≡ 0 →
+      trancheFault r i b a 5 y ≡ 0 → trancheFault r i b a 6 z ≡ 0 → GoodTranche r a m h x y z
   good-tranche a m h x y z amounts maturities holdings first second third =
       let amount = no-fault-within 8 1 10000000000000 a (omega arith) amounts in
-      let maturity = no-fault-within 10 1 1200 m (omega arith) maturities in
+      let maturity = not-17 (maturityDated r m) _ maturities in
+      let months = no-fault-within 10 1 1200 (maturityMonths r m) (omega arith) (maturity .1) in
       record {
         amount-least = amount .0;
         amount-most = amount .1;
-        months-least = maturity .0;
-        months-most = maturity .1;
+        maturity-day = λ set. later-day r m (maturity .0) set .1;
+        maturity-after = λ set. later-day r m (maturity .0) set .0;
+        months-least = months .0;
+        months-most = months .1;
         held-most = omega (arith, leb-true h _ (unless-zero 8 (heldInLimits a h) (omega arith) holdings));
         first-listed = unless-zero 11 (listed x) (omega arith) first;
         second-listed = unless-zero 11 (listed y) (omega arith) second;
@@ -160,24 +194,28 @@ module _ (i b : ℕ) where
           (true-either (eqb w b) (eqb w (b + 1))
           (⊎-elim (λ same. inl (eq-eqb _ _ same)) (λ more. inr (eq-eqb _ _ more)) (g .of-next (omega arith))))
 
-  pub class-good : (a w : ℕ) → GoodClass i b w → trancheFault i b a 1 w ≡ 0
+  pub class-good : (a w : ℕ) → GoodClass i b w → trancheFault r i b a 1 w ≡ 0
   class-good a w g = simp (class-allowed w g)
 
-  module _ (a m h x y z : ℕ) (g : GoodTranche a m h x y z) where
-    pub amount-good : trancheFault i b a 0 a ≡ 0
+  module _ (a m h x y z : ℕ) (g : GoodTranche r a m h x y z) where
+    pub amount-good : trancheFault r i b a 0 a ≡ 0
     amount-good = simp (within-is 1 10000000000000 a (g .amount-least) (g .amount-most))
 
-    pub months-good : trancheFault i b a 2 m ≡ 0
-    months-good = simp (within-is 1 1200 m (g .months-least) (g .months-most))
+    pub maturity-good : trancheFault r i b a 2 m ≡ 0
+    maturity-good =
+        simp (
+          day-later r m (g .maturity-after) (g .maturity-day),
+          within-is 1 1200 (maturityMonths r m) (g .months-least) (g .months-most),
+        )
 
-    pub held-good : trancheFault i b a 3 h ≡ 0
+    pub held-good : trancheFault r i b a 3 h ≡ 0
     held-good = simp (le-leb h a (g .held-most))
 
-    pub first-good : trancheFault i b a 4 x ≡ 0
+    pub first-good : trancheFault r i b a 4 x ≡ 0
     first-good = simp (g .first-listed)
 
-    pub second-good : trancheFault i b a 5 y ≡ 0
+    pub second-good : trancheFault r i b a 5 y ≡ 0
     second-good = simp (g .second-listed)
 
-    pub third-good : trancheFault i b a 6 z ≡ 0
+    pub third-good : trancheFault r i b a 6 z ≡ 0
     third-good = simp (g .third-listed)

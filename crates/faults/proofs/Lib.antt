@@ -1,4 +1,5 @@
 pub mod FaultLaws
+pub mod DateFaults
 pub mod FaultNumbers
 pub mod GoodWordsLaw
 pub mod RowTestLaw

@@ -1,17 +1,21 @@
--- 01, "The deal sheet", and 02, S-1, in plain relations: the limits that a good fact, pool row and tranche row keep. That a word keeps them just where it has no fault
+-- 01, "The deal sheet", and 02, S-1 and S-3, in plain relations: the limits that a good fact, pool row and tranche row keep. That a word keeps them just where it has no fault
 -- (WordFaults.antt; a fact stands at place 1 or after) is proved in proofs/GoodWordsLaw.antt.
 use mathlib.Core.Bool.{Bool, true, false}
 use mathlib.Core.Logic.{_⊎_}
 use mathlib.Core.Path.{_≡_}
 use Prim.Native.Nat.{ℕ, _+_, _≤_, _<_}
 use Rattle.rating_codes.specs.RatingCodes.{listed}
+use Rattle.dates.specs.Calendar.{Day}
+use Rattle.dates.specs.Maturity.{maturityMonths}
 
 -- "pool kind (0 SA, 1 IRB, 2 mixed); re-securitisation; due diligence held; pool composition known. The last three are 0 no, 1 yes." Of the kinds, "12: pool
--- kind 1 or 2" leaves SA. The kind is at place 1. 02, S-1: "A fifth fact says so (0 no, 1 yes)"; "An STC mark on a re-securitisation gets 16": none is good there.
+-- kind 1 or 2" leaves SA. The kind is at place 1. 02, S-1: "A fifth fact says so (0 no, 1 yes)"; "An STC mark on a re-securitisation gets 16": none is good there. S-3: "A sixth
+-- fact is the reporting date, ...; 0 or absent means months as before."
 pub record GoodFact (resecuritised : Bool) (p w : ℕ) : Type 0 where
   pub pool-kind : p ≡ 1 → w ≡ 0
-  pub code : 1 < p → w ≤ 1
+  pub code : 1 < p → (p ≡ 6 → ⊥) → w ≤ 1
   pub mark : p ≡ 5 → resecuritised ≡ true → w ≡ 0
+  pub reporting-date : p ≡ 6 → (w ≡ 0) ⊎ Day w
 
 -- "A row: exposure amount and nominal amount, each 1 to 10^10; risk weight in whole percent, 0 to 1250; status (0 paying, 1 delinquent, 2 not known,
 -- 3 securitisation tranche).": a 3 in a re-securitisation and nowhere else
@@ -24,12 +28,15 @@ pub record GoodRow (resecuritised : Bool) (exposure nominal weight status : ℕ)
   pub status-ordinary : resecuritised ≡ false → status ≤ 2
   pub status-resecuritised : resecuritised ≡ true → status ≡ 3
 
--- "A row: amount, 1 to 10^13; class; final legal maturity in months, 1 to 1200; amount held, 0 to the tranche amount; three rating words."
-pub record GoodTranche (amount months held first second third : ℕ) : Type 0 where
+-- "A row: amount, 1 to 10^13; class; final legal maturity in months, 1 to 1200; amount held, 0 to the tranche amount; three rating words." 02, S-3: "With a date, the maturity
+-- word is a date too.", after the reporting date, and "The 1 to 1200 limit then applies.", to its months
+pub record GoodTranche (reported amount maturity held first second third : ℕ) : Type 0 where
   pub amount-least : 1 ≤ amount
   pub amount-most : amount ≤ 10000000000000
-  pub months-least : 1 ≤ months
-  pub months-most : months ≤ 1200
+  pub maturity-day : 0 < reported → Day maturity
+  pub maturity-after : 0 < reported → reported < maturity
+  pub months-least : 1 ≤ maturityMonths reported maturity
+  pub months-most : maturityMonths reported maturity ≤ 1200
   pub held-most : held ≤ amount
   pub first-listed : listed first ≡ true
   pub second-listed : listed second ≡ true

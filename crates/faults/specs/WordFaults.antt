@@ -1,16 +1,16 @@
--- 01, "Refusals, by who can cause them", and 02, S-1, for 16: the fault of one word by its value and its column, the refusal's number, or 0 where it has none.
+-- 01, "Refusals, by who can cause them", and 02, S-1, for 16, and S-3, for 17: the fault of one word by its value and its column, the refusal's number, or 0 where it has none.
 -- Which word of a sheet stands where, and which fault decides, is in DealSheet.antt and Refusals.antt of `judgement`.
 use mathlib.Core.Bool.{Bool, cond, _&&_, _||_}
 use Prim.Native.Nat.{ℕ, _+_}
 use lib.Dec.{leb, ltb, eqb}
+use Rattle.numbers.specs.Limits.{within}
 use Rattle.rating_codes.specs.RatingCodes.{listed}
+use Rattle.dates.specs.Calendar.{namesDay}
+use Rattle.dates.specs.Maturity.{maturityMonths, maturityDated}
 
 -- the number, unless the word is good
 abbrev pub unless : ℕ → Bool → ℕ
 unless number good = cond good 0 number
-
-abbrev pub within : ℕ → ℕ → ℕ → Bool
-within least most w = leb least w && leb w most
 
 -- "2: a count is outside its limits."
 abbrev pub countFault : ℕ → ℕ → ℕ → ℕ
@@ -32,12 +32,18 @@ poolKindFault w = cond (eqb w 0) 0 (cond (leb w 2) 12 4)
 abbrev pub stcFault : Bool → ℕ → ℕ
 stcFault resecuritised w = cond (resecuritised && eqb w 1) 16 (codeFault w)
 
--- the fault of the fact at place p: the pool kind is at 1, the STC mark at 5, and the others are "0 no, 1 yes"
+-- 02, S-3: "A sixth fact is the reporting date, ...; 0 or absent means months as before."; "A date that does not exist or is outside those years ... gets 17 at its own
+-- word."
+abbrev pub reportingDateFault : ℕ → ℕ
+reportingDateFault w = unless 17 (eqb w 0 || namesDay w)
+
+-- the fault of the fact at place p: the pool kind is at 1, the STC mark at 5, the reporting date at 6, and the others are "0 no, 1 yes"
 abbrev pub factFault : Bool → ℕ → ℕ → ℕ
 factFault resecuritised p w =
     cond (eqb p 1) (poolKindFault w)
     (cond (eqb p 5) (stcFault resecuritised w)
-    (codeFault w))
+    (cond (eqb p 6) (reportingDateFault w)
+    (codeFault w)))
 
 -- ---- a pool row
 
@@ -81,16 +87,21 @@ trancheAmountInLimits w = within 1 10000000000000 w
 abbrev pub monthsInLimits : ℕ → Bool
 monthsInLimits w = within 1 1200 w
 
+-- 02, S-3: "A date that does not exist or is outside those years, or a maturity not after the reporting date, gets 17 at its own word.", and of every other maturity "The 1 to
+-- 1200 limit then applies.", to its months
+abbrev pub maturityFault : ℕ → ℕ → ℕ
+maturityFault reported w = cond (maturityDated reported w) (unless 10 (monthsInLimits (maturityMonths reported w))) 17
+
 -- "amount held, 0 to the tranche amount"
 abbrev pub heldInLimits : ℕ → ℕ → Bool
 heldInLimits trancheAmount w = leb w trancheAmount
 
 -- "8: a tranche amount outside its limits, or held above the amount. 9: a class out of order. 10: a maturity outside 1 to 1200. 11: a rating code
--- not listed." The columns of tranche i, from 0: amount, class, months, held, three ratings; `before` is the class of the row before
-abbrev pub trancheFault : ℕ → ℕ → ℕ → ℕ → ℕ → ℕ
-trancheFault i before trancheAmount column w =
+-- not listed." The columns of tranche i, from 0: amount, class, maturity, held, three ratings; `reported` is the reporting date or 0, `before` the class of the row before
+abbrev pub trancheFault : ℕ → ℕ → ℕ → ℕ → ℕ → ℕ → ℕ
+trancheFault reported i before trancheAmount column w =
     cond (eqb column 0) (unless 8 (trancheAmountInLimits w))
     (cond (eqb column 1) (unless 9 (classInOrder i before w))
-    (cond (eqb column 2) (unless 10 (monthsInLimits w))
+    (cond (eqb column 2) (maturityFault reported w)
     (cond (eqb column 3) (unless 8 (heldInLimits trancheAmount w))
     (unless 11 (listed w)))))

@@ -1,6 +1,10 @@
 // The fault of one word of a sheet, by its value and its column: the refusal's number in 01 or 02, or 0. Functions of numbers alone, open to all inputs.
 ghost use mathlib.Core.Path.{_≡_};
-ghost use Rattle.faults.specs.WordFaults.{unless, within, countFault, codeFault, poolKindFault, stcFault, factFault, statusAllowed, rowFault, rowIsGood, classInOrder, trancheFault};
+ghost use Rattle.faults.specs.WordFaults.{unless, countFault, codeFault, poolKindFault, stcFault, reportingDateFault, factFault, statusAllowed, rowFault, rowIsGood, classInOrder, maturityFault, trancheFault};
+use dates::maturity_dated;
+use dates::maturity_months;
+use dates::names_day;
+use numbers::within;
 
 // The limits of 01's amounts, risk weights and maturities.
 const POOL_AMOUNT: u64 = 10000000000;
@@ -16,16 +20,6 @@ fn unless(number: u64, good: bool) -> u64
     ensures { λ r. ⌜ r ≡ unless number good ⌝ }
 {
     if good { 0 } else { number }
-}
-
-// Whether a word is within limits.
-fn within(least: u64, most: u64, w: u64) -> bool
-    ensures { λ r. ⌜ r ≡ within least most w ⌝ }
-{
-    if w < least {
-        return false;
-    }
-    w <= most
 }
 
 // The fault of a count.
@@ -65,7 +59,17 @@ fn stc_fault(resecuritised: bool, w: u64) -> u64
     code_fault(w)
 }
 
-// The fault of the fact at place p: the pool kind at 1, the STC mark at 5, a yes or no elsewhere.
+// The fault of the sixth fact: a day, or 0 where maturities are in months.
+fn reporting_date_fault(w: u64) -> u64
+    ensures { λ r. ⌜ r ≡ reportingDateFault w ⌝ }
+{
+    if w == 0 {
+        return 0;
+    }
+    unless(17, names_day(w))
+}
+
+// The fault of the fact at place p: the pool kind at 1, the STC mark at 5, the reporting date at 6, a yes or no elsewhere.
 pub fn fact_fault(resecuritised: bool, p: u64, w: u64) -> u64
     ensures { λ r. ⌜ r ≡ factFault resecuritised p w ⌝ }
 {
@@ -74,6 +78,9 @@ pub fn fact_fault(resecuritised: bool, p: u64, w: u64) -> u64
     }
     if p == 5 {
         return stc_fault(resecuritised, w);
+    }
+    if p == 6 {
+        return reporting_date_fault(w);
     }
     code_fault(w)
 }
@@ -142,9 +149,19 @@ fn class_in_order(i: u64, before: u64, w: u64) -> bool
     w - 1 == before
 }
 
-// The fault of a tranche row's word, by its column.
-pub fn tranche_fault(i: u64, before: u64, amount: u64, column: u64, w: u64) -> u64
-    ensures { λ r. ⌜ r ≡ trancheFault i before amount column w ⌝ }
+// The fault of a maturity: with a reporting date the day is judged first, then the months that it gives.
+fn maturity_fault(reported: u64, w: u64) -> u64
+    ensures { λ r. ⌜ r ≡ maturityFault reported w ⌝ }
+{
+    if !maturity_dated(reported, w) {
+        return 17;
+    }
+    unless(10, within(1, MONTHS, maturity_months(reported, w)))
+}
+
+// The fault of a tranche row's word, by its column; the reporting date is 0 where maturities are in months.
+pub fn tranche_fault(reported: u64, i: u64, before: u64, amount: u64, column: u64, w: u64) -> u64
+    ensures { λ r. ⌜ r ≡ trancheFault reported i before amount column w ⌝ }
 {
     if column == 0 {
         return unless(8, within(1, TRANCHE_AMOUNT, w));
@@ -153,7 +170,7 @@ pub fn tranche_fault(i: u64, before: u64, amount: u64, column: u64, w: u64) -> u
         return unless(9, class_in_order(i, before, w));
     }
     if column == 2 {
-        return unless(10, within(1, MONTHS, w));
+        return maturity_fault(reported, w);
     }
     if column == 3 {
         return unless(8, w <= amount);

@@ -1,6 +1,7 @@
 -- A sheet whose list of facts is filled with zeros: each of its words stands where `moved` says, so it has the same facts, rows and tranches, and its words
 -- get the same verdict, at the place that has moved. No axioms.
 use mathlib.Core.List.{List, _++_}
+use mathlib.Core.Logic.{inl}
 use mathlib.Core.Path.{_≡_, refl, sym, ap, _∙_}
 use Prim.Native.Nat.{ℕ, zero, suc, _+_, _-_, _≤_, _<_}
 use native.Mathlib.Nat.{add-zero, le-refl}
@@ -9,11 +10,10 @@ use lib.Dec.{ltb}
 use lib.ListN.{length, getD, take, drop, replicate, length-append, length-drop, length-replicate, getD-replicate, List·getD-append}
 use lib.Seq.{length-take-le, getD-append-add, getD-take, getD-drop}
 use borrow.Author.Tests.{lt-ltb, le-ltb, ne-eqb}
-use Rattle.numbers.proofs.Tests.{same-ltb, same-eqb}
+use Rattle.numbers.proofs.Tests.{within-is, same-ltb, same-eqb}
 use Rattle.faults.proofs.GoodWordsLaw.{fact-good}
-use Rattle.faults.proofs.FaultLaws.{within-is}
 use Rattle.limits.specs.SheetSize.{factsLeast, factsMost}
-use Rattle.judgement.specs.DealSheet.{word, resecuritisation, fact, poolAt, rows, rowAt, tranchesAt, trancheCount, trancheAt, amount, needed}
+use Rattle.judgement.specs.DealSheet.{word, resecuritisation, fact, reportingDate, poolAt, rows, rowAt, tranchesAt, trancheCount, trancheAt, amount, needed}
 use Rattle.judgement.specs.FilledFacts.{CanFill, filled, moved}
 use Rattle.judgement.specs.Refusals.{rowOf, fault, refused, judgeWith, judge, firstOf, judged, wordsFollow, wordsVerdict}
 use Rattle.judgement.specs.declared.Verdict.the-variants.{Sound}
@@ -160,6 +160,9 @@ module _ (n : ℕ) (s : List ℕ) (c : CanFill n s) where
     same-composition = rw (same-known-fact 4 (omega arith) (omega arith));
   }
 
+  pub filled-same-date : reportingDate f ≡ reportingDate s
+  filled-same-date = same-later-fact 6 (omega arith)
+
   -- ---- the faults of its words: a count is good, a fact keeps its fault, a zero has none, and a later word keeps its fault where it has moved
 
   fault-of-count : (fault f 0 ≡ 0) × (fault s 0 ≡ 0)
@@ -180,7 +183,7 @@ module _ (n : ℕ) (s : List ℕ) (c : CanFill n s) where
       let least : 1 ≤ p = omega (arith, pool-after) in
       fault-of-fact f p least (omega (arith, pool-moved)) ∙
       rw (zero-filled p after before)
-      (fact-good (resecuritisation f) p 0 least (record { pool-kind = λ _. refl; code = λ _. omega arith; mark = λ _ _. refl }))
+      (fact-good (resecuritisation f) p 0 least (record { pool-kind = λ _. refl; code = λ _ _. omega arith; mark = λ _ _. refl; reporting-date = λ _. inl refl }))
 
   -- a word that has moved with its section is as far behind the count as before, so its row and its column are the same
   same-distance : (at p : ℕ) → p + d - (at + d + 1) ≡ p - (at + 1)
@@ -206,6 +209,7 @@ module _ (n : ℕ) (s : List ℕ) (c : CanFill n s) where
         same-ltb d p (tranchesAt s),
         same-eqb d p (tranchesAt s),
         filled-same-facts .same-resecuritisation,
+        filled-same-date,
         same-distance (poolAt s) p,
         same-distance (tranchesAt s) p,
         before,

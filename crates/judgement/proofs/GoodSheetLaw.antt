@@ -1,4 +1,4 @@
--- A sheet keeps the limits of 01's "The deal sheet" and 02's S-1 just when each word that it needs is there and has no fault, and none follows. No axioms.
+-- A sheet keeps the limits of 01's "The deal sheet" and 02's S-1 and S-3 just when each word that it needs is there and has no fault, and none follows. No axioms.
 use mathlib.Core.List.{List}
 use mathlib.Core.Logic.{⊎-elim}
 use mathlib.Core.Path.{_≡_, ap, _∙_}
@@ -7,9 +7,9 @@ use native.Mathlib.Nat.{add-zero, eq-or-lt-of-le, eq-zero-or-pos}
 use native.Mathlib.Omega.{arith}
 use Rattle.limits.specs.SheetSize.{factsLeast, factsMost, rowsMost, tranchesMost}
 use Rattle.faults.specs.WordFaults.{rowFault, trancheFault}
-use Rattle.faults.proofs.FaultLaws.{within-is}
-use Rattle.faults.proofs.GoodWordsLaw.{fact-good, exposure-good, nominal-good, weight-good, row-status-good, class-good, amount-good, months-good, held-good, first-good, second-good, third-good}
-use Rattle.judgement.specs.DealSheet.{word, resecuritisation, poolAt, rows, rowAt, tranchesAt, trancheCount, trancheAt, amount, class, needed}
+use Rattle.numbers.proofs.Tests.{within-is}
+use Rattle.faults.proofs.GoodWordsLaw.{fact-good, exposure-good, nominal-good, weight-good, row-status-good, class-good, amount-good, maturity-good, held-good, first-good, second-good, third-good}
+use Rattle.judgement.specs.DealSheet.{word, resecuritisation, reportingDate, poolAt, rows, rowAt, tranchesAt, trancheCount, trancheAt, amount, class, needed}
 use Rattle.judgement.specs.Refusals.{fault}
 use Rattle.judgement.specs.Judged.{WordsGood}
 use Rattle.judgement.specs.GoodSheet.{GoodRowOf, GoodSheet}
@@ -51,17 +51,17 @@ row-sound s i (suc (suc (suc (suc c)))) g column = absurd (omega arith)
 
 tranche-sound :
     (s : List ℕ) (i c : ℕ) → GoodSheet s → i < trancheCount s → c < 7 →
-    trancheFault i (class s (i - 1)) (amount s i) c (word s (trancheAt s i + c)) ≡ 0
+    trancheFault (reportingDate s) i (class s (i - 1)) (amount s i) c (word s (trancheAt s i + c)) ≡ 0
 tranche-sound s i c g row = by-column c
   where
-    by-column : (c : ℕ) → c < 7 → trancheFault i (class s (i - 1)) (amount s i) c (word s (trancheAt s i + c)) ≡ 0
-    by-column zero h = rw (add-zero (trancheAt s i)) (amount-good i (class s (i - 1)) _ _ _ _ _ _ (g .each-tranche i row))
-    by-column (suc zero) h = class-good i (class s (i - 1)) (amount s i) (class s i) (g .each-class i row)
-    by-column (suc (suc zero)) h = months-good i (class s (i - 1)) _ _ _ _ _ _ (g .each-tranche i row)
-    by-column (suc (suc (suc zero))) h = held-good i (class s (i - 1)) _ _ _ _ _ _ (g .each-tranche i row)
-    by-column (suc (suc (suc (suc zero)))) h = first-good i (class s (i - 1)) _ _ _ _ _ _ (g .each-tranche i row)
-    by-column (suc (suc (suc (suc (suc zero))))) h = second-good i (class s (i - 1)) _ _ _ _ _ _ (g .each-tranche i row)
-    by-column (suc (suc (suc (suc (suc (suc zero)))))) h = third-good i (class s (i - 1)) _ _ _ _ _ _ (g .each-tranche i row)
+    by-column : (c : ℕ) → c < 7 → trancheFault (reportingDate s) i (class s (i - 1)) (amount s i) c (word s (trancheAt s i + c)) ≡ 0
+    by-column zero h = rw (add-zero (trancheAt s i)) (amount-good (reportingDate s) i (class s (i - 1)) _ _ _ _ _ _ (g .each-tranche i row))
+    by-column (suc zero) h = class-good (reportingDate s) i (class s (i - 1)) (amount s i) (class s i) (g .each-class i row)
+    by-column (suc (suc zero)) h = maturity-good (reportingDate s) i (class s (i - 1)) _ _ _ _ _ _ (g .each-tranche i row)
+    by-column (suc (suc (suc zero))) h = held-good (reportingDate s) i (class s (i - 1)) _ _ _ _ _ _ (g .each-tranche i row)
+    by-column (suc (suc (suc (suc zero)))) h = first-good (reportingDate s) i (class s (i - 1)) _ _ _ _ _ _ (g .each-tranche i row)
+    by-column (suc (suc (suc (suc (suc zero))))) h = second-good (reportingDate s) i (class s (i - 1)) _ _ _ _ _ _ (g .each-tranche i row)
+    by-column (suc (suc (suc (suc (suc (suc zero)))))) h = third-good (reportingDate s) i (class s (i - 1)) _ _ _ _ _ _ (g .each-tranche i row)
     by-column (suc (suc (suc (suc (suc (suc (suc c))))))) h = absurd (omega arith)
 
 -- ---- a sheet that keeps the limits has no bad word

@@ -12,7 +12,7 @@ use lib.ListN.{length}
 use borrow.Author.Tests.{ltb-true, ltb-false, eqb-false, lt-ltb, le-ltb, eq-eqb, ne-eqb}
 use Rattle.limits.specs.SheetSize.{factsLeast, factsMost, rowsMost, rowSize, tranchesMost, trancheSize, wordLimit}
 use Rattle.faults.proofs.FaultNumbers.{WordNumber, picked, count-number, fact-number, row-number, tranche-number}
-use Rattle.judgement.specs.DealSheet.{word, resecuritisation, poolAt, tranchesAt, amount, class, needed}
+use Rattle.judgement.specs.DealSheet.{word, resecuritisation, reportingDate, poolAt, tranchesAt, amount, class, needed}
 use Rattle.judgement.specs.Refusals.{rowOf, columnOf, fault, refused, judgeWith, judge, judged, wordsFollow, wordsVerdict}
 use Rattle.judgement.specs.Judged.{GoodWord, GoodBelow, BadHere, bad, missing, FirstBad, WordsGood, WordsRefusal, first-bad, words-follow}
 use Rattle.judgement.specs.declared.Refusal.{Refusal}
@@ -203,7 +203,7 @@ fault-number s p =
     (row-number (resecuritisation s) (columnOf rowSize (poolAt s) p) (word s p))
     (picked (eqb p (tranchesAt s)) _ _ (count-number 1 tranchesMost (word s p))
     (let i = rowOf trancheSize (tranchesAt s) p in
-    tranche-number i (class s (i - 1)) (amount s i) (columnOf trancheSize (tranchesAt s) p) (word s p))))))
+    tranche-number (reportingDate s) i (class s (i - 1)) (amount s i) (columnOf trancheSize (tranchesAt s) p) (word s p))))))
 
 pub words-number : (s : List ℕ) (r : Refusal) → WordsRefusal s r → WordNumber (r .number)
 words-number s r (first-bad b) = at-place (b .here)

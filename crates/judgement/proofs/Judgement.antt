@@ -9,7 +9,7 @@ use native.Mathlib.Omega.{arith}
 use lib.Dec.{ltb, eqb}
 use lib.ListN.{length}
 use borrow.Author.Tests.{ltb-true, eqb-true, lt-ltb, le-ltb, eq-eqb, ne-eqb}
-use Rattle.judgement.specs.DealSheet.{word, resecuritisation, poolAt, rows, rowAt, tranchesAt, trancheCount, trancheAt, amount, class}
+use Rattle.judgement.specs.DealSheet.{word, resecuritisation, reportingDate, poolAt, rows, rowAt, tranchesAt, trancheCount, trancheAt, amount, class}
 use Rattle.limits.specs.SheetSize.{factsLeast, factsMost, rowsMost, tranchesMost}
 use Rattle.faults.specs.WordFaults.{countFault, factFault, rowFault, trancheFault}
 use Rattle.judgement.specs.Refusals.{rowOf, columnOf, fault, refused, judgeWith, judge, judged}
@@ -94,7 +94,7 @@ fault-of-tranche-count s =
 fault-in-tranches :
     (s : List ℕ) (p : ℕ) → tranchesAt s < p →
     let i = rowOf 7 (tranchesAt s) p in
-    fault s p ≡ trancheFault i (class s (i - 1)) (amount s i) (columnOf 7 (tranchesAt s) p) (word s p)
+    fault s p ≡ trancheFault (reportingDate s) i (class s (i - 1)) (amount s i) (columnOf 7 (tranchesAt s) p) (word s p)
 unfolding fault
 fault-in-tranches s p after =
     let pool : poolAt s < p = omega (arith, tranches-at-past-rows s) in
@@ -108,14 +108,14 @@ fault-in-tranches s p after =
 
 pub fault-of-tranche :
     (s : List ℕ) (i c : ℕ) → c < 7 →
-    fault s (trancheAt s i + c) ≡ trancheFault i (class s (i - 1)) (amount s i) c (word s (trancheAt s i + c))
+    fault s (trancheAt s i + c) ≡ trancheFault (reportingDate s) i (class s (i - 1)) (amount s i) c (word s (trancheAt s i + c))
 fault-of-tranche s i c column =
     let p = trancheAt s i + c in
     let row : rowOf 7 (tranchesAt s) (trancheAt s i + c) ≡ i = omega arith in
     let is : columnOf 7 (tranchesAt s) (trancheAt s i + c) ≡ c = omega arith in
     fault-in-tranches s p (omega arith) ∙
-    ap (λ (j : ℕ). trancheFault j (class s (j - 1)) (amount s j) (columnOf 7 (tranchesAt s) p) (word s p)) row ∙
-    ap (λ (k : ℕ). trancheFault i (class s (i - 1)) (amount s i) k (word s p)) is
+    ap (λ (j : ℕ). trancheFault (reportingDate s) j (class s (j - 1)) (amount s j) (columnOf 7 (tranchesAt s) p) (word s p)) row ∙
+    ap (λ (k : ℕ). trancheFault (reportingDate s) i (class s (i - 1)) (amount s i) k (word s p)) is
 
 -- ---- a place in a section of `count` rows of `size` words, whose count is at place `at`, is one of a row's columns
 

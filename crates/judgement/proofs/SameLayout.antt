@@ -1,13 +1,12 @@
--- Two sheets whose counts are the same have their sections at the same places; and two whose words up to the pool's count are the same have the same facts. No axioms.
+-- Two sheets whose counts are the same have their sections at the same places; and two whose words before the pool's count are the same have the same facts. No axioms.
 use mathlib.Core.List.{List}
 use mathlib.Core.Path.{_≡_, sym, ap, _∙_}
 use Prim.Native.Nat.{ℕ, _+_, _≤_, _<_}
-use native.Mathlib.Nat.{le-refl}
 use native.Mathlib.Omega.{arith}
 use borrow.Author.Tests.{leb-true, leb-false, lt-leb}
 use Rattle.numbers.proofs.Tests.{at-cond}
 use Rattle.limits.specs.SheetSize.{factsLeast}
-use Rattle.judgement.specs.DealSheet.{word, resecuritisation, dueDiligence, compositionKnown, hasFact, fact, stc, poolAt, rows, tranchesAt, trancheCount, needed}
+use Rattle.judgement.specs.DealSheet.{word, resecuritisation, dueDiligence, compositionKnown, hasFact, fact, stc, reportingDate, poolAt, rows, tranchesAt, trancheCount, needed}
 use Rattle.judgement.proofs.NeededLaws.{tranches-end}
 
 pub record SameCounts (s s′ : List ℕ) : Type 0 where
@@ -17,11 +16,11 @@ pub record SameCounts (s s′ : List ℕ) : Type 0 where
   pub tranche-count : trancheCount s′ ≡ trancheCount s
 
 pub same-counts :
-    (s s′ : List ℕ) → ((p : ℕ) → p ≤ poolAt s → word s′ p ≡ word s p) → word s′ (tranchesAt s) ≡ word s (tranchesAt s) → SameCounts s s′
+    (s s′ : List ℕ) → word s′ 0 ≡ word s 0 → word s′ (poolAt s) ≡ word s (poolAt s) → word s′ (tranchesAt s) ≡ word s (tranchesAt s) → SameCounts s s′
 unfolding poolAt rows tranchesAt trancheCount
-same-counts s s′ before count =
-    let pool : poolAt s′ ≡ poolAt s = ap (λ (w : ℕ). 1 + w) (before 0 (omega arith)) in
-    let many : rows s′ ≡ rows s = ap (word s′) pool ∙ before (poolAt s) (le-refl _) in
+same-counts s s′ facts row-count count =
+    let pool : poolAt s′ ≡ poolAt s = ap (λ (w : ℕ). 1 + w) facts in
+    let many : rows s′ ≡ rows s = ap (word s′) pool ∙ row-count in
     let place : tranchesAt s′ ≡ tranchesAt s = omega arith in
     record {
       pool-at = pool;
@@ -33,7 +32,7 @@ same-counts s s′ before count =
 pub same-needed : (s s′ : List ℕ) → SameCounts s s′ → needed s′ ≡ needed s
 same-needed s s′ counts = omega (arith, tranches-end s, tranches-end s′, counts .tranches-at, counts .tranche-count)
 
--- ---- facts
+-- ---- the facts that the terms of a deal read, all but the reporting date
 
 pub record SameFacts (s s′ : List ℕ) : Type 0 where
   pub same-resecuritisation : resecuritisation s′ ≡ resecuritisation s
@@ -53,13 +52,20 @@ same-fact s s′ n longer kept ended =
     (λ past. ended (omega (arith, leb-false n _ past)) (omega (arith, leb-true n _ within))))
     (λ past. sym (simp (lt-leb n (word s 0) (omega (arith, leb-false n _ past)))))
 
-pub same-facts : (s s′ : List ℕ) → ((p : ℕ) → p ≤ poolAt s → word s′ p ≡ word s p) → factsLeast < poolAt s → SameFacts s s′
+-- the facts of two lists of the same length
+same-listed-fact :
+    (s s′ : List ℕ) (n : ℕ) → word s′ 0 ≡ word s 0 → (n < poolAt s → word s′ n ≡ word s n) → fact s′ n ≡ fact s n
 unfolding poolAt
+same-listed-fact s s′ n count kept = same-fact s s′ n (omega arith) (λ h. kept (omega arith)) (λ h l. absurd (omega arith))
+
+pub same-facts : (s s′ : List ℕ) → ((p : ℕ) → p < 6 → p < poolAt s → word s′ p ≡ word s p) → factsLeast < poolAt s → SameFacts s s′
 same-facts s s′ before facts =
-    let count = before 0 (omega arith) in
     record {
-      same-resecuritisation = rw (before 2 (omega arith));
-      same-stc = rw (same-fact s s′ 5 (omega arith) (λ h. before 5 (omega arith)) (λ h l. absurd (omega arith)));
-      same-diligence = rw (before 3 (omega arith));
-      same-composition = rw (before 4 (omega arith));
+      same-resecuritisation = rw (before 2 (omega arith) (omega arith));
+      same-stc = rw (same-listed-fact s s′ 5 (before 0 (omega arith) (omega arith)) (before 5 (omega arith)));
+      same-diligence = rw (before 3 (omega arith) (omega arith));
+      same-composition = rw (before 4 (omega arith) (omega arith));
     }
+
+pub same-reporting-date : (s s′ : List ℕ) → ((p : ℕ) → p < poolAt s → word s′ p ≡ word s p) → factsLeast < poolAt s → reportingDate s′ ≡ reportingDate s
+same-reporting-date s s′ before facts = same-listed-fact s s′ 6 (before 0 (omega arith)) (before 6)

@@ -14,7 +14,7 @@ use Rattle.faults.specs.WordFaults.{rowFault, trancheFault}
 use Rattle.faults.specs.GoodWords.{GoodFact, NextClass, GoodClass}
 use Rattle.faults.proofs.FaultLaws.{no-fault-within}
 use Rattle.faults.proofs.GoodWordsLaw.{good-fact, good-row as row-of-words, good-class, good-tranche as tranche-of-words}
-use Rattle.judgement.specs.DealSheet.{word, resecuritisation, hasFact, fact, stc, poolAt, rows, rowAt, exposure, nominal, riskWeight, status, tranchesAt, trancheCount, trancheAt, amount, class, months, held, firstRating, secondRating, thirdRating, needed}
+use Rattle.judgement.specs.DealSheet.{word, resecuritisation, hasFact, fact, stc, reportingDate, poolAt, rows, rowAt, exposure, nominal, riskWeight, status, tranchesAt, trancheCount, trancheAt, amount, class, maturity, held, firstRating, secondRating, thirdRating, needed}
 use Rattle.judgement.specs.Refusals.{judge, judged}
 use Rattle.judgement.specs.GoodSheet.{GoodRowOf, GoodTrancheOf}
 use Rattle.judgement.specs.declared.Verdict.the-variants.{Sound}
@@ -142,13 +142,13 @@ good-row s i e row =
 
 good-in-tranche :
     (s : List ℕ) (i c : ℕ) → judged s (needed s) ≡ Sound → i < trancheCount s → c < 7 →
-    trancheFault i (class s (i - 1)) (amount s i) c (word s (trancheAt s i + c)) ≡ 0
+    trancheFault (reportingDate s) i (class s (i - 1)) (amount s i) c (word s (trancheAt s i + c)) ≡ 0
 good-in-tranche s i c e row column =
     sym (fault-of-tranche s i c column) ∙ good-word s (needed s) (trancheAt s i + c) e (tranche-word-needed s i c row column) .1
 
 pub good-class-of :
     (s : List ℕ) (i : ℕ) → judged s (needed s) ≡ Sound → i < trancheCount s → GoodClass i (class s (i - 1)) (class s i)
-good-class-of s i e row = good-class i (class s (i - 1)) (amount s i) (class s i) (good-in-tranche s i 1 e row (omega arith))
+good-class-of s i e row = good-class (reportingDate s) i (class s (i - 1)) (amount s i) (class s i) (good-in-tranche s i 1 e row (omega arith))
 
 -- "The first row has class 1"
 pub first-class : (s : List ℕ) → judged s (needed s) ≡ Sound → class s 0 ≡ 1
@@ -177,7 +177,7 @@ class-within s (suc i) e row =
 
 pub good-tranche : (s : List ℕ) (i : ℕ) → judged s (needed s) ≡ Sound → i < trancheCount s → GoodTrancheOf s i
 good-tranche s i e row =
-    tranche-of-words i (class s (i - 1)) (amount s i) (months s i) (held s i) (firstRating s i) (secondRating s i) (thirdRating s i)
+    tranche-of-words (reportingDate s) i (class s (i - 1)) (amount s i) (maturity s i) (held s i) (firstRating s i) (secondRating s i) (thirdRating s i)
     (rw (add-zero (trancheAt s i)) at (good-in-tranche s i 0 e row (omega arith)))
     (good-in-tranche s i 2 e row (omega arith))
     (good-in-tranche s i 3 e row (omega arith))

@@ -1,4 +1,4 @@
--- 01, "The deal sheet", and 02, S-1, for the fifth fact: where each word of a sheet stands. Places are counted from 0. A count is read as it stands, however
+-- 01, "The deal sheet", and 02, S-1, for the fifth fact, and S-3, for the sixth and for maturities: where each word of a sheet stands. Places are counted from 0. A count is read as it stands, however
 -- wrong: a wrong count is itself the first fault of its sheet (Refusals.antt).
 use mathlib.Core.Bool.{Bool, cond}
 use mathlib.Core.List.{List}
@@ -6,6 +6,7 @@ use Prim.Native.Nat.{ℕ, _+_, _*_}
 use lib.Dec.{leb, eqb}
 use lib.ListN.{getD}
 use Rattle.limits.specs.SheetSize.{rowSize, trancheSize}
+use Rattle.dates.specs.Maturity.{maturityMonths}
 use Rattle.judgement.specs.declared.Layout.{Layout}
 
 -- the word at a place (0 past the end)
@@ -35,6 +36,10 @@ fact s n = cond (hasFact s n) (word s n) 0
 -- 02, S-1: "simple, transparent and comparable deals. A fifth fact says so (0 no, 1 yes); a sheet with four facts counts as 0."
 abbrev pub stc : List ℕ → Bool
 stc s = eqb (fact s 5) 1
+
+-- 02, S-3: "A sixth fact is the reporting date, ...; 0 or absent means months as before."
+abbrev pub reportingDate : List ℕ → ℕ
+reportingDate s = fact s 6
 
 -- ---- "Pool, count 1 to 1,000. A row: exposure amount and nominal amount, ...; risk weight in whole percent, ...; status ..."
 
@@ -82,8 +87,13 @@ amount s i = word s (trancheAt s i)
 abbrev pub class : List ℕ → ℕ → ℕ
 class s i = word s (trancheAt s i + 1)
 
+-- the word of the final legal maturity: months, or "With a date, the maturity word is a date too."
+abbrev pub maturity : List ℕ → ℕ → ℕ
+maturity s i = word s (trancheAt s i + 2)
+
+-- the months of the final legal maturity, which everything that depends on the maturity reads, however its word is written
 abbrev pub months : List ℕ → ℕ → ℕ
-months s i = word s (trancheAt s i + 2)
+months s i = maturityMonths (reportingDate s) (maturity s i)
 
 abbrev pub held : List ℕ → ℕ → ℕ
 held s i = word s (trancheAt s i + 3)
@@ -110,6 +120,7 @@ layout s = record {
   stc = stc s;
   diligence = dueDiligence s;
   composition = compositionKnown s;
+  «reporting_date» = reportingDate s;
   «first_row» = poolAt s + 1;
   rows = rows s;
   «first_tranche» = tranchesAt s + 1;

@@ -1,4 +1,4 @@
--- 01, "The deal sheet", and 02, S-1, in plain relations: the limits that every word of a good sheet keeps; those of a fact, a row and a tranche are in GoodWords.antt of
+-- 01, "The deal sheet", and 02, S-1 and S-3, in plain relations: the limits that every word of a good sheet keeps; those of a fact, a row and a tranche are in GoodWords.antt of
 -- `faults`. That a sheet keeps them just when each word it needs is there and has no fault, and none follows (`WordsGood`, Judged.antt), is proved in
 -- proofs/GoodSheetLaw.antt.
 use mathlib.Core.List.{List}
@@ -7,15 +7,15 @@ use Prim.Native.Nat.{ℕ, _-_, _≤_, _<_}
 use lib.ListN.{length}
 use Rattle.limits.specs.SheetSize.{factsLeast, factsMost, rowsMost, tranchesMost}
 use Rattle.faults.specs.GoodWords.{GoodFact, GoodRow, GoodTranche, GoodClass}
-use Rattle.judgement.specs.DealSheet.{word, resecuritisation, poolAt, rows, exposure, nominal, riskWeight, status, trancheCount, amount, class, months, held, firstRating, secondRating, thirdRating, needed}
+use Rattle.judgement.specs.DealSheet.{word, resecuritisation, reportingDate, poolAt, rows, exposure, nominal, riskWeight, status, trancheCount, amount, class, maturity, held, firstRating, secondRating, thirdRating, needed}
 
 abbrev pub GoodRowOf : List ℕ → ℕ → Type 0
 GoodRowOf s i = GoodRow (resecuritisation s) (exposure s i) (nominal s i) (riskWeight s i) (status s i)
 
 abbrev pub GoodTrancheOf : List ℕ → ℕ → Type 0
-GoodTrancheOf s i = GoodTranche (amount s i) (months s i) (held s i) (firstRating s i) (secondRating s i) (thirdRating s i)
+GoodTrancheOf s i = GoodTranche (reportingDate s) (amount s i) (maturity s i) (held s i) (firstRating s i) (secondRating s i) (thirdRating s i)
 
--- "Facts, count 4", with S-1 four or five; "Pool, count 1 to 1,000.", "Tranches, count 1 to 32.": the limits of the counts are those of SheetSize.antt of `limits`
+-- "Facts, count 4", with S-1 and S-3 four to six; "Pool, count 1 to 1,000.", "Tranches, count 1 to 32.": the limits of the counts are those of SheetSize.antt of `limits`
 pub record GoodSheet (s : List ℕ) : Type 0 where
   pub facts-least : factsLeast ≤ word s 0
   pub facts-most : word s 0 ≤ factsMost

@@ -1,4 +1,4 @@
--- 01, "Refusals, by who can cause them", and 02, S-1, for 16: the fault of each word of a sheet, and the order in which they are judged. The fault of a word by its value is in
+-- 01, "Refusals, by who can cause them", and 02, S-1, for 16, and S-3, for 17: the fault of each word of a sheet, and the order in which they are judged. The fault of a word by its value is in
 -- WordFaults.antt of `faults`.
 use mathlib.Core.Bool.{cond}
 use mathlib.Core.List.{List}
@@ -7,7 +7,7 @@ use lib.Dec.{ltb, eqb}
 use lib.ListN.{length}
 use Rattle.limits.specs.SheetSize.{factsLeast, factsMost, rowsMost, rowSize, tranchesMost, trancheSize}
 use Rattle.faults.specs.WordFaults.{countFault, factFault, rowFault, trancheFault}
-use Rattle.judgement.specs.DealSheet.{word, resecuritisation, poolAt, tranchesAt, amount, class, needed, layout}
+use Rattle.judgement.specs.DealSheet.{word, resecuritisation, reportingDate, poolAt, tranchesAt, amount, class, needed, layout}
 use Rattle.judgement.specs.Outcome.{Outcome, found, refusedBy, outcome}
 use Rattle.judgement.specs.declared.Layout.{Layout}
 use Rattle.judgement.specs.declared.Verdict.{Verdict}
@@ -33,7 +33,7 @@ fault s p =
     (cond (ltb p (tranchesAt s)) (rowFault (resecuritisation s) (columnOf rowSize (poolAt s) p) (word s p))
     (cond (eqb p (tranchesAt s)) (countFault 1 tranchesMost (word s p))
     (let i = rowOf trancheSize (tranchesAt s) p in
-    trancheFault i (class s (i - 1)) (amount s i) (columnOf trancheSize (tranchesAt s) p) (word s p))))))
+    trancheFault (reportingDate s) i (class s (i - 1)) (amount s i) (columnOf trancheSize (tranchesAt s) p) (word s p))))))
 
 -- ---- "Words are judged from place 0 upward and the first bad one decides, at its own place."
 

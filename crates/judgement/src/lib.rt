@@ -9,6 +9,7 @@ ghost use Rattle.judgement.specs.declared.Verdict.the-variants.{Sound};
 
 mod sheet;
 
+use crate::sheet::fact_at;
 use crate::sheet::layout_of;
 use crate::sheet::pool_at;
 use crate::sheet::row_at;
@@ -48,6 +49,7 @@ pub struct Layout {
     pub stc: bool,
     pub diligence: bool,
     pub composition: bool,
+    pub reporting_date: u64,
     pub first_row: usize,
     pub rows: u64,
     pub first_tranche: usize,
@@ -179,11 +181,12 @@ fn class_before(s: &[u64], i: u64) -> u64
     word_at(s, tranche_at(s, excess(i, 1)) + 1)
 }
 
-// The seven words of tranche i.
+// The seven words of tranche i. Its maturity is judged by the reporting date, which is 0 where the sheet has none.
 fn judge_tranche(s: &[u64], i: u64) -> Verdict
     requires { ⌜ (judged (now s) (trancheAt (now s) i) ≡ Sound) × (i < trancheCount (now s)) ⌝ }
     ensures { λ r. ⌜ r ≡ judged (now (s .entry)) (trancheAt (now (s .entry)) (i + 1)) ⌝ }
 {
+    let reported = fact_at(s, 6);
     let at = tranche_at(s, i);
     let before = class_before(s, i);
     let amount = word_at(s, at);
@@ -193,7 +196,7 @@ fn judge_tranche(s: &[u64], i: u64) -> Verdict
         let verdict = judge_word(
             s,
             p,
-            tranche_fault(i, before, amount, column, word_at(s, p)),
+            tranche_fault(reported, i, before, amount, column, word_at(s, p)),
         );
         let Verdict::Sound = verdict else {
             return verdict;

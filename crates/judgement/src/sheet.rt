@@ -16,7 +16,7 @@ pub(crate) fn word_at(s: &[u64], p: u64) -> u64
 }
 
 // Fact n, which not every sheet has; 0 where the list of facts is shorter.
-fn fact_at(s: &[u64], n: u64) -> u64
+pub(crate) fn fact_at(s: &[u64], n: u64) -> u64
     ensures { λ r. ⌜ r ≡ fact (now (s .entry)) n ⌝ }
 {
     if n <= word_at(s, 0) { word_at(s, n) } else { 0 }
@@ -83,6 +83,7 @@ pub(crate) fn layout_of(s: &[u64]) -> Layout
         stc: fact_at(s, 5) == 1,
         diligence: s[3] == 1,
         composition: s[4] == 1,
+        reporting_date: fact_at(s, 6),
         first_row: pool + 1,
         rows,
         first_tranche: tranches + 1,

@@ -1,14 +1,15 @@
--- 01, "The deal sheet": how many words a sheet, its rows and its results have, and "Refusals": how long a sheet's file may be; 02, S-1, for the fifth fact. Every
+-- 01, "The deal sheet": how many words a sheet, its rows and its results have, and "Refusals": how long a sheet's file may be; 02, S-1 and S-3, for the fifth and the sixth fact. Every
 -- limit that follows from another is worked out here from its parts.
 use Prim.Native.Nat.{ℕ, _+_, _*_}
 
--- ---- "Facts, count 4"; S-1: "A fifth fact says so (0 no, 1 yes); a sheet with four facts counts as 0.": four or five
+-- ---- "Facts, count 4"; S-1: "A fifth fact says so (0 no, 1 yes); a sheet with four facts counts as 0."; S-3: "A sixth fact is the reporting date, ...; 0 or absent means months as
+-- before.": four to six
 
 abbrev pub factsLeast : ℕ
 factsLeast = 4
 
 abbrev pub factsMost : ℕ
-factsMost = 5
+factsMost = 6
 
 -- ---- "Pool, count 1 to 1,000. A row: exposure amount and nominal amount, ...; risk weight in whole percent, ...; status ..."
 
@@ -30,12 +31,12 @@ trancheSize = 7
 
 -- ---- "Three sections in this order, each after its count"
 
--- the words of the longest sheet: three counts, facts, pool rows and tranches; 4,232
+-- the words of the longest sheet: three counts, facts, pool rows and tranches; 4,233
 abbrev pub wordLimit : ℕ
 wordLimit = 3 + factsMost + rowSize * rowsMost + trancheSize * tranchesMost
 
 -- "The file form is the same words, eight bytes each"; "15 (reading a file only): length not a multiple of 8 or over ... bytes": the bytes of the longest sheet. "Here and
--- later, each word a sheet may gain raises the byte limit of 15 by 8.": with 01's 33,848 for four facts it is 33,856, `byte-limit-is` (proofs/SheetSizeLaws.antt).
+-- later, each word a sheet may gain raises the byte limit of 15 by 8.": with 01's 33,848 for four facts it is 33,864, `byte-limit-is` (proofs/SheetSizeLaws.antt).
 abbrev pub byteLimit : ℕ
 byteLimit = 8 * wordLimit
 

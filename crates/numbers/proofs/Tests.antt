@@ -6,6 +6,7 @@ use Prim.Native.Nat.{ℕ, suc, _+_, _-_, _≤_, _<_}
 use native.Mathlib.Nat.{eq-zero-or-pos, lt-of-not-le, not-le-of-lt}
 use native.Mathlib.Omega.{arith}
 use lib.Dec.{T, leb, ltb, eqb}
+use Rattle.numbers.specs.Limits.{within}
 use borrow.Author.Tests.{leb-true, eqb-true, eqb-false, le-leb, lt-leb, eq-eqb, ne-eqb}
 
 pub and-both : (a b : Bool) → T (a && b) → T a × T b
@@ -17,11 +18,14 @@ both-true true b e = (refl, e)
 both-true false true e = (e, refl)
 both-true false false e = (e, e)
 
--- a number that is tested between two others lies between them
-pub between-true : (least most n : ℕ) → leb least n && leb n most ≡ true → (least ≤ n) × (n ≤ most)
+-- a number that is tested between two others lies between them, and one that lies there passes the test
+pub between-true : (least most n : ℕ) → within least most n ≡ true → (least ≤ n) × (n ≤ most)
 between-true least most n e =
     let both = both-true (leb least n) (leb n most) e in
     (leb-true least n (both .0), leb-true n most (both .1))
+
+pub within-is : (least most n : ℕ) → least ≤ n → n ≤ most → within least most n ≡ true
+within-is least most n h l = simp (le-leb least n h, le-leb n most l)
 
 pub neither-true : (a b : Bool) → a || b ≡ false → (a ≡ false) × (b ≡ false)
 neither-true true true e = (e, e)

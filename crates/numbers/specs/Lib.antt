@@ -1,3 +1,4 @@
 pub mod Rounding
+pub mod Limits
 pub mod Sum
 pub mod Permutation

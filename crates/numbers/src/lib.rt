@@ -1,5 +1,6 @@
 ghost use mathlib.Core.Path.{_≡_};
 ghost use Prim.Native.Nat.{_-_, min, max};
+ghost use Rattle.numbers.specs.Limits.{within};
 ghost use Rattle.numbers.specs.Rounding.{roundedUp};
 
 // The smaller of two numbers.
@@ -43,4 +44,14 @@ pub fn rounded_up(x: u64, y: u64) -> u64
     } else {
         quotient + 1
     }
+}
+
+// Whether a number is within limits, these included.
+pub fn within(least: u64, most: u64, n: u64) -> bool
+    ensures { λ r. ⌜ r ≡ within least most n ⌝ }
+{
+    if n < least {
+        return false;
+    }
+    n <= most
 }

@@ -11,18 +11,25 @@ const ORDINARY: &[u64] = &[0, 0, 1, 1];
 /// The same with the STC mark.
 const STC: &[u64] = &[0, 0, 1, 1, 1];
 
+/// Those of an ordinary deal with a reporting date.
+const DATED: &[u64] = &[0, 0, 1, 1, 0, 20_260_630];
+
 /// A row of the pool: exposure amount, nominal amount, risk weight, status.
 type Row = [u64; ROW_WORDS];
 
-/// A row of a tranche: amount, class, months, amount held, ratings.
+/// A row of a tranche: amount, class, maturity, amount held, ratings.
 type Tranche = [u64; TRANCHE_WORDS];
 
+/// Where a tranche's row holds its maturity.
+const MATURITY: usize = 2;
+
 /// The sheets on which the versions are compared, with their names in the table.
-pub fn compared() -> [(&'static str, Vec<u64>); 9] {
+pub fn compared() -> [(&'static str, Vec<u64>); 10] {
     [
         ("small: 3 rows, 3 tranches, one unrated", small()),
         ("small, all tranches rated", small_rated()),
         ("small, three ratings on each tranche", small_rated_thrice()),
+        ("small, all tranches rated, maturities as dates", small_dated()),
         ("small STC deal: 3 rows, 3 tranches, one unrated", small_stc()),
         ("small STC deal, all tranches rated", small_stc_rated()),
         ("large: 1,000 rows, 32 tranches", large()),
@@ -54,6 +61,17 @@ fn small_rated_thrice() -> Vec<u64> {
         tranche[TRANCHE_WORDS - 3..].copy_from_slice(&ratings);
     }
     sheet(ORDINARY, &few_rows(100), &tranches)
+}
+
+/// The small deal with all tranches rated, a reporting date and the maturities as dates that are as many months on: with a
+/// later day of the month, an earlier one and the same.
+fn small_dated() -> Vec<u64> {
+    let mut tranches = three_tranches(1_000_000_000, 14);
+    let maturities = [20_320_531, 20_310_615, 20_290_630];
+    for (tranche, maturity) in tranches.iter_mut().zip(maturities) {
+        tranche[MATURITY] = maturity;
+    }
+    sheet(DATED, &few_rows(100), &tranches)
 }
 
 /// The small deal as an STC deal: half the parameter, and the second rating table.
@@ -193,22 +211,26 @@ mod tests {
             assert!(needs_formula(&small.lines[2], small.charge));
         }
         let rated = |line: &Line| line.approach == Approach::SecErba.word();
-        for all_rated in [small_rated(), small_rated_thrice(), small_stc_rated()] {
+        for all_rated in [small_rated(), small_rated_thrice(), small_dated(), small_stc_rated()] {
             assert!(deal(&all_rated).lines.iter().all(rated));
         }
+    }
+
+    /// The weights of a sheet's lines.
+    fn weights(sheet: &[u64]) -> Vec<u64> {
+        deal(sheet).lines.iter().map(|line| line.amounts[0].weight).collect()
+    }
+
+    /// With maturities as dates each weight is that of the months.
+    #[test]
+    fn dates_are_as_many_months_on() {
+        assert_eq!(weights(&small_dated()), weights(&small_rated()));
     }
 
     /// With three ratings each weight is that of the middle one, and neither floor nor cap hides it: AA+ 30%, BBB and B+ as
     /// where they are alone.
     #[test]
     fn middle_ratings_count() {
-        let weights = |sheet: &[u64]| {
-            deal(sheet)
-                .lines
-                .iter()
-                .map(|line| line.amounts[0].weight)
-                .collect::<Vec<_>>()
-        };
         let (one, three) = (weights(&small_rated()), weights(&small_rated_thrice()));
         assert_eq!(three[0], 3_000);
         assert_eq!(three[1..], one[1..]);

@@ -1,5 +1,5 @@
-//! The numbers of an answer, by "The deal sheet" and "Refusals, by who can cause them" of document 01 and by S-1: the
-//! words of a line, the approaches, the refusals.
+//! The numbers of an answer, by "The deal sheet" and "Refusals, by who can cause them" of document 01, by S-1 and by
+//! S-3: the words of a line, the approaches, the refusals.
 
 use crate::sheet::TRANCHES;
 
@@ -72,6 +72,8 @@ pub mod refusal {
     pub const COUNT: u64 = 2;
     /// A fact is outside its codes.
     pub const FACT: u64 = 4;
+    /// A maturity is outside its months.
+    pub const MATURITY: u64 = 10;
     /// SEC-SA applies, A equals D, and D is above the pool charge.
     pub const THIN: u64 = 13;
     /// Results shorter than the lines.
@@ -80,6 +82,8 @@ pub mod refusal {
     pub const FILE_LENGTH: u64 = 15;
     /// An STC mark on a re-securitisation.
     pub const STC_RESECURITISATION: u64 = 16;
+    /// A date does not exist or is outside the years, or a maturity is not after the reporting date.
+    pub const DATE: u64 = 17;
 
     /// The numbers that a run must meet.
     pub const MET: &[u64] = &[
@@ -92,13 +96,14 @@ pub mod refusal {
         7,
         8,
         9,
-        10,
+        MATURITY,
         11,
         12,
         THIN,
         ROOM,
         FILE_LENGTH,
         STC_RESECURITISATION,
+        DATE,
     ];
 
     /// The place of a number in the list.
@@ -140,7 +145,7 @@ mod tests {
         assert!((0..)
             .zip(refusal::MET)
             .all(|(place, &number)| refusal::place(number) == place));
-        let of_words = [refusal::MISSING, refusal::THIN, refusal::STC_RESECURITISATION];
+        let of_words = [refusal::MISSING, refusal::THIN, refusal::DATE];
         assert!(!refusal::is_of_words(0) && of_words.into_iter().all(refusal::is_of_words));
         assert!(!refusal::is_of_words(refusal::ROOM) && !refusal::is_of_words(refusal::FILE_LENGTH));
     }

@@ -2,6 +2,7 @@
 
 use crate::answer::LINE_WORDS;
 use crate::damage;
+use crate::dates;
 use crate::kind::{File, Kind, Relation, Room};
 use crate::limits;
 use crate::pool;
@@ -68,6 +69,7 @@ impl Case {
             Kind::draw_sound(&mut random)
         };
         fill_deal(sound, &mut random, &mut self.deal);
+        dates::state(self.kind, sound, &mut random, &mut self.deal);
         self.deal.write(&mut self.sheet);
         self.room_kind = Room::draw(&mut random);
         self.room = self.room_kind.words(LINE_WORDS * self.deal.tranches.len(), &mut random);
@@ -78,17 +80,21 @@ impl Case {
         self.make_file(&mut random);
     }
 
-    /// Makes the second sheet. A fact is added to damaged sheets too; the other second sheets are made of sound ones.
+    /// Makes the second sheet. Facts are added to damaged sheets too, and months take the place of dates in them; the
+    /// other second sheets are made of sound ones.
     fn make_second(&mut self, random: &mut Random) {
         let drawn = Relation::draw(random);
+        let layout = self.deal.layout();
         let possible = match drawn {
-            Relation::FactAdded => takes_fact(&self.sheet),
+            Relation::FactsAdded => takes_facts(&self.sheet),
+            Relation::MonthsForDates => dates::are_good(&self.sheet, &layout),
             _ => self.kind.is_sound(),
         };
         self.relation = if possible { drawn } else { Relation::Unused };
         match self.relation {
             Relation::Unused => return,
-            Relation::FactAdded => return add_fact(&self.sheet, &mut self.second),
+            Relation::FactsAdded => return add_facts(random, &self.sheet, &mut self.second),
+            Relation::MonthsForDates => return dates::write_months(&self.sheet, &layout, &mut self.second),
             Relation::RowOrder => random.shuffle(&mut self.deal.rows),
             Relation::RatingOrder => {
                 let tranches = self.deal.tranches.iter_mut();
@@ -124,18 +130,22 @@ impl Case {
     }
 }
 
-/// Whether a sheet can state one fact more: it states fewer than the most and has all of those.
-fn takes_fact(sheet: &[u64]) -> bool {
+/// Whether a sheet can state more facts: it states fewer than the most and has all of those.
+fn takes_facts(sheet: &[u64]) -> bool {
     let stated = sheet.first().copied().unwrap_or(0);
     (FEWEST_FACTS..FACTS).contains(&stated) && sheet.len() > stated as usize
 }
 
-/// Writes the sheet with one fact more, of 0, over what the list holds.
-fn add_fact(sheet: &[u64], words: &mut Vec<u64>) {
+/// Writes the sheet with one or more facts added, of 0, over what the list holds.
+fn add_facts(random: &mut Random, sheet: &[u64], words: &mut Vec<u64>) {
+    let stated = sheet[Layout::FACTS_COUNT];
+    let filled = random.between(stated + 1, FACTS);
+    let (facts, sections) = sheet.split_at(Layout::FACTS_COUNT + 1 + stated as usize);
     words.clear();
-    words.extend(sheet);
-    words[Layout::FACTS_COUNT] += 1;
-    words.insert(words[Layout::FACTS_COUNT] as usize, 0);
+    words.extend(facts);
+    words[Layout::FACTS_COUNT] = filled;
+    words.extend((stated..filled).map(|_| 0));
+    words.extend(sections);
 }
 
 /// A length about that of the longest file: half of the time in whole words, from one word less to one more; now and
@@ -148,7 +158,7 @@ fn stretched_length(random: &mut Random) -> usize {
     }
 }
 
-/// Fills a deal of a sound kind: facts, pool and tranches.
+/// Fills a deal of a sound kind: facts up to the mark, pool and tranches, with maturities in months.
 fn fill_deal(kind: Kind, random: &mut Random, deal: &mut Deal) {
     if kind == Kind::Limits {
         return limits::fill(random, deal);

@@ -43,8 +43,8 @@ fn check_second(
 ) -> Result<(), Difference> {
     let compared = match case.relation {
         Relation::Unused => true,
-        Relation::RowOrder => second::compare_order(Part::RowOrder, library, case, lent).map(|()| true)?,
-        Relation::RatingOrder => second::compare_order(Part::RatingOrder, library, case, lent).map(|()| true)?,
+        Relation::RowOrder => second::compare_same(Part::RowOrder, library, case, lent).map(|()| true)?,
+        Relation::RatingOrder => second::compare_same(Part::RatingOrder, library, case, lent).map(|()| true)?,
         Relation::OtherRatings => second::compare_other_ratings(library, case, lent)?,
         Relation::WithoutCap => expected.as_ref().is_ok_and(|deal| {
             if second::cap_decided(deal, case) {
@@ -52,7 +52,8 @@ fn check_second(
             }
             true
         }),
-        Relation::FactAdded => second::compare_fact_added(library, case, lent).map(|()| true)?,
+        Relation::FactsAdded => second::compare_facts_added(library, case, lent).map(|()| true)?,
+        Relation::MonthsForDates => second::compare_same(Part::MonthsForDates, library, case, lent).map(|()| true)?,
     };
     if compared {
         tally.note_second(case.relation);

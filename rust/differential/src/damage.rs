@@ -1,11 +1,13 @@
 //! Damage to sheets, so that every refusal and every order of faults occurs.
 
+use crate::dates;
 use crate::kind::Kind;
 use crate::random::Random;
 use crate::sheet::{
-    status, Fact, Facts, Layout, RowWord, TrancheWord, FACTS, FEWEST_FACTS, LONG_TERM, MONTHS, POOL_AMOUNT,
+    status, Fact, Facts, Layout, RowWord, TrancheWord, DAYS, FACTS, FEWEST_FACTS, LONG_TERM, MONTHS, POOL_AMOUNT,
     RISK_WEIGHT, ROWS, SHORT_TERM, TRANCHES, TRANCHE_AMOUNT,
 };
+use independent::date::Date;
 
 /// Values at which some field's rule changes, and the ends of 32, 63 and 64 bits.
 const EDGES: &[u64] = &[
@@ -14,6 +16,7 @@ const EDGES: &[u64] = &[
     status::NOT_KNOWN,
     status::TRANCHE,
     FEWEST_FACTS,
+    FACTS - 1,
     FACTS,
     FACTS + 1,
     LONG_TERM.1,
@@ -40,6 +43,10 @@ const EDGES: &[u64] = &[
     TRANCHE_AMOUNT - 1,
     TRANCHE_AMOUNT,
     TRANCHE_AMOUNT + 1,
+    DAYS.0 - 1,
+    DAYS.0,
+    DAYS.1,
+    DAYS.1 + 1,
     (1 << 32) - 1,
     1 << 32,
     (1 << 32) + 1,
@@ -59,6 +66,7 @@ pub fn apply(kind: Kind, random: &mut Random, layout: Layout, words: &mut Vec<u6
         Kind::Swapped => swap(random, layout, words),
         Kind::PoolKind => set(words, Layout::fact(Fact::PoolKind), random.between(1, 2)),
         Kind::StcMark => mark_resecuritisation(random, words),
+        Kind::BadDate => set_bad_date(random, layout, words),
         Kind::SeveralDamages => {
             for _ in 0..random.between(2, 4) {
                 apply(one_damage(random), random, layout, words);
@@ -71,7 +79,13 @@ pub fn apply(kind: Kind, random: &mut Random, layout: Layout, words: &mut Vec<u6
 
 /// One of several damages; those that leave the places as they are come more often.
 fn one_damage(random: &mut Random) -> Kind {
-    let rare = random.pick(&[Kind::Truncated, Kind::WordsAdded, Kind::PoolKind, Kind::StcMark]);
+    let rare = random.pick(&[
+        Kind::Truncated,
+        Kind::WordsAdded,
+        Kind::PoolKind,
+        Kind::StcMark,
+        Kind::BadDate,
+    ]);
     random.pick(&[Kind::EdgeWord, Kind::EdgeWord, Kind::EdgeWord, Kind::Swapped, rare])
 }
 
@@ -87,11 +101,26 @@ fn set(words: &mut [u64], place: usize, word: u64) {
 fn mark_resecuritisation(random: &mut Random, words: &mut Vec<u64>) {
     let place = Layout::fact(Fact::Stc);
     if words.first() == Some(&FEWEST_FACTS) && words.len() >= place {
-        words[Layout::FACTS_COUNT] = FACTS;
+        words[Layout::FACTS_COUNT] = Fact::Stc.number();
         words.insert(place, 0);
     }
     set(words, Layout::fact(Fact::Resecuritisation), 1);
     set(words, place, random.pick(&[1, 1, 1, 2, u64::MAX]));
+}
+
+/// Sets a maturity of a sheet with a reporting date to a bad one; now and then, and in a sheet without that date, the
+/// word at the date's place to one that names no day.
+fn set_bad_date(random: &mut Random, layout: Layout, words: &mut [u64]) {
+    let place = Layout::fact(Fact::ReportingDate);
+    let tranche = random.below(layout.tranches as u64) as usize;
+    let from = words.get(place).and_then(|&word| Date::of_word(word));
+    match from.filter(|_| !random.once_in(4)) {
+        Some(from) => {
+            let maturity = dates::bad_maturity(random, from);
+            set(words, layout.tranche_word(tranche, TrancheWord::Maturity), maturity);
+        }
+        None => set(words, place, dates::no_day(random)),
+    }
 }
 
 /// Cuts the sheet anywhere, or where a section begins or ends, or before the last fact.
@@ -135,7 +164,7 @@ fn own_edges(layout: Layout, place: usize) -> &'static [u64] {
     let of_row = |edges: &[&'static [u64]], first: usize| edges[(place - first) % edges.len()];
     let [facts, pool, tranches] = layout.counts();
     match place {
-        _ if place == facts => &[0, FEWEST_FACTS - 1, FEWEST_FACTS, FACTS, FACTS + 1],
+        _ if place == facts => &[0, FEWEST_FACTS - 1, FEWEST_FACTS, FACTS - 1, FACTS, FACTS + 1],
         _ if place < pool => of_row(Fact::EDGES, facts + 1),
         _ if place == pool => &[0, 1, ROWS, ROWS + 1],
         _ if place < tranches => of_row(RowWord::EDGES, pool + 1),
@@ -185,6 +214,9 @@ fn random_words(random: &mut Random, words: &mut Vec<u64>) {
         if random.once_in(2) {
             facts[Fact::Stc] = random.below(2 - facts[Fact::Resecuritisation]);
         }
+        if random.once_in(4) {
+            facts[Fact::ReportingDate] = random.pick(&[0, DAYS.0, DAYS.1]);
+        }
         facts.write(words);
         words.push(rows);
     }
@@ -211,15 +243,16 @@ mod tests {
             tranches: 2,
         };
         let counts = layout.counts().map(|place| own_edges(layout, place));
-        assert_eq!(counts[0], [0, 3, 4, 5, 6]);
+        assert_eq!(counts[0], [0, 3, 4, 5, 6, 7]);
         assert_eq!([counts[1][2], counts[2][2]], [ROWS, TRANCHES]);
-        let fact = own_edges(layout, Layout::fact(Fact::Stc));
-        assert_eq!(fact, Fact::EDGES[Fact::Stc as usize]);
+        for fact in [Fact::Stc, Fact::ReportingDate] {
+            assert_eq!(own_edges(layout, Layout::fact(fact)), Fact::EDGES[fact as usize]);
+        }
         for row in 0..2 {
             let weight = own_edges(layout, layout.row(row) + RowWord::RiskWeight as usize);
             assert_eq!(weight, [0, RISK_WEIGHT, RISK_WEIGHT + 1]);
-            let months = own_edges(layout, layout.tranche_word(row, TrancheWord::Months));
-            assert_eq!(months, [0, 1, MONTHS, MONTHS + 1]);
+            let maturity = own_edges(layout, layout.tranche_word(row, TrancheWord::Maturity));
+            assert_eq!(maturity[..4], [0, 1, MONTHS, MONTHS + 1]);
         }
     }
 

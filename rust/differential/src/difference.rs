@@ -30,8 +30,10 @@ pub enum Part {
     RatingOrder,
     /// A line changes with another tranche's ratings.
     OtherRatings,
-    /// The answer changes with a fact of 0 that is stated.
-    FactAdded,
+    /// The answer changes with facts of 0 that are stated.
+    FactsAdded,
+    /// The answer changes where months are stated in place of dates.
+    MonthsForDates,
     /// One side stopped with a panic.
     Panic,
 }
@@ -52,7 +54,8 @@ impl fmt::Display for Part {
             Part::RowOrder => "order of rows",
             Part::RatingOrder => "order of ratings",
             Part::OtherRatings => "another tranche's ratings",
-            Part::FactAdded => "a fact of 0 added",
+            Part::FactsAdded => "facts of 0 added",
+            Part::MonthsForDates => "months in place of dates",
             Part::Panic => "a panic",
         })
     }

@@ -68,11 +68,13 @@ pub enum Kind {
     PoolKind,
     /// An STC mark on a re-securitisation.
     StcMark,
+    /// A reporting date, and it or a maturity is a bad date.
+    BadDate,
 }
 
 impl Kind {
     /// All kinds, in the order of the enum.
-    pub const TABLE: [Entry<Kind>; 23] = [
+    pub const TABLE: [Entry<Kind>; 24] = [
         (Kind::Ordinary, "ordinary", 24),
         (Kind::Stc, "STC", 20),
         (Kind::Resecuritisation, "re-securitisation", 10),
@@ -96,6 +98,7 @@ impl Kind {
         (Kind::RandomWords, "random words", 4),
         (Kind::PoolKind, "pool kind 1 or 2", 1),
         (Kind::StcMark, "STC mark on a re-securitisation", 2),
+        (Kind::BadDate, "a bad date", 8),
     ];
 
     /// How many entries of the table, from its start, are kinds of sound sheets: those up to the one at the limits.
@@ -208,20 +211,23 @@ pub enum Relation {
     OtherRatings,
     /// Composition not known: shows by the independent answer whether the cap decided.
     WithoutCap,
-    /// One fact more is stated, of 0, which is what it counts as where it is not stated: the same answer, at the places
-    /// of the second sheet.
-    FactAdded,
+    /// More facts are stated, of 0, which is what they count as where they are not stated: the same answer, at the
+    /// places of the second sheet.
+    FactsAdded,
+    /// No reporting date, and months in place of dates: the same answer.
+    MonthsForDates,
 }
 
 impl Relation {
     /// All relations, in the order of the enum.
-    pub const TABLE: [Entry<Relation>; 6] = [
+    pub const TABLE: [Entry<Relation>; 7] = [
         (Relation::Unused, "no second sheet", 5),
         (Relation::RowOrder, "rows in another order", 1),
         (Relation::RatingOrder, "ratings in another order", 1),
         (Relation::OtherRatings, "another tranche's ratings", 1),
         (Relation::WithoutCap, "without the cap", 1),
-        (Relation::FactAdded, "a fact of 0 added", 2),
+        (Relation::FactsAdded, "facts of 0 added", 3),
+        (Relation::MonthsForDates, "months in place of dates", 2),
     ];
 
     /// Draws a relation.

@@ -75,7 +75,7 @@ fn fill_tranches(random: &mut Random, deal: &mut Deal) {
         deal.tranches.push(Tranche {
             amount,
             class,
-            months: months.word(random, 1, MONTHS),
+            maturity: months.word(random, 1, MONTHS),
             held: held.word(random, 0, amount),
             ratings: array::from_fn(|_| rating(ratings, random)),
         });

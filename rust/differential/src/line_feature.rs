@@ -207,6 +207,7 @@ mod tests {
                 kind: DealKind::Ordinary,
                 senior: false,
                 capped: false,
+                dates: None,
                 rated: None,
             })
         };

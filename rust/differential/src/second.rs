@@ -16,9 +16,10 @@ fn weigh(library: &Library, sheet: &[u64], room: usize, lent: &mut Lent) -> Weig
     (reply, lent.lines_of(&reply).to_vec())
 }
 
-/// The order of the pool's rows does not matter, since sums alone enter charge and points, and neither does the order of a
-/// tranche's ratings, since their weights are compared (S-2). The second sheet has the same answer and the same lines.
-pub fn compare_order(part: Part, library: &Library, case: &Case, lent: &mut Lent) -> Result<(), Difference> {
+/// The order of the pool's rows does not matter, since sums alone enter charge and points, and neither does the order
+/// of a tranche's ratings, since their weights are compared (S-2). Nor does the form of the maturities, since months
+/// alone are read (S-3). The second sheet has the same answer and the same lines.
+pub fn compare_same(part: Part, library: &Library, case: &Case, lent: &mut Lent) -> Result<(), Difference> {
     let first = weigh(library, &case.sheet, case.room, lent);
     let second = weigh(library, &case.second, case.room, lent);
     if first == second {
@@ -46,17 +47,19 @@ pub fn compare_other_ratings(library: &Library, case: &Case, lent: &mut Lent) ->
     Err(Difference::new(Part::OtherRatings, (first, first_lines), said))
 }
 
-/// A fact that is not stated counts as 0 (S-1): with one fact more, of 0, the answer and the lines are the same, and a
-/// place at or after the added word is one higher.
-pub fn compare_fact_added(library: &Library, case: &Case, lent: &mut Lent) -> Result<(), Difference> {
+/// A fact that is not stated counts as 0 (S-1 and S-3): with more facts, of 0, the answer and the lines are the same,
+/// and a place after the facts that were stated is higher by the words added.
+pub fn compare_facts_added(library: &Library, case: &Case, lent: &mut Lent) -> Result<(), Difference> {
     let mut first = weigh(library, &case.sheet, case.room, lent);
     let second = weigh(library, &case.second, case.room, lent);
-    let added = Layout::FACTS_COUNT as u64 + case.second[Layout::FACTS_COUNT];
-    first.0.place += u64::from(first.0.place >= added);
+    let [stated, filled] = [&case.sheet, &case.second].map(|sheet| sheet[Layout::FACTS_COUNT]);
+    if first.0.place > Layout::FACTS_COUNT as u64 + stated {
+        first.0.place += filled - stated;
+    }
     if first == second {
         return Ok(());
     }
-    Err(Difference::new(Part::FactAdded, first, (second, &case.second)))
+    Err(Difference::new(Part::FactsAdded, first, (second, &case.second)))
 }
 
 /// Whether the cap decided a line of an accepted sheet: with the composition not known, which takes the cap away, the
@@ -78,7 +81,7 @@ mod tests {
     use super::*;
     use crate::answer::LineWord;
     use crate::kind::Relation;
-    use crate::sheet::{Fact, RowWord, TrancheWord, FACTS};
+    use crate::sheet::{Fact, RowWord, TrancheWord, FACTS, FEWEST_FACTS};
 
     /// The proved library, with the pool's first exposure added to the charge: right sums, but the order of rows
     /// matters.
@@ -116,15 +119,35 @@ mod tests {
     /// The proved library, with places counted as in a sheet of the fewest facts.
     fn places_as_before(sheet: &[u64], results: &mut [u64]) -> Reply {
         let mut reply = (Library::PROVED.weigh)(sheet, results);
-        let fifth = Layout::fact(Fact::Stc) as u64;
-        reply.place -= u64::from(sheet.first() == Some(&FACTS) && reply.place > fifth);
+        let stated = sheet.first().copied().filter(|&facts| facts <= FACTS).unwrap_or(0);
+        if reply.place > stated {
+            reply.place -= stated.saturating_sub(FEWEST_FACTS);
+        }
         reply
     }
 
-    /// The proved library, with a charge of 1 more where a fifth fact is stated.
-    fn stated_fact_matters(sheet: &[u64], results: &mut [u64]) -> Reply {
+    /// The proved library, with a charge of 1 more where this fact is stated.
+    fn stated_fact_matters(fact: Fact, sheet: &[u64], results: &mut [u64]) -> Reply {
         let mut reply = (Library::PROVED.weigh)(sheet, results);
-        reply.charge += u64::from(reply.number == 0 && sheet[Layout::FACTS_COUNT] == FACTS);
+        reply.charge += u64::from(reply.number == 0 && sheet[Layout::FACTS_COUNT] >= fact.number());
+        reply
+    }
+
+    /// The proved library, with a charge of 1 more where there is a reporting date.
+    fn dates_matter(sheet: &[u64], results: &mut [u64]) -> Reply {
+        let mut reply = (Library::PROVED.weigh)(sheet, results);
+        if reply.number == 0 {
+            let date = Layout::of_sheet(sheet).fact_word(sheet, Fact::ReportingDate);
+            reply.charge += u64::from(date != 0);
+        }
+        reply
+    }
+
+    /// The proved library, with a place of 1 more on a refusal of a sheet with a reporting date.
+    fn dates_move_places(sheet: &[u64], results: &mut [u64]) -> Reply {
+        let mut reply = (Library::PROVED.weigh)(sheet, results);
+        let date = sheet.get(Layout::fact(Fact::ReportingDate));
+        reply.place += u64::from(reply.number != 0 && date.is_some_and(|&date| date != 0));
         reply
     }
 
@@ -136,24 +159,27 @@ mod tests {
         cases.filter(|case| compare(case).is_err()).count()
     }
 
-    /// A library for which the order of rows or of ratings matters is found out; the proved one is not.
+    /// A library for which the order of rows or of ratings matters, or the form of the maturities, in the answer or in
+    /// a refusal's place, is found out; the proved one is not.
     #[test]
-    fn orders_are_compared() {
+    fn orders_and_forms_are_compared() {
         let compare = |relation, part, weigh| {
             let library = Library {
                 weigh,
                 ..Library::PROVED
             };
             differences(relation, |case| {
-                compare_order(part, &library, case, &mut Lent::default())
+                compare_same(part, &library, case, &mut Lent::default())
             })
         };
-        assert!(compare(Relation::RowOrder, Part::RowOrder, order_matters) > 10);
-        assert!(compare(Relation::RatingOrder, Part::RatingOrder, rating_order_matters) > 10);
-        for (relation, part) in [
-            (Relation::RowOrder, Part::RowOrder),
-            (Relation::RatingOrder, Part::RatingOrder),
-        ] {
+        let rows = (Relation::RowOrder, Part::RowOrder);
+        let ratings = (Relation::RatingOrder, Part::RatingOrder);
+        let dates = (Relation::MonthsForDates, Part::MonthsForDates);
+        assert!(compare(rows.0, rows.1, order_matters) > 10);
+        assert!(compare(ratings.0, ratings.1, rating_order_matters) > 10);
+        assert!(compare(dates.0, dates.1, dates_matter) > 10);
+        assert!(compare(dates.0, dates.1, dates_move_places) > 10);
+        for (relation, part) in [rows, ratings, dates] {
             assert_eq!(compare(relation, part, Library::PROVED.weigh), 0);
         }
     }
@@ -182,12 +208,13 @@ mod tests {
                 weigh,
                 ..Library::PROVED
             };
-            differences(Relation::FactAdded, |case| {
-                compare_fact_added(&library, case, &mut Lent::default())
+            differences(Relation::FactsAdded, |case| {
+                compare_facts_added(&library, case, &mut Lent::default())
             })
         };
         assert!(compare(places_as_before) > 10);
-        assert!(compare(stated_fact_matters) > 10);
+        assert!(compare(|sheet, results| stated_fact_matters(Fact::Stc, sheet, results)) > 10);
+        assert!(compare(|sheet, results| stated_fact_matters(Fact::ReportingDate, sheet, results)) > 10);
         assert_eq!(compare(Library::PROVED.weigh), 0);
     }
 }

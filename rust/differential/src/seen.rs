@@ -1,8 +1,10 @@
 //! A line of an accepted sheet with what of the sheet bears on its weight ("Which approach, then floor, then cap", with
-//! S-1 for STC deals and S-2 for several ratings).
+//! S-1 for STC deals, S-2 for several ratings and S-3 for dates).
 
 use crate::answer::Approach;
+use crate::dates;
 use crate::sheet::{Fact, Layout, TrancheWord, RATINGS};
+use independent::date::Date;
 use independent::rating::{self, Table};
 use independent::sheet::Tranche;
 use independent::{Deal, Line};
@@ -47,6 +49,8 @@ pub struct Rated {
     pub weight: u64,
     /// The weight before floor and cap that the tranche would have in class 1: its senior figure.
     pub senior_weight: u64,
+    /// The weight before floor and cap that the tranche would have with a month more.
+    pub longer_weight: u64,
     /// The tranche's rating words.
     pub codes: [u64; RATINGS],
     /// The weight by each of the words alone, before floor and cap; none where the word is no rating.
@@ -54,11 +58,11 @@ pub struct Rated {
 }
 
 impl Rated {
-    /// What the table of the deal gives the tranche with these words, so thick.
-    fn new(kind: DealKind, words: &[u64; TrancheWord::COUNT], thickness: u64) -> Rated {
-        let &[amount, class, months, held, first, second, third] = words;
+    /// What the table of the deal gives the tranche with these words and months, so thick.
+    fn new(kind: DealKind, words: &[u64; TrancheWord::COUNT], months: u64, thickness: u64) -> Rated {
+        let &[amount, class, _, held, first, second, third] = words;
         let codes = [first, second, third];
-        let weight = |class, ratings| {
+        let weight = |class, months, ratings| {
             let tranche = Tranche {
                 amount,
                 class,
@@ -70,10 +74,11 @@ impl Rated {
             rating::weight(Table::of(kind == DealKind::Stc), &tranche, thickness)
         };
         Rated {
-            weight: weight(class, codes),
-            senior_weight: weight(1, codes),
+            weight: weight(class, months, codes),
+            senior_weight: weight(1, months, codes),
+            longer_weight: weight(class, months + 1, codes),
             codes,
-            weights: codes.map(|code| (code != 0).then(|| weight(class, [code, 0, 0]))),
+            weights: codes.map(|code| (code != 0).then(|| weight(class, months, [code, 0, 0]))),
         }
     }
 
@@ -82,6 +87,17 @@ impl Rated {
         let mut codes = self.codes.into_iter().filter(|&code| code != 0);
         codes.next().filter(|_| codes.next().is_none())
     }
+}
+
+/// The dates of a tranche.
+#[derive(Debug, Clone, Copy, PartialEq, Eq)]
+pub struct Dates {
+    /// The deal's reporting date.
+    pub reporting: Date,
+    /// The tranche's maturity.
+    pub maturity: Date,
+    /// The months from the one to the other.
+    pub months: u64,
 }
 
 /// A line of an accepted sheet with what bears on its weight.
@@ -96,6 +112,8 @@ pub struct Seen<'a> {
     pub senior: bool,
     /// Whether the cap applies to the tranche.
     pub capped: bool,
+    /// The tranche's dates, in a deal with a reporting date.
+    pub dates: Option<Dates>,
     /// What the deal's rating table gives, for a line under SEC-ERBA.
     pub rated: Option<Rated>,
 }
@@ -109,6 +127,9 @@ impl<'a> Seen<'a> {
         let kind = DealKind::of_sheet(sheet);
         let senior = words[TrancheWord::Class as usize] == 1;
         let composition_known = layout.fact_word(sheet, Fact::Composition) == 1;
+        let months = dates::months(sheet, &layout, tranche).expect("a good maturity");
+        let maturity = Date::of_word(words[TrancheWord::Maturity as usize]);
+        let dates = dates::reporting_date(sheet, &layout).zip(maturity);
         let rated = line.approach == Approach::SecErba.word();
         Seen {
             line,
@@ -116,7 +137,12 @@ impl<'a> Seen<'a> {
             kind,
             senior,
             capped: senior && composition_known && kind != DealKind::Resecuritisation,
-            rated: rated.then(|| Rated::new(kind, words, line.detachment - line.attachment)),
+            dates: dates.map(|(reporting, maturity)| Dates {
+                reporting,
+                maturity,
+                months,
+            }),
+            rated: rated.then(|| Rated::new(kind, words, months, line.detachment - line.attachment)),
         }
     }
 
@@ -172,6 +198,12 @@ impl<'a> Seen<'a> {
     pub fn senior_above(&self) -> Option<u64> {
         let senior = self.rated.as_ref()?.senior_weight;
         (!self.senior && self.weight() < senior).then_some(senior)
+    }
+
+    /// Whether the weight is the table's, and a month more would change it.
+    pub fn weight_by_months(&self) -> bool {
+        let changes = |rated: &Rated| rated.weight == self.weight() && rated.weight != rated.longer_weight;
+        self.rated.as_ref().is_some_and(changes)
     }
 
     /// Whether the cap decided a weight below the floor.
@@ -260,6 +292,27 @@ mod tests {
         assert_eq!(decided(&[0, 0, 1, 0], [0, 0]), [true, false]);
     }
 
+    /// Dates are seen with their months, by which the table is read; without a reporting date the word is the months.
+    #[test]
+    fn months_of_dates() {
+        let facts = |date| [0, 0, 1, 0, 0, date];
+        let see_at = |date, maturity| {
+            let mut sheet = sheet(&facts(date), [3, 3]);
+            let layout = Layout::of_sheet(&sheet);
+            for tranche in 0..layout.tranches {
+                sheet[layout.tranche_word(tranche, TrancheWord::Maturity)] = maturity;
+            }
+            let deal = independent::weigh(&sheet, 2 * LINE_WORDS as u64).expect("an accepted sheet");
+            let seen = Seen::new(&sheet, &deal, 0);
+            let weights = seen.rated.as_ref().map(|rated| (rated.weight, rated.longer_weight));
+            (seen.dates.map(|dates| dates.months), weights, seen.weight_by_months())
+        };
+        assert_eq!(see_at(20_240_131, 20_270_131), (Some(36), Some((3_100, 3_125)), true));
+        assert_eq!(see_at(20_240_131, 20_270_201), (Some(37), Some((3_125, 3_150)), true));
+        assert_eq!(see_at(20_240_131, 20_240_201), (Some(1), Some((2_500, 2_500)), false));
+        assert_eq!(see_at(0, 36), (None, Some((3_100, 3_125)), true));
+    }
+
     /// A grade is seen where it alone gives the weight, be it through the floor: not at the cap, not beside another.
     #[test]
     fn grades_that_decide() {
@@ -267,7 +320,7 @@ mod tests {
         assert_eq!(grades(&[0, 0, 1, 0, 1], [21, 21]), [Some(21), Some(21)]);
         assert_eq!(grades(&[0, 0, 1, 1], [18, 18]), [None, Some(18)]);
         assert_eq!(grades(&[0, 0, 1, 1], [0, 7]), [None, Some(7)]);
-        let several = Rated::new(DealKind::Stc, &[1, 2, 12, 0, 5, 5, 0], 0);
+        let several = Rated::new(DealKind::Stc, &[1, 2, 12, 0, 5, 5, 0], 12, 0);
         assert_eq!((several.weight, several.only_code()), (3_500, None));
         assert_eq!(several.weights, [Some(3_500), Some(3_500), None]);
     }

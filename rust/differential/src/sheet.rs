@@ -1,5 +1,5 @@
-//! The deal sheet, by "The deal sheet" of document 01 and the fifth fact of S-1: what it holds, and the places of its
-//! words.
+//! The deal sheet, by "The deal sheet" of document 01, the fifth fact of S-1 and the dates of S-3: what it holds, and
+//! the places of its words.
 
 use std::ops::{Index, IndexMut};
 
@@ -13,12 +13,14 @@ pub const ROWS: u64 = 1_000;
 pub const TRANCHE_AMOUNT: u64 = 10_000_000_000_000;
 /// The highest final legal maturity, in months.
 pub const MONTHS: u64 = 1_200;
+/// The words of the first and the last day that a date can name.
+pub const DAYS: (u64, u64) = (20_000_101, 21_991_231);
 /// The most tranches.
 pub const TRANCHES: u64 = 32;
 /// The most facts.
 pub const FACTS: u64 = Fact::COUNT as u64;
 /// The fewest facts. Those after them count as 0 where a sheet does not state them.
-pub const FEWEST_FACTS: u64 = Fact::Composition as u64 + 1;
+pub const FEWEST_FACTS: u64 = Fact::Composition.number();
 /// The first and the last rating code of the long-term grades.
 pub const LONG_TERM: (u64, u64) = (1, 18);
 /// The first and the last rating code of the short-term grades.
@@ -51,6 +53,25 @@ macro_rules! row_words {
 
 /// The values at which the rule of a fact changes.
 const FACT_EDGES: &[u64] = &[0, 1, 2, 3];
+/// The values at which the rule of a date changes: 0, the ends of the years, and days that a month or a year has not.
+const DATE_EDGES: &[u64] = &[
+    0,
+    1,
+    19_991_231,
+    DAYS.0 - 1,
+    DAYS.0,
+    20_000_229,
+    20_000_230,
+    20_240_430,
+    20_240_431,
+    20_241_231,
+    20_241_301,
+    21_000_228,
+    21_000_229,
+    DAYS.1,
+    DAYS.1 + 1,
+    22_000_101,
+];
 
 row_words! {
     /// The facts of a deal.
@@ -65,6 +86,15 @@ row_words! {
         Composition: FACT_EDGES,
         /// 1 for an STC deal.
         Stc: FACT_EDGES,
+        /// The reporting date; 0 for none.
+        ReportingDate: DATE_EDGES,
+    }
+}
+
+impl Fact {
+    /// The number of the fact, from 1: how many facts a sheet states whose last one it is.
+    pub const fn number(self) -> u64 {
+        self as u64 + 1
     }
 }
 
@@ -103,8 +133,8 @@ row_words! {
         Amount: TRANCHE_AMOUNT_EDGES,
         /// Class, 1 for the senior one.
         Class: &[0, 1, 2, TRANCHES + 1],
-        /// Final legal maturity in months.
-        Months: &[0, 1, MONTHS, MONTHS + 1],
+        /// Final legal maturity: months, or a date where the deal has a reporting date.
+        Maturity: &[0, 1, MONTHS, MONTHS + 1, DAYS.0, DAYS.1, DAYS.1 + 1],
         /// Amount held.
         Held: TRANCHE_AMOUNT_EDGES,
         /// The first rating.
@@ -208,8 +238,8 @@ pub struct Tranche {
     pub amount: u64,
     /// Class, 1 for the senior one.
     pub class: u64,
-    /// Final legal maturity in months.
-    pub months: u64,
+    /// Final legal maturity: months, or a date where the deal has a reporting date.
+    pub maturity: u64,
     /// Amount held.
     pub held: u64,
     /// The rating words.
@@ -221,7 +251,7 @@ impl Tranche {
     pub const LEAST: Tranche = Tranche {
         amount: 1,
         class: 1,
-        months: 1,
+        maturity: 1,
         held: 0,
         ratings: [0; RATINGS],
     };
@@ -229,7 +259,7 @@ impl Tranche {
     /// The tranche's words, in their order.
     fn words(&self) -> [u64; TrancheWord::COUNT] {
         let [first, second, third] = self.ratings;
-        [self.amount, self.class, self.months, self.held, first, second, third]
+        [self.amount, self.class, self.maturity, self.held, first, second, third]
     }
 }
 
@@ -349,6 +379,12 @@ impl Layout {
         self.tranche(self.tranches)
     }
 
+    /// Whether a sheet has these places: the counts that they follow from, and as many words.
+    pub fn fits(&self, sheet: &[u64]) -> bool {
+        let counts = [self.facts, self.rows, self.tranches].map(|count| count as u64);
+        sheet.len() == self.words() && self.counts().map(|place| sheet[place]) == counts
+    }
+
     /// The word of a fact of a sheet with these places; 0 where it is not stated.
     pub fn fact_word(&self, sheet: &[u64], fact: Fact) -> u64 {
         match (fact as usize) < self.facts {
@@ -394,12 +430,12 @@ mod tests {
         let mut words = Vec::new();
         deal.write(&mut words);
         assert_eq!((Layout::of_sheet(&words), words.len()), (deal.layout(), 4_231));
-        deal.facts[Fact::Stc] = 0;
+        deal.facts[Fact::ReportingDate] = 0;
         deal.write(&mut words);
         assert_eq!(deal.layout().words(), words.len());
         assert_eq!(Layout::of_sheet(&words), deal.layout());
         assert_eq!(deal.layout(), Layout::LARGEST);
-        assert_eq!((file_form(&words).len(), FILE_BYTES), (33_856, 33_856));
+        assert_eq!((file_form(&words).len(), FILE_BYTES), (33_864, 33_864));
     }
 
     /// The fewest facts are stated until a later one is set, be it to 0; a fact that is not stated reads as 0.
@@ -415,10 +451,32 @@ mod tests {
         assert_eq!((section(&facts), facts[Fact::Stc]), (vec![4, 0, 0, 0, 1], 0));
         facts[Fact::Stc] = 0;
         assert_eq!(section(&facts), [5, 0, 0, 0, 1, 0]);
-        for stated in [4, 5] {
+        facts[Fact::ReportingDate] = 0;
+        assert_eq!(section(&facts), [6, 0, 0, 0, 1, 0, 0]);
+        let later = [Fact::Composition, Fact::Stc, Fact::ReportingDate];
+        for (stated, expected) in [(4, [4, 0, 0]), (5, [4, 5, 0]), (6, [4, 5, 6])] {
             let (layout, words) = places_with(stated);
-            assert_eq!(layout.fact_word(&words, Fact::Composition), 4);
-            assert_eq!(layout.fact_word(&words, Fact::Stc), 5 * (stated as u64 - 4));
+            assert_eq!(later.map(|fact| layout.fact_word(&words, fact)), expected);
+        }
+    }
+
+    /// Facts are numbered from 1; the fewest and the most are counts of them.
+    #[test]
+    fn facts_are_numbered() {
+        assert_eq!([Fact::PoolKind, Fact::Stc].map(Fact::number), [1, 5]);
+        assert_eq!((FEWEST_FACTS, FACTS, Fact::ReportingDate.number()), (4, 6, 6));
+    }
+
+    /// A sheet fits its own places: not with a word more or less, and not with another count.
+    #[test]
+    fn sheets_fit_their_places() {
+        let (layout, words) = places_with(6);
+        assert!(layout.fits(&words));
+        assert!(!layout.fits(&words[1..]) && !layout.fits(&[&words[..], &[0]].concat()) && !layout.fits(&[]));
+        for place in layout.counts() {
+            let mut other = words.clone();
+            other[place] += 1;
+            assert!(!layout.fits(&other));
         }
     }
 
@@ -431,6 +489,7 @@ mod tests {
             Fact::DueDiligence,
             Fact::Composition,
             Fact::Stc,
+            Fact::ReportingDate,
         ];
         let mut deal = Deal::default();
         (10..).zip(facts).for_each(|(word, fact)| deal.facts[fact] = word);
@@ -443,15 +502,15 @@ mod tests {
         deal.tranches.push(Tranche {
             amount: 30,
             class: 31,
-            months: 32,
+            maturity: 32,
             held: 33,
             ratings: [34, 35, 36],
         });
         let mut words = Vec::new();
         deal.write(&mut words);
-        assert_eq!(words[..11], [5, 10, 11, 12, 13, 14, 1, 20, 21, 22, 23]);
-        assert_eq!(words[11..], [1, 30, 31, 32, 33, 34, 35, 36]);
-        assert_eq!(facts.map(|fact| words[Layout::fact(fact)]), [10, 11, 12, 13, 14]);
+        assert_eq!(words[..12], [6, 10, 11, 12, 13, 14, 15, 1, 20, 21, 22, 23]);
+        assert_eq!(words[12..], [1, 30, 31, 32, 33, 34, 35, 36]);
+        assert_eq!(facts.map(|fact| words[Layout::fact(fact)]), [10, 11, 12, 13, 14, 15]);
     }
 
     /// A sheet with so many facts, two rows and two tranches; every word but the counts is its place.
@@ -482,7 +541,7 @@ mod tests {
         let tranche_words = [
             TrancheWord::Amount,
             TrancheWord::Class,
-            TrancheWord::Months,
+            TrancheWord::Maturity,
             TrancheWord::Held,
             TrancheWord::FirstRating,
             TrancheWord::SecondRating,

@@ -1,4 +1,5 @@
-//! What a run must meet on some sheet by its count of facts and its fifth fact (S-1), and on some file.
+//! What a run must meet on some sheet by its count of facts, its fifth fact (S-1) and its sixth (S-3), and on some
+//! file.
 
 use crate::answer::refusal;
 use crate::seen::DealKind;
@@ -16,12 +17,22 @@ pub enum SheetFeature {
     ResecuritisationFiveFacts,
     /// An STC deal accepted.
     Stc,
+    /// Accepted with a sixth fact of 0.
+    SixFacts,
+    /// An ordinary securitisation accepted with a reporting date.
+    Dated,
+    /// An STC deal accepted with a reporting date.
+    StcDated,
+    /// A re-securitisation accepted with a reporting date.
+    ResecuritisationDated,
     /// A count of 3 facts refused.
     ThreeFacts,
-    /// A count of 6 facts refused.
-    SixFacts,
-    /// Five facts counted, and the fifth missing.
+    /// A count of 7 facts refused.
+    SevenFacts,
+    /// Five or six facts counted, and the fifth missing.
     FifthMissing,
+    /// Six facts counted, and the sixth missing.
+    SixthMissing,
     /// A fifth fact above 1 in an ordinary securitisation.
     FifthAboveOne,
     /// A fifth fact above 1 in a re-securitisation.
@@ -32,7 +43,7 @@ pub enum SheetFeature {
 
 impl SheetFeature {
     /// All features with their names, in the order of the enum.
-    pub(crate) const TABLE: [(SheetFeature, &'static str); 10] = [
+    pub(crate) const TABLE: [(SheetFeature, &'static str); 15] = [
         (SheetFeature::FourFacts, "accepted with four facts"),
         (SheetFeature::FiveFacts, "accepted with a fifth fact of 0"),
         (
@@ -40,9 +51,17 @@ impl SheetFeature {
             "accepted with it, re-securitisation",
         ),
         (SheetFeature::Stc, "accepted as an STC deal"),
+        (SheetFeature::SixFacts, "accepted with a sixth fact of 0"),
+        (SheetFeature::Dated, "accepted with a reporting date"),
+        (SheetFeature::StcDated, "accepted with it, STC deal"),
+        (
+            SheetFeature::ResecuritisationDated,
+            "accepted with that date, re-securitisation",
+        ),
         (SheetFeature::ThreeFacts, "refusal 2 for 3 facts"),
-        (SheetFeature::SixFacts, "refusal 2 for 6 facts"),
+        (SheetFeature::SevenFacts, "refusal 2 for 7 facts"),
         (SheetFeature::FifthMissing, "refusal 1 for the fifth fact"),
+        (SheetFeature::SixthMissing, "refusal 1 for the sixth fact"),
         (SheetFeature::FifthAboveOne, "refusal 4 for the fifth fact"),
         (
             SheetFeature::ResecuritisationFifthAboveOne,
@@ -63,25 +82,32 @@ impl SheetFeature {
     fn shown_by_accepted(self, sheet: &[u64]) -> bool {
         let kind = DealKind::of_sheet(sheet);
         let stated = sheet[Layout::FACTS_COUNT];
+        let five = stated == Fact::Stc.number();
+        let dated = stated == FACTS && sheet[Layout::fact(Fact::ReportingDate)] != 0;
         match self {
             SheetFeature::FourFacts => stated == FEWEST_FACTS,
-            SheetFeature::FiveFacts => stated == FACTS && kind == DealKind::Ordinary,
-            SheetFeature::ResecuritisationFiveFacts => stated == FACTS && kind == DealKind::Resecuritisation,
+            SheetFeature::FiveFacts => five && kind == DealKind::Ordinary,
+            SheetFeature::ResecuritisationFiveFacts => five && kind == DealKind::Resecuritisation,
             SheetFeature::Stc => kind == DealKind::Stc,
+            SheetFeature::SixFacts => stated == FACTS && !dated,
+            SheetFeature::Dated => dated && kind == DealKind::Ordinary,
+            SheetFeature::StcDated => dated && kind == DealKind::Stc,
+            SheetFeature::ResecuritisationDated => dated && kind == DealKind::Resecuritisation,
             _ => false,
         }
     }
 
     /// Whether a refused sheet shows the feature. Words before the place of a refusal are good, so they can be read.
     fn shown_by_refused(self, sheet: &[u64], refused: &Refusal) -> bool {
-        let fifth = Layout::fact(Fact::Stc);
+        let [fifth, sixth] = [Fact::Stc, Fact::ReportingDate].map(Layout::fact);
         let refused_at = |number, place| (refused.number, refused.place) == (number, place as u64);
         let counts = |facts| sheet.first() == Some(&facts);
         let resecuritisation = || sheet[Layout::fact(Fact::Resecuritisation)] == 1;
         match self {
             SheetFeature::ThreeFacts => refused_at(refusal::COUNT, Layout::FACTS_COUNT) && counts(FEWEST_FACTS - 1),
-            SheetFeature::SixFacts => refused_at(refusal::COUNT, Layout::FACTS_COUNT) && counts(FACTS + 1),
-            SheetFeature::FifthMissing => refused_at(refusal::MISSING, fifth) && counts(FACTS),
+            SheetFeature::SevenFacts => refused_at(refusal::COUNT, Layout::FACTS_COUNT) && counts(FACTS + 1),
+            SheetFeature::FifthMissing => refused_at(refusal::MISSING, fifth) && !counts(FEWEST_FACTS),
+            SheetFeature::SixthMissing => refused_at(refusal::MISSING, sixth) && counts(FACTS),
             SheetFeature::FifthAboveOne => refused_at(refusal::FACT, fifth) && !resecuritisation(),
             SheetFeature::ResecuritisationFifthAboveOne => refused_at(refusal::FACT, fifth) && resecuritisation(),
             SheetFeature::StcThin => refused.number == refusal::THIN && DealKind::of_sheet(sheet) == DealKind::Stc,
@@ -139,6 +165,7 @@ impl FileFeature {
 #[cfg(test)]
 mod tests {
     use super::*;
+    use crate::sheet::DAYS;
 
     /// Features are counted by the enums' order, so the tables must follow it.
     #[test]
@@ -164,8 +191,10 @@ mod tests {
     /// A sheet with these facts, one row of this status and two tranches, the second too thin for SEC-SA.
     fn sheet(facts: &[u64], status: u64) -> Vec<u64> {
         let pool = [1, 10_000_000_000, 10_000_000_000, 10, status];
-        let tranches = [2, 1_000_001, 1, 72, 0, 0, 0, 0, 1, 2, 72, 0, 0, 0, 0];
-        [&[facts.len() as u64], facts, &pool, &tranches].concat()
+        let dated = facts.get(Fact::ReportingDate as usize).is_some_and(|&date| date != 0);
+        let maturity = if dated { DAYS.1 } else { 72 };
+        let tranches = [[1_000_001, 1, maturity, 0, 0, 0, 0], [1, 2, maturity, 0, 0, 0, 0]];
+        [&[facts.len() as u64], facts, &pool, &[2], tranches.as_flattened()].concat()
     }
 
     /// Accepted sheets count by their facts, without due diligence so that none is refused by 13.
@@ -179,6 +208,16 @@ mod tests {
             [SheetFeature::ResecuritisationFiveFacts]
         );
         assert_eq!(shown(&sheet(&[0, 0, 0, 0, 1], 0)), [SheetFeature::Stc]);
+        assert_eq!(shown(&sheet(&[0, 0, 0, 0, 0, 0], 0)), [SheetFeature::SixFacts]);
+        assert_eq!(shown(&sheet(&[0, 1, 0, 0, 0, 0], 3)), [SheetFeature::SixFacts]);
+        let date = 21_500_101;
+        assert_eq!(shown(&sheet(&[0, 0, 0, 0, 0, date], 0)), [SheetFeature::Dated]);
+        let stc = [SheetFeature::Stc, SheetFeature::StcDated];
+        assert_eq!(shown(&sheet(&[0, 0, 0, 0, 1, date], 0)), stc);
+        assert_eq!(
+            shown(&sheet(&[0, 1, 0, 0, 0, date], 3)),
+            [SheetFeature::ResecuritisationDated]
+        );
     }
 
     /// Refused sheets count by the number and place of the refusal and by what the facts say; a sheet too short to hold
@@ -186,15 +225,25 @@ mod tests {
     #[test]
     fn refused_sheets_are_counted() {
         assert_eq!(shown(&[3]), [SheetFeature::ThreeFacts]);
-        assert_eq!(shown(&sheet(&[0, 0, 0, 0, 0, 0], 0)), [SheetFeature::SixFacts]);
+        assert_eq!(shown(&sheet(&[0; 7], 0)), [SheetFeature::SevenFacts]);
         assert_eq!(shown(&[5, 0, 0, 0, 0]), [SheetFeature::FifthMissing]);
+        assert_eq!(shown(&[6, 0, 0, 0, 0]), [SheetFeature::FifthMissing]);
+        assert_eq!(shown(&[6, 0, 0, 0, 0, 0]), [SheetFeature::SixthMissing]);
         assert_eq!(shown(&[5, 0, 0, 0, 0, 2]), [SheetFeature::FifthAboveOne]);
         assert_eq!(
             shown(&[5, 0, 1, 0, 0, 2]),
             [SheetFeature::ResecuritisationFifthAboveOne]
         );
         assert_eq!(shown(&sheet(&[0, 0, 1, 0, 1], 0)), [SheetFeature::StcThin]);
-        for other in [&[][..], &[7], &[4, 0, 0, 0, 0], &[4, 0, 0, 0, 2], &[5, 0, 1, 0, 0, 1]] {
+        for other in [
+            &[][..],
+            &[8],
+            &[4, 0, 0, 0, 0],
+            &[4, 0, 0, 0, 2],
+            &[5, 0, 0, 0, 0, 0],
+            &[5, 0, 1, 0, 0, 1],
+            &[6, 0, 0, 0, 0, 0, 1],
+        ] {
             assert_eq!(shown(other), [], "{other:?}");
         }
         assert_eq!(shown(&sheet(&[0, 0, 1, 0], 0)), []);

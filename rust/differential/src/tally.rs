@@ -2,6 +2,7 @@
 
 use crate::answer::{refusal, Approach, LineWord};
 use crate::case::Case;
+use crate::date_feature::{DateFeature, DatedLineFeature};
 use crate::kind::{File, Kind, Relation, Room};
 use crate::lent::Lent;
 use crate::line_feature::{Feature, StcFeature};
@@ -54,12 +55,14 @@ fn names() -> Vec<String> {
     names.push("accepted".to_string());
     names.extend(refusal::MET.iter().map(|number| format!("refusal {number}")));
     names.extend(SheetFeature::TABLE.map(|(_, name)| name.to_string()));
+    names.extend(DateFeature::TABLE.map(|(_, name)| name.to_string()));
     names.extend(Approach::TABLE.iter().map(|(_, name)| format!("lines: {name}")));
     let statuses = status::TABLE.iter();
     names.extend(statuses.map(|(code, name)| format!("accepted with status {code}, {name}")));
     names.extend(Feature::TABLE.map(|(_, name)| name.to_string()));
     names.extend(StcFeature::TABLE.map(|(_, name)| name.to_string()));
     names.extend(RatingFeature::TABLE.map(|(_, name)| name.to_string()));
+    names.extend(DatedLineFeature::TABLE.map(|(_, name)| name.to_string()));
     names.extend(COLUMNS.map(|name| format!("lines: rarest grade, {name}")));
     names.extend(FileFeature::TABLE.map(|(_, name)| name.to_string()));
     names
@@ -82,6 +85,8 @@ pub struct Tally {
     pub refusals: [u64; refusal::MET.len()],
     /// Sheets that show each feature.
     pub sheet_features: [u64; SheetFeature::TABLE.len()],
+    /// Refused sheets whose dates show each feature.
+    pub date_features: [u64; DateFeature::TABLE.len()],
     /// Lines by approach.
     pub approaches: [u64; Approach::TABLE.len()],
     /// Accepted sheets with a row of each status.
@@ -92,6 +97,8 @@ pub struct Tally {
     pub stc_features: [u64; StcFeature::TABLE.len()],
     /// Lines whose ratings show each feature.
     pub rating_features: [u64; RatingFeature::TABLE.len()],
+    /// Lines whose dates show each feature.
+    pub dated_line_features: [u64; DatedLineFeature::TABLE.len()],
     /// Lines whose weight one grade gives, by column and grade.
     pub grades: [[u64; GRADES]; COLUMNS.len()],
     /// Files that show each feature.
@@ -115,7 +122,17 @@ impl Tally {
                 self.note_pool(&case.sheet);
                 self.note_lines(&case.sheet, deal, lent);
             }
-            Err(refused) => self.refusals[refusal::place(refused.number)] += 1,
+            Err(refused) => {
+                self.refusals[refusal::place(refused.number)] += 1;
+                self.note_refused_dates(&case.sheet, refused);
+            }
+        }
+    }
+
+    /// Notes what the dates of a refused sheet show.
+    fn note_refused_dates(&mut self, sheet: &[u64], refused: &Refusal) {
+        for (count, (feature, _)) in self.date_features.iter_mut().zip(DateFeature::TABLE) {
+            *count += u64::from(feature.shown(sheet, refused));
         }
     }
 
@@ -153,6 +170,9 @@ impl Tally {
             *count += u64::from(feature.shown(seen));
         }
         for (count, (feature, _)) in self.rating_features.iter_mut().zip(RatingFeature::TABLE) {
+            *count += u64::from(feature.shown(seen));
+        }
+        for (count, (feature, _)) in self.dated_line_features.iter_mut().zip(DatedLineFeature::TABLE) {
             *count += u64::from(feature.shown(seen));
         }
         if let Some(code) = seen.grade() {
@@ -195,11 +215,13 @@ impl Tally {
         self.accepted += other.accepted;
         add(&mut self.refusals, &other.refusals);
         add(&mut self.sheet_features, &other.sheet_features);
+        add(&mut self.date_features, &other.date_features);
         add(&mut self.approaches, &other.approaches);
         add(&mut self.statuses, &other.statuses);
         add(&mut self.features, &other.features);
         add(&mut self.stc_features, &other.stc_features);
         add(&mut self.rating_features, &other.rating_features);
+        add(&mut self.dated_line_features, &other.dated_line_features);
         add(self.grades.as_flattened_mut(), other.grades.as_flattened());
         add(&mut self.file_features, &other.file_features);
         self.higher_taken += other.higher_taken;
@@ -216,11 +238,13 @@ impl Tally {
             &[self.accepted],
             &self.refusals,
             &self.sheet_features,
+            &self.date_features,
             &self.approaches,
             &self.statuses,
             &self.features,
             &self.stc_features,
             &self.rating_features,
+            &self.dated_line_features,
             &rarest_grades,
             &self.file_features,
         ];

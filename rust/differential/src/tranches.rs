@@ -266,8 +266,8 @@ pub fn any_ratings(random: &mut Random) -> [u64; RATINGS] {
     placed(random, count, any_code)
 }
 
-/// Draws a maturity: around the months where a rule changes, or anywhere; where weights should lie near the senior
-/// figures, mostly a short one.
+/// Draws the months of a maturity: around the months where a rule changes, or anywhere; where weights should lie near
+/// the senior figures, mostly a short one.
 fn months(kind: Kind, random: &mut Random) -> u64 {
     match random.below(4) {
         0..=2 if kind == Kind::HalfThick => random.between(1, 24),
@@ -304,7 +304,7 @@ pub fn fill(kind: Kind, random: &mut Random, deal: &mut Deal) {
             deal.tranches.push(Tranche {
                 amount,
                 class,
-                months: months(kind, random),
+                maturity: months(kind, random),
                 held: held(random, amount),
                 ratings: ratings.words(random),
             });

@@ -2,8 +2,11 @@
 //! of the proved one.
 
 use differential::answer::{refusal, Approach, LineWord, LINE_WORDS};
-use differential::sheet::{Fact, Layout, TrancheWord, FACTS, FILE_BYTES, LONG_TERM, RATINGS, WORD_BYTES};
+use differential::sheet::{
+    Fact, Layout, TrancheWord, DAYS, FACTS, FEWEST_FACTS, FILE_BYTES, LONG_TERM, MONTHS, RATINGS, WORD_BYTES,
+};
 use differential::{show, Case, Difference, Feature, Found, Library, Part, Reply, Run, Tally, Weigh, WeighFile};
+use independent::date::Date;
 use independent::rating::{self, Table};
 use independent::sheet::Tranche;
 
@@ -84,6 +87,14 @@ fn accepted(sheet: &[u64], results: &mut [u64], fault: fn(&mut Reply)) -> Reply 
 /// The proved weighing with a fault in the reply to each refused sheet.
 fn refused(sheet: &[u64], results: &mut [u64], fault: fn(&mut Reply)) -> Reply {
     faulty(sheet, results, true, fault)
+}
+
+/// The proved weighing, but each accepted sheet is weighed by another one.
+fn accepted_by(sheet: &[u64], results: &mut [u64], weigh: impl Fn(&[u64], &mut [u64]) -> Reply) -> Reply {
+    match independent::weigh(sheet, results.len() as u64) {
+        Ok(_) => weigh(sheet, results),
+        Err(_) => proved(sheet, results),
+    }
 }
 
 /// The proved report, the start of each wrong one.
@@ -177,9 +188,16 @@ fn weighed_in_place_of_refused() {
 /// The place of the fifth fact.
 const FIFTH: usize = Layout::fact(Fact::Stc);
 
-/// Whether a sheet counts five facts and states a fifth fact like this one.
+/// Whether a sheet counts more facts than this, and no more than the most.
+fn counts_above(sheet: &[u64], facts: u64) -> bool {
+    sheet
+        .first()
+        .is_some_and(|&counted| counted > facts && counted <= FACTS)
+}
+
+/// Whether a sheet counts five or six facts and states a fifth fact like this one.
 fn fifth_is(sheet: &[u64], like: fn(u64) -> bool) -> bool {
-    sheet.first() == Some(&FACTS) && sheet.get(FIFTH).is_some_and(|&fact| like(fact))
+    counts_above(sheet, FEWEST_FACTS) && sheet.get(FIFTH).is_some_and(|&fact| like(fact))
 }
 
 /// Judges a mark on a re-securitisation by another number.
@@ -210,17 +228,9 @@ fn without_mark(sheet: &[u64], results: &mut [u64]) -> Reply {
     proved(&unmarked, results)
 }
 
-/// The same, but a mark on a re-securitisation is refused as it should be.
-fn without_good_mark(sheet: &[u64], results: &mut [u64]) -> Reply {
-    match independent::weigh(sheet, results.len() as u64) {
-        Ok(_) => without_mark(sheet, results),
-        Err(_) => proved(sheet, results),
-    }
-}
-
-/// Takes four facts only.
-fn four_facts_only(sheet: &[u64], results: &mut [u64]) -> Reply {
-    match sheet.first() == Some(&FACTS) {
+/// Takes no more facts than this.
+fn facts_up_to(most: u64, sheet: &[u64], results: &mut [u64]) -> Reply {
+    match counts_above(sheet, most) {
         true => Reply::refusing(refusal::COUNT, Layout::FACTS_COUNT as u64),
         false => proved(sheet, results),
     }
@@ -258,10 +268,232 @@ fn compared_with_senior(tranche: &Tranche, weight: u64) -> u64 {
 fn wrong_fifth_fact() {
     assert_eq!(weighed(other_number_of_a_mark), Some(Part::Number));
     assert_eq!(weighed(no_code_as_a_mark), Some(Part::Number));
+    let without_good_mark: Weigh = |sheet, results| accepted_by(sheet, results, without_mark);
     assert_eq!(weighed(without_good_mark), Some(Part::Line(LineWord::Weight)));
     let outcome_or_weight = [Some(Part::Outcome), Some(Part::Line(LineWord::Weight))];
     assert!(outcome_or_weight.contains(&weighed(without_mark)));
-    assert_eq!(weighed(four_facts_only), Some(Part::Outcome));
+    let four_facts: Weigh = |sheet, results| {
+        accepted_by(sheet, results, |sheet, results| {
+            facts_up_to(FEWEST_FACTS, sheet, results)
+        })
+    };
+    assert_eq!(weighed(four_facts), Some(Part::Outcome));
+}
+
+/// The place of the sixth fact.
+const SIXTH: usize = Layout::fact(Fact::ReportingDate);
+
+/// Whether a sheet counts six facts and states a sixth fact like this one.
+fn sixth_is(sheet: &[u64], like: fn(u64) -> bool) -> bool {
+    counts_above(sheet, FACTS - 1) && sheet.get(SIXTH).is_some_and(|&fact| like(fact))
+}
+
+/// Refuses a sixth fact of 0 as no date.
+fn zero_as_a_date(sheet: &[u64], results: &mut [u64]) -> Reply {
+    match sixth_is(sheet, |fact| fact == 0) {
+        true => Reply::refusing(refusal::DATE, SIXTH as u64),
+        false => proved(sheet, results),
+    }
+}
+
+/// Weighs a sheet as if its sixth fact were 0.
+fn without_date(sheet: &[u64], results: &mut [u64]) -> Reply {
+    let mut undated = sheet.to_vec();
+    if sixth_is(sheet, |fact| fact != 0) {
+        undated[SIXTH] = 0;
+    }
+    proved(&undated, results)
+}
+
+/// A sixth fact that is not taken, not taken as 0, or not used: found in the answer, or in that of a second sheet.
+#[test]
+fn wrong_sixth_fact() {
+    let wrong: [Weigh; 3] = [
+        |sheet, results| accepted_by(sheet, results, |sheet, results| facts_up_to(FACTS - 1, sheet, results)),
+        |sheet, results| accepted_by(sheet, results, zero_as_a_date),
+        |sheet, results| accepted_by(sheet, results, without_date),
+    ];
+    for weigh in wrong {
+        let part = weighed(weigh);
+        let found = matches!(part, Some(Part::Outcome | Part::FactsAdded | Part::MonthsForDates));
+        assert!(found, "{part:?}");
+    }
+}
+
+/// Judges each refused sheet with a reporting date by another number, made of its own and the place.
+fn other_number_of_a_date(sheet: &[u64], results: &mut [u64], number: fn(u64, u64) -> u64) -> Reply {
+    let mut reply = proved(sheet, results);
+    if reply.number != 0 && sixth_is(sheet, |fact| fact != 0) {
+        reply.number = number(reply.number, reply.place);
+    }
+    reply
+}
+
+/// The numbers of dates: a bad reporting date judged as a fact, a bad maturity judged by its months, and one too many
+/// months after the reporting date judged as a date.
+#[test]
+fn wrong_number_of_a_date() {
+    let as_a_fact: Weigh = |sheet, results| {
+        other_number_of_a_date(sheet, results, |number, place| match (number, place as usize) {
+            (refusal::DATE, SIXTH) => refusal::FACT,
+            _ => number,
+        })
+    };
+    let as_months: Weigh = |sheet, results| {
+        other_number_of_a_date(sheet, results, |number, place| match (number, place as usize) {
+            (refusal::DATE, SIXTH) => number,
+            (refusal::DATE, _) => refusal::MATURITY,
+            _ => number,
+        })
+    };
+    let as_a_date: Weigh = |sheet, results| {
+        other_number_of_a_date(sheet, results, |number, _| match number {
+            refusal::MATURITY => refusal::DATE,
+            _ => number,
+        })
+    };
+    for weigh in [as_a_fact, as_months, as_a_date] {
+        assert_eq!(weighed(weigh), Some(Part::Number));
+    }
+}
+
+/// Weighs a sheet that is refused for a date as if the word were another one, made of it and of the reporting date.
+fn other_date(sheet: &[u64], results: &mut [u64], change: fn(u64, u64) -> u64) -> Reply {
+    let mut words = sheet.to_vec();
+    if let Err(refused) = independent::weigh(sheet, results.len() as u64) {
+        if refused.number == refusal::DATE {
+            let place = refused.place as usize;
+            words[place] = change(words[SIXTH], words[place]);
+        }
+    }
+    proved(&words, results)
+}
+
+/// 29 February of any year, as the day before it.
+fn any_leap_day(_: u64, word: u64) -> u64 {
+    word - u64::from(word % 10_000 == 229)
+}
+
+/// The day after the end of a month, as that end.
+fn long_months(_: u64, word: u64) -> u64 {
+    match Date::of_word(word.saturating_sub(1)) {
+        Some(_) if Date::of_word(word).is_none() => word - 1,
+        _ => word,
+    }
+}
+
+/// The day 0 of a month as its first.
+fn day_zero(_: u64, word: u64) -> u64 {
+    word + u64::from(word.is_multiple_of(100))
+}
+
+/// Days of the years beside those that dates can have, as days of the first and the last of these.
+fn years_beside(_: u64, word: u64) -> u64 {
+    match word / 10_000 {
+        1_999 => word + 10_000,
+        2_200 => word - 10_000,
+        _ => word,
+    }
+}
+
+/// The low 32 bits of a word.
+fn low_bits(_: u64, word: u64) -> u64 {
+    word & u64::from(u32::MAX)
+}
+
+/// The end of the reporting date's next year.
+fn next_year(date: u64) -> u64 {
+    10_000 * (date / 10_000 + 1) + DAYS.1 % 10_000
+}
+
+/// A maturity on the reporting date as a later one.
+fn date_itself(date: u64, word: u64) -> u64 {
+    match word == date {
+        true => next_year(date),
+        false => word,
+    }
+}
+
+/// A maturity before the reporting date as a later one.
+fn day_before(date: u64, word: u64) -> u64 {
+    match word < date && Date::of_word(word).is_some() {
+        true => next_year(date),
+        false => word,
+    }
+}
+
+/// A maturity in months as a date.
+fn months_as_a_date(date: u64, word: u64) -> u64 {
+    match (1..=MONTHS).contains(&word) {
+        true => next_year(date),
+        false => word,
+    }
+}
+
+/// Dates taken as good that are not: days and years that there are not, words that are too large, and maturities that
+/// are not after the reporting date or are months.
+#[test]
+fn wrong_dates_taken() {
+    let wrong: [Weigh; 8] = [
+        |sheet, results| other_date(sheet, results, any_leap_day),
+        |sheet, results| other_date(sheet, results, long_months),
+        |sheet, results| other_date(sheet, results, day_zero),
+        |sheet, results| other_date(sheet, results, years_beside),
+        |sheet, results| other_date(sheet, results, low_bits),
+        |sheet, results| other_date(sheet, results, date_itself),
+        |sheet, results| other_date(sheet, results, day_before),
+        |sheet, results| other_date(sheet, results, months_as_a_date),
+    ];
+    for (place, weigh) in wrong.into_iter().enumerate() {
+        let part = weighed(weigh);
+        let found = matches!(part, Some(Part::Outcome | Part::Number | Part::Place));
+        assert!(found, "{place}: {part:?}");
+    }
+}
+
+/// Weighs an accepted sheet with dates as if it stated months, counted in this way from the reporting date to the
+/// maturity and held within their limits.
+fn recounted(sheet: &[u64], results: &mut [u64], count: fn(Date, Date) -> u64) -> Reply {
+    accepted_by(sheet, results, |sheet, results| {
+        let mut words = sheet.to_vec();
+        let layout = Layout::of_sheet(sheet);
+        if let Some(reporting) = Date::of_word(layout.fact_word(sheet, Fact::ReportingDate)) {
+            words[SIXTH] = 0;
+            for tranche in 0..layout.tranches {
+                let word = &mut words[layout.tranche_word(tranche, TrancheWord::Maturity)];
+                let maturity = Date::of_word(*word).expect("a good maturity");
+                *word = count(reporting, maturity).clamp(1, MONTHS);
+            }
+        }
+        proved(&words, results)
+    })
+}
+
+/// The months apart, whatever the days of the month are.
+fn months_apart(reporting: Date, maturity: Date) -> u64 {
+    12 * (maturity.year - reporting.year) + maturity.month - reporting.month
+}
+
+/// Months counted wrongly: no month more for a later day, one for the same day too, one always, or only whole months.
+#[test]
+fn wrong_months() {
+    let wrong: [Weigh; 4] = [
+        |sheet, results| recounted(sheet, results, months_apart),
+        |sheet, results| {
+            recounted(sheet, results, |from, to| {
+                months_apart(from, to) + u64::from(to.day >= from.day)
+            })
+        },
+        |sheet, results| recounted(sheet, results, |from, to| months_apart(from, to) + 1),
+        |sheet, results| {
+            recounted(sheet, results, |from, to| {
+                months_apart(from, to).saturating_sub(u64::from(to.day < from.day))
+            })
+        },
+    ];
+    for weigh in wrong {
+        assert_eq!(weighed(weigh), Some(Part::Line(LineWord::Weight)));
+    }
 }
 
 /// The weights of an STC deal: compared with the senior figure, or with the floor of class 1 raised to that of the
@@ -277,17 +509,16 @@ fn wrong_weight_of_an_stc_deal() {
 /// Weighs an accepted sheet as if each tranche had other rating words, made of its own. No tranche loses its last rating
 /// or gets a first one, so that the approaches stay.
 fn rerated(sheet: &[u64], results: &mut [u64], change: fn(&mut [u64; RATINGS])) -> Reply {
-    if independent::weigh(sheet, results.len() as u64).is_err() {
-        return proved(sheet, results);
-    }
-    let mut words = sheet.to_vec();
-    let layout = Layout::of_sheet(sheet);
-    for tranche in 0..layout.tranches {
-        let first = layout.tranche_word(tranche, TrancheWord::FirstRating);
-        let ratings = words[first..].first_chunk_mut().expect("three rating words");
-        change(ratings);
-    }
-    proved(&words, results)
+    accepted_by(sheet, results, |sheet, results| {
+        let mut words = sheet.to_vec();
+        let layout = Layout::of_sheet(sheet);
+        for tranche in 0..layout.tranches {
+            let first = layout.tranche_word(tranche, TrancheWord::FirstRating);
+            let ratings = words[first..].first_chunk_mut().expect("three rating words");
+            change(ratings);
+        }
+        proved(&words, results)
+    })
 }
 
 /// Of three ratings the worst two, of which the higher weight counts.

@@ -2,10 +2,10 @@
 
 use differential::answer::{refusal, Approach, MOST_RESULTS};
 use differential::sheet::{
-    status, Fact, Layout, RowWord, TrancheWord, FACTS, FEWEST_FACTS, MONTHS, POOL_AMOUNT, ROWS, TRANCHES,
+    status, Fact, Layout, RowWord, TrancheWord, DAYS, FACTS, FEWEST_FACTS, MONTHS, POOL_AMOUNT, ROWS, TRANCHES,
     TRANCHE_AMOUNT,
 };
-use differential::{Case, Kind};
+use differential::{Case, Kind, Relation};
 use std::cmp::Ordering;
 use std::collections::BTreeSet;
 
@@ -50,9 +50,10 @@ fn marks_follow_the_kinds() {
         };
         sheets(kind, 5_000).map(of_sheet).collect::<BTreeSet<_>>()
     };
-    let ordinary = [(FEWEST_FACTS, 0, 0), (FACTS, 0, 0)];
-    let resecuritisation = [(FEWEST_FACTS, 1, 0), (FACTS, 1, 0)];
-    let stc = [(FACTS, 0, 1)];
+    let five = Fact::Stc.number();
+    let ordinary = [(FEWEST_FACTS, 0, 0), (five, 0, 0), (FACTS, 0, 0)];
+    let resecuritisation = [(FEWEST_FACTS, 1, 0), (five, 1, 0), (FACTS, 1, 0)];
+    let stc = [(five, 0, 1), (FACTS, 0, 1)];
     assert_eq!(facts(Kind::Ordinary), BTreeSet::from(ordinary));
     assert_eq!(facts(Kind::Stc), BTreeSet::from(stc));
     assert_eq!(facts(Kind::Resecuritisation), BTreeSet::from(resecuritisation));
@@ -86,6 +87,92 @@ fn marks_on_resecuritisations() {
     assert!(
         marked > 50 && no_code > 25 && else_good > 10,
         "{marked} {no_code} {else_good}"
+    );
+}
+
+/// Each sound kind has sheets that do not state a reporting date, that state 0 for it, and that state one.
+#[test]
+fn dates_come_in_all_kinds() {
+    let mut met = BTreeSet::new();
+    for case in (0..20_000).map(|index| Case::new(15, index)) {
+        if case.kind.is_sound() {
+            let layout = Layout::of_sheet(&case.sheet);
+            let date = layout.fact_word(&case.sheet, Fact::ReportingDate);
+            met.insert((case.kind as usize, layout.facts as u64 == FACTS, date != 0));
+        }
+    }
+    let kinds = Kind::TABLE.iter().filter(|(kind, _, _)| kind.is_sound());
+    let all = kinds.flat_map(|&(kind, _, _)| {
+        [(false, false), (true, false), (true, true)].map(|(stated, date)| (kind as usize, stated, date))
+    });
+    assert_eq!(met, all.collect());
+}
+
+/// The months of the dates of sound sheets meet those at which a rule changes.
+#[test]
+fn dates_meet_the_months() {
+    let mut met = BTreeSet::new();
+    for sheet in sheets(Kind::Ordinary, 20_000) {
+        let read = independent::sheet::read(&sheet).expect("a sound sheet");
+        if read.facts.reporting_date.is_some() {
+            met.extend(read.tranches.iter().map(|tranche| tranche.months));
+        }
+    }
+    assert!([1, 11, 12, 13, 36, 71, 72, 73, MONTHS - 1, MONTHS]
+        .iter()
+        .all(|months| met.contains(months)));
+}
+
+/// A bad date is refused at its own place: by 17, or as a maturity also by 10.
+#[test]
+fn bad_dates_are_refused() {
+    let reporting = Layout::fact(Fact::ReportingDate) as u64;
+    let (mut reporting_dates, mut maturities, mut months) = (0, 0, 0);
+    for sheet in sheets(Kind::BadDate, 10_000) {
+        let refused = independent::weigh(&sheet, MOST_RESULTS as u64).expect_err("a bad date");
+        let layout = Layout::of_sheet(&sheet);
+        let of_tranche = |tranche| layout.tranche_word(tranche, TrancheWord::Maturity) as u64;
+        match refused.number {
+            refusal::DATE if refused.place == reporting => reporting_dates += 1,
+            number => {
+                assert!((0..layout.tranches).any(|tranche| of_tranche(tranche) == refused.place));
+                maturities += u64::from(number == refusal::DATE);
+                months += u64::from(number == refusal::MATURITY);
+            }
+        }
+    }
+    assert!(
+        reporting_dates > 50 && maturities > 50 && months > 25,
+        "{reporting_dates} {maturities} {months}"
+    );
+}
+
+/// A second sheet with months in place of dates has the independent answer of the first, whether accepted or refused.
+#[test]
+fn months_have_the_answer_of_their_dates() {
+    let (mut accepted, mut refused) = (0, 0);
+    for case in (0..10_000).map(|index| Case::new(16, index)) {
+        if case.relation == Relation::MonthsForDates {
+            let [first, second] = [&case.sheet, &case.second].map(|sheet| independent::weigh(sheet, case.room as u64));
+            assert_eq!(first, second);
+            let date = Layout::fact(Fact::ReportingDate);
+            assert!(case.sheet[date] != 0 && case.second[date] == 0);
+            accepted += u64::from(first.is_ok());
+            refused += u64::from(first.is_err_and(|refused| refused.number != refusal::ROOM));
+        }
+    }
+    assert!(accepted > 100 && refused > 25, "{accepted} {refused}");
+}
+
+/// Facts are added up to each later count.
+#[test]
+fn facts_are_added_up_to_each_count() {
+    let cases = (0..5_000).map(|index| Case::new(17, index));
+    let added = cases.filter(|case| case.relation == Relation::FactsAdded);
+    let counts = added.map(|case| [&case.sheet, &case.second].map(|sheet| sheet[Layout::FACTS_COUNT]));
+    assert_eq!(
+        counts.collect::<BTreeSet<_>>(),
+        BTreeSet::from([[4, 5], [4, 6], [5, 6]])
     );
 }
 
@@ -205,7 +292,7 @@ fn charges_follow_the_kinds() {
     );
 }
 
-/// The limits are met: counts, amounts, maturities, and the largest sums.
+/// The limits are met: counts, amounts, and the largest sums.
 #[test]
 fn limits_are_met() {
     let mut met = BTreeSet::new();
@@ -218,20 +305,9 @@ fn limits_are_met() {
             .map(|tranche| word(tranche, TrancheWord::Amount))
             .sum();
         met.extend([("rows", rows.len() as u64), ("tranches", layout.tranches as u64)]);
-        met.extend([
-            ("nominal", nominal),
-            ("amounts", amounts),
-            ("months", word(0, TrancheWord::Months)),
-        ]);
+        met.extend([("nominal", nominal), ("amounts", amounts)]);
     }
-    let counts = [
-        ("rows", 1),
-        ("rows", ROWS),
-        ("tranches", 1),
-        ("tranches", TRANCHES),
-        ("months", 1),
-        ("months", MONTHS),
-    ];
+    let counts = [("rows", 1), ("rows", ROWS), ("tranches", 1), ("tranches", TRANCHES)];
     let sums = [
         ("nominal", 1),
         ("nominal", ROWS * POOL_AMOUNT),
@@ -246,6 +322,21 @@ fn limits_are_met() {
             .collect::<Vec<_>>(),
         Vec::<&(&str, u64)>::new()
     );
+}
+
+/// The limits of maturities are met, and no others: of months, and of dates after the first and after the last reporting
+/// date.
+#[test]
+fn limits_of_maturities_are_met() {
+    let mut met = BTreeSet::new();
+    for sheet in sheets(Kind::Limits, 20_000) {
+        let layout = Layout::of_sheet(&sheet);
+        let date = layout.fact_word(&sheet, Fact::ReportingDate);
+        met.insert((date, sheet[layout.tranche_word(0, TrancheWord::Maturity)]));
+    }
+    let of_months = [(0, 1), (0, MONTHS)];
+    let of_dates = [(DAYS.0, DAYS.0 + 1), (DAYS.0, 21_000_101), (DAYS.1 - 1, DAYS.1)];
+    assert_eq!(met, of_months.into_iter().chain(of_dates).collect());
 }
 
 /// The same seed and index give the same sheet, whatever was made before.

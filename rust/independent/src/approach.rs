@@ -196,6 +196,7 @@ mod tests {
             due_diligence_held: true,
             composition_known: true,
             stc,
+            reporting_date: None,
         }
     }
 

@@ -1,12 +1,13 @@
-//! Exact tranche weights: the crate follows document 01 (the scope paper), requests S-1 and S-2 of document 02 (the paper
-//! of later requests) and the rating figures of source document 001 alone, and shares nothing with the proved code.
+//! Exact tranche weights: the crate follows document 01 (the scope paper), requests S-1 to S-3 of document 02 (the
+//! paper of later requests) and the rating figures of source document 001 alone, and shares nothing with the proved
+//! code.
 //!
 //! Nothing is rounded but where document 01 names a rounding. Sums and products are whole numbers of 128 bits, where
 //! every intermediate result fits (the largest is about 10^19). The exponentials of the formula are held between two
 //! fixed-point numbers, each rounded outward.
 //!
-//! [`answer`] has the types of the answers. One module stands for each heading of document 01, and uses only `answer`
-//! and modules above it in this list:
+//! [`answer`] has the types of the answers, [`date`] the dates of S-3. One module stands for each heading of document
+//! 01, and uses only these two and modules above it in this list:
 //! - [`sheet`]: "The deal sheet" and "Refusals, by who can cause them", but for refusal 13;
 //! - [`charge`]: "Points and pool charge";
 //! - [`rating`]: "The rating table";
@@ -17,6 +18,7 @@
 pub mod answer;
 pub mod approach;
 pub mod charge;
+pub mod date;
 pub mod formula;
 pub mod rating;
 pub mod sheet;

@@ -1,9 +1,11 @@
-//! "The deal sheet" and "Refusals, by who can cause them" of document 01, with the fifth fact and refusal 16 of S-1.
+//! "The deal sheet" and "Refusals, by who can cause them" of document 01, with the fifth fact and refusal 16 of S-1,
+//! and the sixth fact and refusal 17 of S-3.
 //!
 //! The words are read from place 0 upward, each judged as it is read, so the first bad word decides at its own place.
 //! A missing word comes after all words that are there, so it is found only when none of those is bad.
 
 use crate::answer::Refusal;
+use crate::date::{self, Date};
 
 /// A needed word is missing.
 const MISSING: u64 = 1;
@@ -35,11 +37,15 @@ const SHORT_RESULTS: u64 = 14;
 const FILE_LENGTH: u64 = 15;
 /// An STC mark on a re-securitisation.
 const STC_RESECURITISATION: u64 = 16;
+/// A date that does not exist or is outside its years, or a maturity not after the reporting date.
+const DATE: u64 = 17;
 
-/// The fewest facts: all but the STC mark.
+/// The fewest facts: all but the STC mark and the reporting date.
 pub const FACTS_FEWEST: usize = 4;
-/// The most facts.
-pub const FACTS_MOST: usize = 5;
+/// The facts of a sheet that states all up to the STC mark.
+const FACTS_TO_STC: usize = 5;
+/// The most facts: all up to the reporting date.
+pub const FACTS_MOST: usize = 6;
 /// The most pool rows.
 pub const ROWS_MOST: usize = 1_000;
 /// The words of a pool row.
@@ -77,6 +83,7 @@ pub struct Facts {
     pub due_diligence_held: bool,
     pub composition_known: bool,
     pub stc: bool,
+    pub reporting_date: Option<Date>,
 }
 
 /// The status of a pool row.
@@ -105,7 +112,7 @@ pub struct Row {
     pub status: Status,
 }
 
-/// A tranche row, with the place of its amount.
+/// A tranche row, with its maturity in months in either form of sheet, and with the place of its amount.
 #[derive(Debug, Clone, Copy)]
 pub struct Tranche {
     pub amount: u64,
@@ -158,7 +165,7 @@ pub fn read(words: &[u64]) -> Result<Sheet, Refusal> {
     let pool = (0..rows)
         .map(|_| read_row(&mut reader, facts.resecuritisation))
         .collect::<Result<Vec<_>, _>>()?;
-    let tranches = read_tranches(&mut reader)?;
+    let tranches = read_tranches(&mut reader, facts.reporting_date)?;
     if reader.next < words.len() {
         return Err(Refusal {
             number: TOO_LONG,
@@ -168,8 +175,8 @@ pub fn read(words: &[u64]) -> Result<Sheet, Refusal> {
     Ok(Sheet { facts, pool, tranches })
 }
 
-/// The facts: their count, pool kind, then answers of 0 or 1. A pool kind above 2 is outside its codes (4); kinds 1 and 2
-/// are codes, but the deal is refused for them (12). Both stand at the pool kind's place.
+/// The facts: their count, pool kind, then answers of 0 or 1, then the reporting date. A pool kind above 2 is outside
+/// its codes (4); kinds 1 and 2 are codes, but the deal is refused for them (12). Both stand at the pool kind's place.
 fn read_facts(reader: &mut Reader) -> Result<Facts, Refusal> {
     let count = reader.word(COUNT, |count| {
         (FACTS_FEWEST as u64..=FACTS_MOST as u64).contains(&count)
@@ -187,7 +194,11 @@ fn read_facts(reader: &mut Reader) -> Result<Facts, Refusal> {
         resecuritisation,
         due_diligence_held: read_answer(reader)?,
         composition_known: read_answer(reader)?,
-        stc: count == FACTS_MOST as u64 && read_stc(reader, resecuritisation)?,
+        stc: count >= FACTS_TO_STC as u64 && read_stc(reader, resecuritisation)?,
+        reporting_date: match count == FACTS_MOST as u64 {
+            true => read_reporting_date(reader)?,
+            false => None,
+        },
     })
 }
 
@@ -210,6 +221,12 @@ fn read_stc(reader: &mut Reader, resecuritisation: bool) -> Result<bool, Refusal
     Ok(stc)
 }
 
+/// The reporting date; a word of 0 states none.
+fn read_reporting_date(reader: &mut Reader) -> Result<Option<Date>, Refusal> {
+    let word = reader.word(DATE, |word| word == 0 || Date::of_word(word).is_some())?;
+    Ok(Date::of_word(word))
+}
+
 /// A pool row: exposure amount, nominal amount, risk weight, status.
 fn read_row(reader: &mut Reader, resecuritisation: bool) -> Result<Row, Refusal> {
     let amount_good = |amount| (1..=POOL_AMOUNT_MOST).contains(&amount);
@@ -230,22 +247,26 @@ fn read_status(reader: &mut Reader, resecuritisation: bool) -> Result<Status, Re
 }
 
 /// The tranches, after their count. The first row has class 1; each next row has the class before it or one more.
-fn read_tranches(reader: &mut Reader) -> Result<Vec<Tranche>, Refusal> {
+fn read_tranches(reader: &mut Reader, reporting_date: Option<Date>) -> Result<Vec<Tranche>, Refusal> {
     let count = reader.word(COUNT, |count| (1..=TRANCHES_MOST as u64).contains(&count))?;
     let mut tranches: Vec<Tranche> = Vec::new();
     for _ in 0..count {
         let classes = tranches.last().map_or(1..=1, |before| before.class..=before.class + 1);
-        tranches.push(read_tranche(reader, |class| classes.contains(&class))?);
+        tranches.push(read_tranche(reader, reporting_date, |class| classes.contains(&class))?);
     }
     Ok(tranches)
 }
 
 /// A tranche row: amount, class, maturity, amount held, rating words.
-fn read_tranche(reader: &mut Reader, class_good: impl Fn(u64) -> bool) -> Result<Tranche, Refusal> {
+fn read_tranche(
+    reader: &mut Reader,
+    reporting_date: Option<Date>,
+    class_good: impl Fn(u64) -> bool,
+) -> Result<Tranche, Refusal> {
     let place = reader.place();
     let amount = reader.word(TRANCHE_AMOUNT, |amount| (1..=TRANCHE_AMOUNT_MOST).contains(&amount))?;
     let class = reader.word(CLASS, class_good)?;
-    let months = reader.word(MATURITY, |months| (1..=MONTHS_MOST).contains(&months))?;
+    let months = read_maturity(reader, reporting_date)?;
     let held = reader.word(TRANCHE_AMOUNT, |held| held <= amount)?;
     let mut rating = || reader.word(RATING, |code| matches!(code, 0..=18 | 21..=24));
     let ratings = [rating()?, rating()?, rating()?];
@@ -257,6 +278,21 @@ fn read_tranche(reader: &mut Reader, class_good: impl Fn(u64) -> bool) -> Result
         ratings,
         place,
     })
+}
+
+/// A maturity in months. With a reporting date the word is a date and must name a day after that one (17); then the
+/// months are held to their limits (10). Both stand at the maturity's place.
+fn read_maturity(reader: &mut Reader, reporting_date: Option<Date>) -> Result<u64, Refusal> {
+    let place = reader.place();
+    let word = reader.word(DATE, |word| date::months(reporting_date, word).is_some())?;
+    let months = date::months(reporting_date, word).expect("a good date");
+    if !(1..=MONTHS_MOST).contains(&months) {
+        return Err(Refusal {
+            number: MATURITY,
+            place,
+        });
+    }
+    Ok(months)
 }
 
 /// Refusal 14: results shorter than the lines; place 0.

@@ -1,11 +1,11 @@
-//! The checked deals and the misreadings of document 01, the STC deals of S-1, several ratings by S-2, and the largest
-//! deal, as whole sheets.
+//! The checked deals and the misreadings of document 01, the STC deals of S-1, several ratings by S-2, maturities as
+//! dates by S-3, and the largest deal, as whole sheets.
 
 mod common;
 
 use common::{file, room, sheet, Facts, Row, Tranche};
 use independent::approach::Approach;
-use independent::sheet::{FILE_BYTES, ROWS_MOST, TRANCHES_MOST};
+use independent::sheet::{self, FILE_BYTES, ROWS_MOST, TRANCHES_MOST};
 use independent::{weigh, weigh_file, Amounts, Deal, Line};
 
 /// Facts of an ordinary deal with due diligence and known composition.
@@ -380,6 +380,82 @@ fn lines_depend_on_their_own_ratings() {
     }
 }
 
+/// The months that a sheet with this reporting date and this maturity is read with.
+fn months(reporting_date: u64, maturity: u64) -> u64 {
+    let words = sheet(
+        &[0, 0, 1, 1, 0, reporting_date],
+        &pool_at(100),
+        &[tranche(1_000, 1, maturity, 1)],
+    );
+    sheet::read(&words).expect("an accepted sheet").tranches[0].months
+}
+
+/// The months of S-3, the request's two examples first; month ends, 29 February and the limits. Without a date, with 0
+/// for it, the word is the months.
+#[test]
+fn months_of_maturities() {
+    for (reporting_date, maturity, expected) in [
+        (20_270_131, 20_270_228, 1),
+        (20_270_228, 20_270_331, 2),
+        (20_270_131, 20_270_201, 1),
+        (20_270_131, 20_270_331, 2),
+        (20_270_430, 20_270_531, 2),
+        (20_000_229, 20_040_228, 48),
+        (20_000_229, 20_040_229, 48),
+        (20_000_228, 20_040_229, 49),
+        (20_960_229, 21_000_228, 48),
+        (21_000_228, 21_000_301, 1),
+        (21_991_230, 21_991_231, 1),
+        (20_000_101, 21_000_101, 1_200),
+        (20_991_231, 21_991_231, 1_200),
+        (0, 1, 1),
+        (0, 1_200, 1_200),
+    ] {
+        assert_eq!(
+            months(reporting_date, maturity),
+            expected,
+            "{reporting_date} {maturity}"
+        );
+    }
+}
+
+/// The rating table reads the months counted, here from 31 January 2024. Senior AA has 36 months up to 31 January 2027,
+/// and 37 on the day after. Non-senior BBB, a tenth thick, has 48 up to 31 January 2028, and 49 in February: (220 + 90
+/// x 144 / 240)% x 0.9 and (220 + 90 x 148 / 240)% x 0.9.
+#[test]
+fn table_reads_months_counted() {
+    let weights_at = |maturities: [u64; 2]| {
+        let tranches = [tranche(900, 1, maturities[0], 3), tranche(100, 2, maturities[1], 9)];
+        let deal = weighed(&[0, 0, 1, 0, 0, 20_240_131], &pool_at(100), &tranches);
+        deal.lines.iter().map(weights).collect::<Vec<_>>()
+    };
+    assert_eq!(weights_at([20_270_131, 20_280_131]), [[3_100], [24_660]]);
+    assert_eq!(weights_at([20_270_201, 20_280_229]), [[3_125], [24_795]]);
+    assert_eq!(weights_at([20_270_101, 20_280_201]), [[3_100], [24_795]]);
+}
+
+/// Nothing else depends on the form: a deal with dates has the lines of the deal with 0 for the reporting date and with
+/// the months counted, and so has one with fewer facts.
+#[test]
+fn dates_and_months_give_the_same_lines() {
+    let in_form = |facts: Facts, status, maturities: [u64; 3]| {
+        let [first, second, third] = maturities;
+        let tranches = [
+            tranche(800, 1, first, 1),
+            tranche(150, 2, second, 9),
+            tranche(50, 3, third, 0),
+        ];
+        weighed(facts, &[[1_000, 1_000, 125, status]], &tranches)
+    };
+    let (dates, counted) = ([20_270_228, 20_300_331, 21_270_131], [1, 38, 1_200]);
+    for (resecuritisation, stc, status) in [(0, 0, 0), (0, 1, 0), (1, 0, 3)] {
+        let facts = |date| [0, resecuritisation, 1, 1, stc, date];
+        let dated = in_form(&facts(20_270_131), status, dates);
+        assert_eq!(dated, in_form(&facts(0), status, counted));
+        assert_eq!(dated, in_form(&facts(0)[..5], status, counted));
+    }
+}
+
 /// The largest deal: the most facts, rows and tranches, all amounts and weights at their most, fills the largest file. Each
 /// tranche holds the whole pool, so all but the first have A = D = 0.
 #[test]
@@ -387,9 +463,9 @@ fn largest_amounts() {
     let most = 10_000_000_000;
     let pool = vec![[most, most, 1250, 0]; ROWS_MOST];
     let tranches: Vec<Tranche> = (1..=TRANCHES_MOST as u64)
-        .map(|class| tranche(ROWS_MOST as u64 * most, class, 1200, 0))
+        .map(|class| tranche(ROWS_MOST as u64 * most, class, 21_991_231, 0))
         .collect();
-    let words = sheet(STC, &pool, &tranches);
+    let words = sheet(&[0, 0, 1, 1, 1, 20_991_231], &pool, &tranches);
     assert_eq!(file(&words).len(), FILE_BYTES);
     let deal = weigh_file(&file(&words), room(TRANCHES_MOST)).expect("an accepted file");
     assert_eq!((deal.charge, deal.lines.len()), (1_000_000, TRANCHES_MOST));

@@ -17,18 +17,23 @@ fn refusal(number: u64, place: u64) -> Refusal {
 /// A sheet without due diligence, so that no refusal but those of its words can come. Nothing is held. The places: 1 to 4
 /// the facts, 6 to 13 two pool rows, 14 the tranche count, 15, 22 and 29 the tranche amounts.
 fn plain(resecuritisation: u64, status: u64) -> Vec<u64> {
-    plain_with(&[0, resecuritisation, 0, 0], status)
+    plain_with(&[0, resecuritisation, 0, 0], status, 72)
 }
 
 /// The same with five facts, so that all places after the facts are one higher.
 fn plain_five(resecuritisation: u64, status: u64) -> Vec<u64> {
-    plain_with(&[0, resecuritisation, 0, 0, 0], status)
+    plain_with(&[0, resecuritisation, 0, 0, 0], status, 72)
 }
 
-/// Such a sheet with these facts.
-fn plain_with(facts: Facts, status: u64) -> Vec<u64> {
+/// The same with six facts, so that all places after the facts are two higher: the maturities stand at 19, 26 and 33.
+fn plain_six(reporting_date: u64, maturity: u64) -> Vec<u64> {
+    plain_with(&[0, 0, 0, 0, 0, reporting_date], 0, maturity)
+}
+
+/// Such a sheet with these facts and this maturity of all tranches.
+fn plain_with(facts: Facts, status: u64, maturity: u64) -> Vec<u64> {
     let row = [500, 500, 100, status];
-    let tranche = |class| [300, class, 72, 0, 0, 0, 0];
+    let tranche = |class| [300, class, maturity, 0, 0, 0, 0];
     sheet(facts, &[row, row], &[tranche(1), tranche(2), tranche(2)])
 }
 
@@ -56,7 +61,7 @@ fn limits(words: &[u64], places: &[usize], good: &[u64], bad: &[u64], number: u6
 #[test]
 fn counts_and_facts() {
     let words = plain(0, 0);
-    limits(&words, &[0], &[4], &[0, 3, 6, MOST], 2);
+    limits(&words, &[0], &[4], &[0, 3, 7, MOST], 2);
     limits(&words, &[5], &[2], &[0, 1_001, MOST], 2);
     limits(&words, &[14], &[3], &[0, 33, MOST], 2);
     limits(&words, &[1], &[0], &[3, MOST], 4);
@@ -69,12 +74,142 @@ fn counts_and_facts() {
 #[test]
 fn five_facts() {
     let words = plain_five(0, 0);
-    limits(&words, &[0], &[5], &[0, 3, 6, MOST], 2);
+    limits(&words, &[0], &[5], &[0, 3, 7, MOST], 2);
     limits(&words, &[6], &[2], &[0, 1_001, MOST], 2);
     limits(&words, &[15], &[3], &[0, 33, MOST], 2);
     limits(&words, &[1], &[0], &[3, MOST], 4);
     limits(&words, &[1], &[0], &[1, 2], 12);
     limits(&words, &[3, 4, 5], &[0, 1], &[2, MOST], 4);
+}
+
+/// With six facts: the counts and the facts at their places. A sixth fact of 0 states no date, so that maturities are
+/// months, and a date is too many of them.
+#[test]
+fn six_facts() {
+    let words = plain_six(0, 72);
+    limits(&words, &[0], &[6], &[0, 3, 7, MOST], 2);
+    limits(&words, &[7], &[2], &[0, 1_001, MOST], 2);
+    limits(&words, &[16], &[3], &[0, 33, MOST], 2);
+    limits(&words, &[1], &[0], &[3, MOST], 4);
+    limits(&words, &[1], &[0], &[1, 2], 12);
+    limits(&words, &[3, 4, 5], &[0, 1], &[2, MOST], 4);
+    let maturities = [19, 26, 33];
+    limits(&words, &maturities, &[1, 1200], &[0, 1201, 20_300_101, MOST], 10);
+    assert_eq!(weigh(&with(&words, 2, 1), 0), Err(refusal(7, 11)));
+    assert_eq!(weigh(&with(&with(&words, 2, 1), 5, 1), 0), Err(refusal(16, 5)));
+}
+
+/// Words other than 0 that name no day of the years 2000 to 2199.
+const NO_DAYS: [u64; 22] = [
+    1,
+    36,
+    1_200,
+    1_201,
+    101,
+    19_991_231,
+    20_000_001,
+    20_000_100,
+    20_000_132,
+    20_000_230,
+    20_010_229,
+    20_240_431,
+    20_241_301,
+    21_000_229,
+    21_991_232,
+    22_000_101,
+    22_000_229,
+    2_024_020_100,
+    20_240_201 + (1 << 32),
+    20_240_201 + (1 << 63),
+    MOST - 1,
+    MOST,
+];
+
+/// Refusal 17 at the reporting date: no such day, another year, or a word of any size.
+#[test]
+fn reporting_dates() {
+    let words = plain_six(20_240_131, 20_991_231);
+    let good = [20_000_101, 20_000_229, 20_040_229, 20_240_430, 20_960_229, 20_991_230];
+    limits(&words, &[6], &good, &NO_DAYS, 17);
+    let late = plain_six(20_991_231, 21_991_231);
+    limits(
+        &late,
+        &[6],
+        &[21_000_228, 21_000_301, 21_040_229, 21_991_230],
+        &NO_DAYS,
+        17,
+    );
+}
+
+/// Refusals 17 and 10 at the maturities of a sheet with a reporting date: 17 for a word that names no day or none after
+/// that date, the date itself too; 10 for a day more than 1200 months on.
+#[test]
+fn maturities_as_dates() {
+    let words = plain_six(20_240_131, 20_300_131);
+    let maturities = [19, 26, 33];
+    limits(&words, &maturities, &[20_240_201, 20_240_229, 21_240_131], &NO_DAYS, 17);
+    let not_after = [
+        0, 20_000_101, 20_230_201, 20_231_231, 20_240_101, 20_240_130, 20_240_131,
+    ];
+    limits(&words, &maturities, &[20_240_201], &not_after, 17);
+    limits(
+        &words,
+        &maturities,
+        &[21_240_131],
+        &[21_240_201, 21_240_229, 21_991_231],
+        10,
+    );
+}
+
+/// The limit of 1200 months: the last day within it, and the day after that one, in the same month or in the next.
+#[test]
+fn months_at_their_limit() {
+    let judged = |from, to| weigh(&plain_six(from, to), room(3)).map(|deal| deal.lines.len());
+    for (from, most, above) in [
+        (20_240_115, 21_240_115, 21_240_116),
+        (20_000_101, 21_000_101, 21_000_102),
+        (20_000_229, 21_000_228, 21_000_301),
+        (20_991_230, 21_991_230, 21_991_231),
+        (20_000_930, 21_000_930, 21_001_001),
+    ] {
+        assert_eq!(judged(from, most), Ok(3), "{from}");
+        assert_eq!(judged(from, above), Err(refusal(10, 19)), "{from}");
+    }
+    assert_eq!(judged(20_991_231, 21_991_231), Ok(3));
+}
+
+/// A word is judged as a date before its months are: one that is no date, or not after the reporting date, gets 17
+/// though its months would be outside their limits too.
+#[test]
+fn dates_are_judged_before_months() {
+    for maturity in [0, 1_201, 22_000_101, 21_240_231, 20_240_131, MOST] {
+        let words = plain_six(20_240_131, maturity);
+        assert_eq!(weigh(&words, room(3)), Err(refusal(17, 19)), "{maturity}");
+    }
+    // The first maturity that is bad decides, by either number.
+    let words = plain_six(20_240_131, 20_300_131);
+    let two_bad = |first, second| weigh(&with(&with(&words, 19, first), 26, second), 0);
+    assert_eq!(two_bad(21_991_231, 36), Err(refusal(10, 19)));
+    assert_eq!(two_bad(36, 21_991_231), Err(refusal(17, 19)));
+}
+
+/// 17 is judged in its place: after the words before it, before all later words, bad or missing, and before words that
+/// follow and short results.
+#[test]
+fn dates_are_judged_in_their_places() {
+    let bad_date = plain_six(20_240_230, 20_300_131);
+    assert_eq!(weigh(&with(&bad_date, 5, 2), 0), Err(refusal(4, 5)));
+    assert_eq!(weigh(&with(&bad_date, 7, 0), 0), Err(refusal(17, 6)));
+    assert_eq!(weigh(&with(&bad_date, 19, 36), 0), Err(refusal(17, 6)));
+    assert_eq!(weigh(&bad_date[..7], 0), Err(refusal(17, 6)));
+    assert_eq!(weigh(&bad_date[..6], 0), Err(refusal(1, 6)));
+    assert_eq!(weigh(&[bad_date, vec![0]].concat(), 0), Err(refusal(17, 6)));
+    let bad_maturity = plain_six(20_240_131, 36);
+    assert_eq!(weigh(&with(&bad_maturity, 18, 2), 0), Err(refusal(9, 18)));
+    assert_eq!(weigh(&with(&bad_maturity, 20, 301), 0), Err(refusal(17, 19)));
+    assert_eq!(weigh(&bad_maturity[..20], 0), Err(refusal(17, 19)));
+    assert_eq!(weigh(&bad_maturity[..19], 0), Err(refusal(1, 19)));
+    assert_eq!(weigh(&[bad_maturity, vec![0]].concat(), 0), Err(refusal(17, 19)));
 }
 
 /// Refusal 16: an STC mark of 1 on a re-securitisation. A mark that is no code gets 4 there too.
@@ -100,11 +235,17 @@ fn mark_is_judged_in_its_place() {
 }
 
 /// A count of five asks for a fifth fact, whatever was meant: in a sheet with four it takes the count of rows for the
-/// mark, and a count of four takes the mark for the count of rows.
+/// mark, and a count of four takes the mark for the count of rows. A count of six asks for a sixth fact in the same
+/// way.
 #[test]
 fn count_of_facts_decides() {
     assert_eq!(weigh(&with(&plain(0, 0), 0, 5), room(3)), Err(refusal(4, 5)));
+    assert_eq!(weigh(&with(&plain(0, 0), 0, 6), room(3)), Err(refusal(4, 5)));
     assert_eq!(weigh(&with(&plain_five(0, 0), 0, 4), room(3)), Err(refusal(2, 5)));
+    assert_eq!(weigh(&with(&plain_five(0, 0), 0, 6), room(3)), Err(refusal(17, 6)));
+    for words in [plain_six(0, 72), plain_six(20_240_131, 20_300_131)] {
+        assert_eq!(weigh(&with(&words, 0, 5), room(3)), Err(refusal(2, 6)));
+    }
 }
 
 /// Refusals 5, 6 and 7: the pool rows, in an ordinary deal and in a re-securitisation.
@@ -167,7 +308,12 @@ fn counts_at_their_limits() {
 /// Refusal 1: a sheet cut short anywhere lacks a needed word, at its length.
 #[test]
 fn missing_words() {
-    for words in [plain(0, 0), plain_five(0, 0)] {
+    for words in [
+        plain(0, 0),
+        plain_five(0, 0),
+        plain_six(0, 72),
+        plain_six(20_240_131, 20_300_131),
+    ] {
         for length in 0..words.len() {
             assert_eq!(weigh(&words[..length], room(3)), Err(refusal(1, length as u64)));
         }
@@ -243,6 +389,8 @@ fn no_thickness() {
     // In an STC deal too, at a place that is one higher.
     assert_eq!(weigh(&thin(&[0, 0, 1, 1, 1], 0, 0), room(3)), Err(refusal(13, 26)));
     assert!(weigh(&thin(&[0, 0, 1, 1, 1], 0, 18), room(3)).is_ok());
+    // With a sixth fact it is two higher.
+    assert_eq!(weigh(&thin(&[0, 0, 1, 1, 0, 0], 0, 0), room(3)), Err(refusal(13, 27)));
 }
 
 /// A equal to D at the charge is accepted, one millionth above the charge it is refused.
@@ -270,8 +418,8 @@ fn no_thickness_at_the_charge() {
     assert_eq!(deal(1_000_010_001), Err(refusal(13, 18)));
 }
 
-/// Refusal 15: a length that is not a multiple of 8 or over the most, which is 33,856 bytes, before all others, at place
-/// 0.
+/// Refusal 15: a length that is not a multiple of 8 or over the most, which is 33,864 bytes, before all others, at
+/// place 0.
 #[test]
 fn file_lengths() {
     let bytes = file(&plain(0, 0));
@@ -281,7 +429,7 @@ fn file_lengths() {
         assert_eq!(weigh_file(&bytes[..length], 0), Err(refusal(15, 0)));
     }
     assert_eq!(weigh_file(&bytes[..16], 0), Err(refusal(1, 2)));
-    assert_eq!(FILE_BYTES, 33_856);
+    assert_eq!(FILE_BYTES, 33_864);
     assert_eq!(weigh_file(&[255; FILE_BYTES], 0), Err(refusal(2, 0)));
     assert_eq!(weigh_file(&[255; FILE_BYTES + 8], 0), Err(refusal(15, 0)));
     assert_eq!(weigh_file(&[255; FILE_BYTES - 1], 0), Err(refusal(15, 0)));

@@ -1,17 +1,19 @@
 //! "The deal sheet" and "Refusals": how many words there are of each sort, the highest values, and the numbers of the
 //! refusals.
 
-/// The fewest facts of a sheet: all but the STC mark.
+use std::ops::RangeInclusive;
+
+/// The fewest facts of a sheet: all but the STC mark and the reporting date.
 pub const FEWEST_FACTS: u64 = 4;
 /// The most facts of a sheet.
-pub const MOST_FACTS: u64 = 5;
+pub const MOST_FACTS: u64 = 6;
 /// The most rows that a pool can hold.
 pub const MOST_ROWS: u64 = 1_000;
 /// The most tranches that a sheet can hold.
 pub const MOST_TRANCHES: usize = 32;
 /// The ratings of a tranche.
 pub const RATINGS: usize = 3;
-/// Words of a tranche's row: amount, class, months, amount held, ratings.
+/// Words of a tranche's row: amount, class, maturity, amount held, ratings.
 pub const TRANCHE_WORDS: usize = 4 + RATINGS;
 /// Result words for each tranche: approach, A, D, weight, risk-weighted amount, capital.
 pub const LINE_WORDS: usize = 6;
@@ -24,6 +26,8 @@ pub const MOST_RISK_WEIGHT: u64 = 1_250;
 pub const MOST_TRANCHE_AMOUNT: u64 = 10_000_000_000_000;
 /// The longest maturity, in months.
 pub const MOST_MONTHS: u64 = 1_200;
+/// The years of a date.
+pub const YEARS: RangeInclusive<u64> = 2000..=2199;
 
 /// The numbers of the refusals.
 pub mod refusal {
@@ -57,4 +61,6 @@ pub mod refusal {
     pub const ROOM: u64 = 14;
     /// An STC mark on a re-securitisation.
     pub const STC_RESECURITISATION: u64 = 16;
+    /// No date, or a maturity not after the reporting date.
+    pub const DATE: u64 = 17;
 }

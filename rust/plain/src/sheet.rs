@@ -1,5 +1,6 @@
 //! "The deal sheet" and "Refusals": reading the words in order and refusing the first bad one.
 
+use crate::date::Date;
 use crate::limits::{
     refusal, FEWEST_FACTS, MOST_FACTS, MOST_MONTHS, MOST_POOL_AMOUNT, MOST_RISK_WEIGHT, MOST_ROWS, MOST_TRANCHES,
     MOST_TRANCHE_AMOUNT, RATINGS, TRANCHE_WORDS,
@@ -30,22 +31,25 @@ pub struct Facts {
     pub due_diligence: bool,
     pub composition_known: bool,
     pub stc: bool,
+    /// Where there is one, the maturities are dates.
+    pub reporting_date: Option<Date>,
 }
 
 /// A tranche's row by its names. The amount is used in the points alone and is left out.
 pub struct Tranche {
     pub class: u64,
-    pub months: u64,
+    /// Months, or a date's word where the deal has a reporting date.
+    pub maturity: u64,
     pub held: u64,
     pub ratings: [u64; RATINGS],
 }
 
 impl From<&[u64; TRANCHE_WORDS]> for Tranche {
     /// Names the words of a row.
-    fn from(&[_, class, months, held, first, second, third]: &[u64; TRANCHE_WORDS]) -> Self {
+    fn from(&[_, class, maturity, held, first, second, third]: &[u64; TRANCHE_WORDS]) -> Self {
         Tranche {
             class,
-            months,
+            maturity,
             held,
             ratings: [first, second, third],
         }
@@ -59,7 +63,7 @@ pub fn read(sheet: &[u64]) -> Result<Deal<'_>, Refusal> {
     let pool = reader.pool(facts.resecuritisation)?;
     let count = reader.within(1..=MOST_TRANCHES as u64, refusal::COUNT)?;
     let first_tranche = reader.place;
-    reader.check_tranches(count)?;
+    reader.check_tranches(count, facts.reporting_date)?;
     if reader.place < sheet.len() {
         return Err((refusal::FOLLOWS, reader.place as u64));
     }
@@ -118,14 +122,36 @@ impl Reader<'_> {
             due_diligence: self.flag()?,
             composition_known: self.flag()?,
             stc: false,
+            reporting_date: None,
         };
-        if count == MOST_FACTS {
+        if count > FEWEST_FACTS {
             facts.stc = self.flag()?;
         }
         if facts.stc && facts.resecuritisation {
             return self.refuse(refusal::STC_RESECURITISATION);
         }
+        if count == MOST_FACTS {
+            facts.reporting_date = self.reporting_date()?;
+        }
         Ok(facts)
+    }
+
+    /// The reporting date; 0 is none.
+    fn reporting_date(&mut self) -> Result<Option<Date>, Refusal> {
+        match self.next()? {
+            0 => Ok(None),
+            word => self.date(word).map(Some),
+        }
+    }
+
+    /// The date of the word that was read last.
+    fn date(&self, word: u64) -> Result<Date, Refusal> {
+        let date = Date::from(word);
+        if date.exists() {
+            Ok(date)
+        } else {
+            self.refuse(refusal::DATE)
+        }
     }
 
     /// The section of the pool, added up row by row. A re-securitisation holds securitisation tranches and nothing else.
@@ -151,12 +177,12 @@ impl Reader<'_> {
     }
 
     /// The rows of the tranches. Each class is the one before it or one more; the first is 1.
-    fn check_tranches(&mut self, count: u64) -> Result<(), Refusal> {
+    fn check_tranches(&mut self, count: u64, reporting_date: Option<Date>) -> Result<(), Refusal> {
         let mut classes = 1..=1;
         for _ in 0..count {
             let amount = self.within(1..=MOST_TRANCHE_AMOUNT, refusal::TRANCHE_AMOUNT)?;
             let class = self.within(classes, refusal::CLASS)?;
-            self.within(1..=MOST_MONTHS, refusal::MATURITY)?;
+            self.check_maturity(reporting_date)?;
             self.within(0..=amount, refusal::TRANCHE_AMOUNT)?;
             for _ in 0..RATINGS {
                 if !matches!(self.next()?, 0..=18 | 21..=24) {
@@ -166,5 +192,23 @@ impl Reader<'_> {
             classes = class..=class + 1;
         }
         Ok(())
+    }
+
+    /// A maturity: months, or a date after the reporting date.
+    fn check_maturity(&mut self, reporting_date: Option<Date>) -> Result<(), Refusal> {
+        let word = self.next()?;
+        let mut months = word;
+        if let Some(reporting_date) = reporting_date {
+            let maturity = self.date(word)?;
+            if maturity <= reporting_date {
+                return self.refuse(refusal::DATE);
+            }
+            months = reporting_date.months_to(maturity);
+        }
+        if (1..=MOST_MONTHS).contains(&months) {
+            Ok(())
+        } else {
+            self.refuse(refusal::MATURITY)
+        }
     }
 }

@@ -1,5 +1,6 @@
 //! "Which approach, then floor, then cap" and "The formula and its series", tranche by tranche.
 
+use crate::date::Date;
 use crate::kind::Kind;
 use crate::limits::{LINE_WORDS, RATINGS};
 use crate::points::Points;
@@ -24,6 +25,7 @@ pub struct Terms {
     charge_known: bool,
     due_diligence: bool,
     resecuritisation: bool,
+    reporting_date: Option<Date>,
     kind: &'static Kind,
     /// The cap of class 1; infinite where the deal has none.
     senior_cap: f64,
@@ -40,6 +42,7 @@ impl Terms {
             charge_known: charge.is_some(),
             due_diligence: facts.due_diligence,
             resecuritisation: facts.resecuritisation,
+            reporting_date: facts.reporting_date,
             kind: Kind::of(facts),
             senior_cap: if capped { deal.pool.cap() } else { f64::INFINITY },
         }
@@ -92,16 +95,25 @@ impl Terms {
 
     /// The weight by the ratings that are present: of three the middle one, of fewer the highest.
     fn rated_weight(&self, tranche: &Tranche, points: &Points) -> f64 {
+        let months = self.months(tranche.maturity);
         let mut weights = [0.0; RATINGS];
         let mut count = 0;
         for &code in tranche.ratings.iter().filter(|&&code| code != 0) {
-            weights[count] = rating::weight(self.kind.table, code, tranche.class == 1, tranche.months, points);
+            weights[count] = rating::weight(self.kind.table, code, tranche.class == 1, months, points);
             count += 1;
         }
         let [first, second, third] = weights;
         match count {
             RATINGS => first.max(second.min(third)).min(second.max(third)),
             _ => first.max(second),
+        }
+    }
+
+    /// The months of a maturity.
+    fn months(&self, maturity: u64) -> u64 {
+        match self.reporting_date {
+            Some(reporting_date) => reporting_date.months_to(maturity.into()),
+            None => maturity,
         }
     }
 

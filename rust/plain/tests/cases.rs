@@ -1,5 +1,5 @@
-//! Document 01's checked deals and refusals, the STC deals of S-1 and several ratings by S-2, through the one function
-//! that callers have.
+//! Document 01's checked deals and refusals, the STC deals of S-1, several ratings by S-2 and the dates of S-3, through
+//! the one function that callers have.
 
 use plain::LINE_WORDS;
 
@@ -205,6 +205,56 @@ fn stc_mark_is_judged_at_the_fifth_fact() {
     refused(&[5, 0, 1, 1, 1], 3 * LINE_WORDS, 1, 5);
 }
 
+/// A sheet of two rated tranches with this reporting date, its sixth fact, and this maturity of both.
+fn dated(reporting_date: u64, maturity: u64) -> Vec<u64> {
+    let facts = [6, 0, 0, 1, 1, 0, reporting_date];
+    let rated = |class, rating| [500, class, maturity, 0, rating, 0, 0];
+    sheet(&facts, &[[1_000, 1_000, 100, 0]], &[rated(1, 3), rated(2, 9)])
+}
+
+/// The lines are those of the months; a reporting date of 0 is none.
+#[test]
+fn dates_give_the_months() {
+    for (reporting_date, maturity, months) in [
+        (20_260_131, 20_280_131, 24),
+        (20_260_131, 20_280_229, 25),
+        (20_240_229, 20_260_228, 24),
+        (20_240_229, 20_260_301, 25),
+        (20_260_228, 20_280_331, 26),
+        (20_000_101, 21_000_101, 1_200),
+    ] {
+        let by_months = weighed(&dated(0, months));
+        assert_eq!(weighed(&dated(reporting_date, maturity)), by_months, "{months} months");
+    }
+    let with_zeros = [&[6, 0, 0, 1, 1, 0, 0], &CHECKED[5..]].concat();
+    assert_eq!(weighed(&with_zeros), weighed(&CHECKED));
+}
+
+/// 17 at the sixth fact or at a maturity, before 10 and after 16; without a reporting date a date is too many months.
+#[test]
+fn dates_are_refused_at_their_places() {
+    let (fact, maturity) = (6, 15);
+    for (reporting_date, maturing, number, place) in [
+        (36, 20_321_116, 17, fact),
+        (21_000_229, 21_321_116, 17, fact),
+        (22_000_101, 22_000_102, 17, fact),
+        (u64::MAX, 20_321_116, 17, fact),
+        (20_261_116, 0, 17, maturity),
+        (20_261_116, 36, 17, maturity),
+        (20_261_116, 20_320_230, 17, maturity),
+        (20_261_116, 20_261_116, 17, maturity),
+        (20_261_116, 20_261_115, 17, maturity),
+        (20_261_116, u64::MAX, 17, maturity),
+        (20_261_116, 21_261_117, 10, maturity),
+        (0, 20_321_116, 10, maturity),
+        (0, 0, 10, maturity),
+    ] {
+        refused(&dated(reporting_date, maturing), 2 * LINE_WORDS, number, place);
+    }
+    refused(&[6, 0, 1, 1, 1, 1, 36], 0, 16, 5);
+    refused(&[6, 0, 0, 1, 1, 0], 0, 1, 6);
+}
+
 /// The rating would give 2,000, and the cap 10,000.
 #[test]
 fn no_due_diligence_gives_the_fallback() {
@@ -221,7 +271,7 @@ fn no_due_diligence_gives_the_fallback() {
 fn each_bad_word_is_refused_at_its_place() {
     let changes = [
         (0, 3, 2),
-        (0, 6, 2),
+        (0, 7, 2),
         (1, 1, 12),
         (1, 2, 12),
         (1, 3, 4),

@@ -1,4 +1,6 @@
-//! The facts of a deal (document 01, "The deal sheet").
+//! The facts of a deal (document 01, "The deal sheet"; document 02, S-3).
+
+use crate::date::Date;
 
 /// What is said of the deal as a whole: nothing at first, and then what each `with_…` says.
 ///
@@ -19,14 +21,17 @@ pub struct Facts {
     /// The pool's composition is known. Without it no tranche gets the cap of the senior class, the average risk weight
     /// of the pool.
     pub pool_composition_known: bool,
+    /// The reporting date. With it the maturity of every tranche is a date, and without it a number of months.
+    pub reporting_date: Option<Date>,
 }
 
 impl Facts {
-    /// No due diligence is held and the pool's composition is not known.
+    /// No due diligence is held, the pool's composition is not known, and there is no reporting date.
     pub const fn new() -> Facts {
         Facts {
             due_diligence_held: false,
             pool_composition_known: false,
+            reporting_date: None,
         }
     }
 
@@ -44,6 +49,17 @@ impl Facts {
     pub const fn with_pool_composition_known(self, known: bool) -> Facts {
         Facts {
             pool_composition_known: known,
+            ..self
+        }
+    }
+
+    /// The same facts, with a reporting date or without one.
+    ///
+    /// With one, each tranche is made by [`Tranche::maturing_on`](crate::Tranche::maturing_on).
+    #[must_use]
+    pub const fn with_reporting_date(self, date: Option<Date>) -> Facts {
+        Facts {
+            reporting_date: date,
             ..self
         }
     }

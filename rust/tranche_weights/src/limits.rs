@@ -1,5 +1,5 @@
 //! The parts of a sheet, of a line and of a report, with the sizes that follow from them, and the limits of a sheet's
-//! numbers (document 01, "The deal sheet" and "Checked deals"; document 02, S-1).
+//! numbers (document 01, "The deal sheet" and "Checked deals"; document 02, S-1 and S-3).
 //!
 //! A size that has parts is worked out from them, so that each number stands here once.
 
@@ -7,7 +7,7 @@
 pub const FEWEST_FACTS: usize = 4;
 
 /// The most facts that a sheet states. A fact that it leaves out at the end of its list counts as 0.
-pub const MOST_FACTS: usize = 5;
+pub const MOST_FACTS: usize = 6;
 
 /// The most rows that a pool has; the fewest is 1.
 pub const MOST_ROWS: usize = 1000;
@@ -72,3 +72,6 @@ pub(crate) const TRANCHE_AMOUNT: (u64, u64) = (1, 10_000_000_000_000);
 
 /// The lowest and the highest maturity of a tranche, in months.
 pub(crate) const MONTHS: (u64, u64) = (1, 1200);
+
+/// The first and the last year of a date.
+pub(crate) const YEARS: (u64, u64) = (2000, 2199);

@@ -1,4 +1,4 @@
-//! Refusals (document 01, "Refusals, by who can cause them"; document 02, S-1).
+//! Refusals (document 01, "Refusals, by who can cause them"; document 02, S-1 and S-3).
 
 use std::error::Error;
 use std::fmt;
@@ -41,6 +41,9 @@ pub enum Reason {
     FileLength,
     /// 16: an STC mark on a re-securitisation.
     StcMark,
+    /// 17: with a reporting date: a date that does not exist or lies outside the years 2000 to 2199, or a maturity not
+    /// after the reporting date.
+    Date,
     /// A number that is not listed. The library never gives one; one would mean that another archive was linked in its
     /// place. The number is kept here, so that nothing false is said of it.
     Unlisted(u64),
@@ -66,6 +69,7 @@ impl Reason {
             Reason::Room => 14,
             Reason::FileLength => 15,
             Reason::StcMark => 16,
+            Reason::Date => 17,
             Reason::Unlisted(number) => number,
         }
     }
@@ -84,7 +88,7 @@ const LISTED: &[(Reason, &str)] = &[
     (Reason::MissingWord, "the sheet ends too early; the place is its length"),
     (
         Reason::Count,
-        "a count is outside its limits: 4 or 5 facts, 1 to 1,000 pool rows, 1 to 32 tranches",
+        "a count is outside its limits: 4 to 6 facts, 1 to 1,000 pool rows, 1 to 32 tranches",
     ),
     (
         Reason::WordsFollow,
@@ -110,9 +114,14 @@ const LISTED: &[(Reason, &str)] = &[
     (Reason::Room, "the calling program lent too few result words; place 0"),
     (
         Reason::FileLength,
-        "the file's length is no multiple of 8, or above 33,856 bytes; place 0",
+        "the file's length is no multiple of 8, or above 33,864 bytes; place 0",
     ),
     (Reason::StcMark, "an STC mark on a re-securitisation"),
+    (
+        Reason::Date,
+        "with a reporting date: a date that does not exist or lies outside the years 2000 to 2199, or a maturity not \
+         after the reporting date",
+    ),
 ];
 
 /// What is wrong where the number is not listed.
@@ -165,7 +174,7 @@ mod tests {
     use super::{Reason, Refusal, LISTED};
     use crate::limits::{
         BYTES_PER_WORD, FEWEST_FACTS, FILE_BYTES, MONTHS, MOST_FACTS, MOST_ROWS, MOST_TRANCHES, POOL_AMOUNT,
-        RISK_WEIGHT, TRANCHE_AMOUNT,
+        RISK_WEIGHT, TRANCHE_AMOUNT, YEARS,
     };
 
     /// The repository's README.
@@ -206,9 +215,10 @@ mod tests {
     /// A text that names limits names those of the crate.
     #[test]
     fn texts_name_the_limits() {
-        let (pool, tranche, (shortest, longest)) = (power(POOL_AMOUNT.1), power(TRANCHE_AMOUNT.1), MONTHS);
+        let (pool, tranche) = (power(POOL_AMOUNT.1), power(TRANCHE_AMOUNT.1));
+        let ((shortest, longest), (first, last)) = (MONTHS, YEARS);
         let (rows, bytes) = (grouped(MOST_ROWS), grouped(FILE_BYTES));
-        let facts = format!("{FEWEST_FACTS} or {MOST_FACTS} facts");
+        let facts = format!("{FEWEST_FACTS} to {MOST_FACTS} facts");
         let counts = format!("{facts}, 1 to {rows} pool rows, 1 to {MOST_TRANCHES} tranches");
         let parts = [
             (Reason::Count, counts),
@@ -220,6 +230,7 @@ mod tests {
                 Reason::FileLength,
                 format!("multiple of {BYTES_PER_WORD}, or above {bytes} bytes; "),
             ),
+            (Reason::Date, format!("outside the years {first} to {last}, ")),
         ];
         for (reason, part) in parts {
             assert!(reason.to_string().contains(&part), "{reason}: {part}");

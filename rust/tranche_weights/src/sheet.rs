@@ -1,8 +1,9 @@
-//! The sheet of a deal and its builder (document 01, "The deal sheet"; document 02, S-1).
+//! The sheet of a deal and its builder (document 01, "The deal sheet"; document 02, S-1 and S-3).
 
 use std::marker::PhantomData;
 
 use crate::calls::weigh_sheet;
+use crate::date::Date;
 use crate::deal::Deal;
 use crate::facts::Facts;
 use crate::limits::{FEWEST_FACTS, MOST_FACTS, MOST_ROWS, MOST_TRANCHES, ROW_WORDS, TRANCHE_WORDS};
@@ -35,8 +36,11 @@ const SECURITISATION_TRANCHE: u64 = 3;
 
 /// Builds the sheet of a deal: rows in any order, tranches from senior to junior.
 ///
-/// The sheet states no fact that it can leave out: [`FEWEST_FACTS`] in a deal without the STC mark, and the mark after
-/// them in an STC deal. So a deal keeps its words, and each word its place, when later versions have further facts.
+/// The sheet states no fact that it can leave out: [`FEWEST_FACTS`] in a deal with neither STC mark nor reporting date,
+/// and after them the mark where the deal is STC, or mark and date where it has a reporting date. So a deal keeps its
+/// words, and each word its place, when later versions have further facts.
+///
+/// In a deal with a reporting date each tranche's maturity is a date, and in any other a number of months.
 ///
 /// A method that answers with an error leaves the builder as it was.
 #[derive(Debug, Clone, PartialEq, Eq)]
@@ -45,6 +49,7 @@ pub struct SheetBuilder<Kind> {
     facts: [[u64; 1]; MOST_FACTS],
     rows: Vec<[u64; ROW_WORDS]>,
     tranches: Vec<[u64; TRANCHE_WORDS]>,
+    reporting_date: Option<Date>,
     /// The class of the last tranche placed; 0 before the first.
     class: u64,
     kind: PhantomData<Kind>,
@@ -123,11 +128,13 @@ impl<Kind> SheetBuilder<Kind> {
             u64::from(facts.due_diligence_held),
             u64::from(facts.pool_composition_known),
             u64::from(kind == DealKind::Stc),
+            facts.reporting_date.map_or(0, Date::word),
         ];
         SheetBuilder {
             facts: words.map(|word| [word]),
             rows: Vec::new(),
             tranches: Vec::new(),
+            reporting_date: facts.reporting_date,
             class: 0,
             kind: PhantomData,
         }
@@ -147,7 +154,10 @@ impl<Kind> SheetBuilder<Kind> {
     ///
     /// # Errors
     ///
-    /// [`SheetError::TooManyTranches`] where the deal is full.
+    /// [`SheetError::TooManyTranches`] where the deal is full. [`SheetError::MonthsWithReportingDate`] or
+    /// [`SheetError::DateWithoutReportingDate`] where the maturity is not in the form of the deal;
+    /// [`SheetError::MaturityNotAfter`] or [`SheetError::Months`] where it is a date that is not after the reporting date,
+    /// or more than 1200 months on.
     pub fn next_class(&mut self, tranche: Tranche) -> Result<&mut Self, SheetError> {
         self.place(tranche, self.class + 1)
     }
@@ -156,8 +166,7 @@ impl<Kind> SheetBuilder<Kind> {
     ///
     /// # Errors
     ///
-    /// [`SheetError::NoTrancheBefore`] where no tranche was placed, [`SheetError::TooManyTranches`] where the deal is
-    /// full.
+    /// [`SheetError::NoTrancheBefore`] where no tranche was placed; else as [`next_class`](Self::next_class).
     pub fn same_class(&mut self, tranche: Tranche) -> Result<&mut Self, SheetError> {
         if self.class == 0 {
             return Err(SheetError::NoTrancheBefore);
@@ -165,12 +174,12 @@ impl<Kind> SheetBuilder<Kind> {
         self.place(tranche, self.class)
     }
 
-    /// Places a tranche in a class, where the deal is not full.
+    /// Places a tranche in a class, where the deal is not full and the maturity goes with its reporting date.
     fn place(&mut self, tranche: Tranche, class: u64) -> Result<&mut Self, SheetError> {
         if self.tranches.len() == MOST_TRANCHES {
             return Err(SheetError::TooManyTranches);
         }
-        self.tranches.push(tranche.words(class));
+        self.tranches.push(tranche.words(class, self.reporting_date)?);
         self.class = class;
         Ok(self)
     }

@@ -3,7 +3,9 @@
 use std::error::Error;
 use std::fmt;
 
+use crate::date::{dashed, Date};
 use crate::limits::{self, MOST_ROWS, MOST_TRANCHES};
+use crate::numbers::Months;
 
 /// Why a value, a tranche or a sheet can't be made.
 ///
@@ -24,8 +26,28 @@ pub enum SheetError {
         /// The tranche's amount.
         amount: u64,
     },
-    /// A maturity outside 1 to 1200 months: the months given (refusal 10).
+    /// A maturity outside 1 to 1200 months: the months given, or those from the reporting date on (refusal 10).
     Months(u64),
+    /// A date that does not exist, or outside the years 2000 to 2199 (refusal 17).
+    Date {
+        /// The year, as given.
+        year: u64,
+        /// The month, as given.
+        month: u64,
+        /// The day of the month, as given.
+        day: u64,
+    },
+    /// A maturity that is not after the reporting date (refusal 17).
+    MaturityNotAfter {
+        /// The maturity, as given.
+        maturity: Date,
+        /// The deal's reporting date.
+        reporting_date: Date,
+    },
+    /// A maturity in months in a deal with a reporting date: the months given (refusal 17).
+    MonthsWithReportingDate(Months),
+    /// A maturity as a date in a deal without a reporting date: the date given (refusal 10).
+    DateWithoutReportingDate(Date),
     /// A rating code outside 1 to 18 and 21 to 24: the code given (refusal 11).
     Rating(u64),
     /// A first tranche placed in the same class as the one before it: there is none (refusal 9).
@@ -49,6 +71,26 @@ impl fmt::Display for SheetError {
             SheetError::TrancheAmount(given) => outside(f, "a tranche amount", given, limits::TRANCHE_AMOUNT),
             SheetError::HeldAboveAmount { held, amount } => outside(f, "an amount held", held, (0, amount)),
             SheetError::Months(given) => outside(f, "a maturity in months", given, limits::MONTHS),
+            SheetError::Date { year, month, day } => not_a_day(f, &dashed(year, month, day)),
+            SheetError::MaturityNotAfter {
+                maturity,
+                reporting_date,
+            } => write!(
+                f,
+                "a maturity is after the reporting date {reporting_date}, not {maturity}"
+            ),
+            SheetError::MonthsWithReportingDate(given) => {
+                write!(
+                    f,
+                    "a maturity is a date in a deal with a reporting date, not {given} months"
+                )
+            }
+            SheetError::DateWithoutReportingDate(given) => {
+                write!(
+                    f,
+                    "a maturity is in months in a deal without a reporting date, not {given}"
+                )
+            }
             SheetError::Rating(given) => write!(f, "a rating code is 1 to 18 or 21 to 24, not {given}"),
             SheetError::NoTrancheBefore => {
                 write!(f, "the first tranche has no tranche before it to share a class with")
@@ -62,6 +104,12 @@ impl fmt::Display for SheetError {
 }
 
 impl Error for SheetError {}
+
+/// Writes that a date does not exist, or is outside its years.
+fn not_a_day(f: &mut fmt::Formatter<'_>, given: &str) -> fmt::Result {
+    let (first, last) = limits::YEARS;
+    write!(f, "a date is a day of the years {first} to {last}, not {given}")
+}
 
 /// Writes that a number is outside its limits.
 fn outside(f: &mut fmt::Formatter<'_>, what: &str, given: u64, (lowest, highest): (u64, u64)) -> fmt::Result {

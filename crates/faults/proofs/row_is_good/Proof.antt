@@ -6,7 +6,8 @@ use native.Mathlib.Omega.{arith}
 use lib.Dec.{eqb}
 use borrow.Author.Tests.{not-true, not-false, lt-leb, le-leb}
 use borrow.Author.Needs.{needs}
-use Rattle.faults.specs.WordFaults.{unless, within}
+use Rattle.numbers.specs.Limits.{within}
+use Rattle.faults.specs.WordFaults.{unless}
 use Rattle.faults.proofs.row_is_good.Statement.{statement}
 use Rattle.faults.proofs.row_is_good.Tie as tie
 

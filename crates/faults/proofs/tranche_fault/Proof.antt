@@ -32,25 +32,21 @@ returns-2 c =
       c .before .class-in-order .ensures,
     )
 
-within-requires-2 : tie.Need-within-requires-2
-within-requires-2 c κs = search needs
-
-unless-requires-3 : tie.Need-unless-requires-3
-unless-requires-3 c κs = search needs
+maturity-fault-requires : tie.Need-maturity-fault-requires
+maturity-fault-requires c κs = search needs
 
 returns-3 : tie.Need-returns-3
 returns-3 c =
-    let x = c .before .before .before .before .before .args in
+    let x = c .before .before .before .before .args in
     simp (
       ne-eqb (x .column) 0 (λ e. omega arith),
       ne-eqb (x .column) 1 (λ e. omega arith),
       eq-eqb (x .column) 2 (omega arith),
-      c .unless3 .ensures,
-      c .before .within2 .ensures,
+      c .maturity-fault .ensures,
     )
 
-unless-requires-4 : tie.Need-unless-requires-4
-unless-requires-4 c κs = search needs
+unless-requires-3 : tie.Need-unless-requires-3
+unless-requires-3 c κs = search needs
 
 returns-4 : tie.Need-returns-4
 returns-4 c =
@@ -60,14 +56,14 @@ returns-4 c =
       ne-eqb (x .column) 1 (λ e. omega arith),
       ne-eqb (x .column) 2 (λ e. omega arith),
       eq-eqb (x .column) 3 (omega arith),
-      c .unless4 .ensures,
+      c .unless3 .ensures,
     )
 
 is-listed-requires : tie.Need-is-listed-requires
 is-listed-requires c κs = search needs
 
-unless-requires-5 : tie.Need-unless-requires-5
-unless-requires-5 c κs = search needs
+unless-requires-4 : tie.Need-unless-requires-4
+unless-requires-4 c κs = search needs
 
 returns-5 : tie.Need-returns-5
 returns-5 c =
@@ -77,7 +73,7 @@ returns-5 c =
       ne-eqb (x .column) 1 (λ e. omega arith),
       ne-eqb (x .column) 2 (λ e. omega arith),
       ne-eqb (x .column) 3 (λ e. omega arith),
-      c .unless5 .ensures,
+      c .unless4 .ensures,
       c .before .is-listed .ensures,
     )
 
@@ -91,11 +87,10 @@ tranche-fault-spec =
     class-in-order-requires
     unless-requires-2
     returns-2
-    within-requires-2
-    unless-requires-3
+    maturity-fault-requires
     returns-3
-    unless-requires-4
+    unless-requires-3
     returns-4
     is-listed-requires
-    unless-requires-5
+    unless-requires-4
     returns-5)

@@ -13,26 +13,29 @@ use Rattle.judgement.proofs.judge_tranche.Statement.{statement}
 use Rattle.judgement.proofs.judge_tranche.Tie as tie
 
 abbrev Inv-loop : tie.InvT-loop
-Inv-loop s i at before whole column₀ column = (column ≤ 7) × (judged s (trancheAt s i + column) ≡ Sound)
+Inv-loop s i reported at before whole column₀ column = (column ≤ 7) × (judged s (trancheAt s i + column) ≡ Sound)
 
 abbrev μ-loop : tie.MeasureT-loop
-μ-loop s i at before whole column₀ column = 7 - column
+μ-loop s i reported at before whole column₀ column = 7 - column
+
+fact-at-requires : tie.Need-fact-at-requires Inv-loop μ-loop
+fact-at-requires c κs = search needs
 
 tranche-at-requires : tie.Need-tranche-at-requires Inv-loop μ-loop
-tranche-at-requires c κs = (sound-before _ _ _ (c .before .pre .0) (omega arith), omega arith)
+tranche-at-requires c κs = (sound-before _ _ _ (c .before .before .pre .0) (omega arith), omega arith)
 
 class-before-requires : tie.Need-class-before-requires Inv-loop μ-loop
-class-before-requires c κs = (sound-before _ _ _ (c .before .before .pre .0) (omega arith), omega arith)
+class-before-requires c κs = (sound-before _ _ _ (c .before .before .before .pre .0) (omega arith), omega arith)
 
 word-at-requires : tie.Need-word-at-requires Inv-loop μ-loop
 word-at-requires c κs = search needs
 
 loop-holds : tie.Need-loop-holds Inv-loop μ-loop
-loop-holds c = (omega arith, sound-before _ _ _ (c .before .before .before .before .pre .0) (omega arith))
+loop-holds c = (omega arith, sound-before _ _ _ (c .before .before .before .before .before .pre .0) (omega arith))
 
 add-p : tie.Need-add-p Inv-loop μ-loop
 add-p c =
-    let start = c .before .before .before .before .before .before in
+    let start = c .before .before .before .before .before .before .before in
     let s = start .args .s .now in
     omega (arith, tranche-at-most s (start .args .i) (sound-before s _ _ (start .pre .0) (omega arith)) (omega arith))
 
@@ -49,11 +52,11 @@ judge-word-requires c κs = search needs
 column-judged :
     (c : tie.After-judge-word Inv-loop μ-loop) →
     let l = c .before .before .before .before in
-    let start = l .before .before .before .before .before in
+    let start = l .before .before .before .before .before .before in
     c .judge-word .result ≡ judged (start .args .s .now) (trancheAt (start .args .s .now) (start .args .i) + l .loop .column + 1)
 column-judged c =
     let l = c .before .before .before .before in
-    let start = l .before .before .before .before .before in
+    let start = l .before .before .before .before .before .before in
     let s = start .args .s .now in
     let i = start .args .i in
     word-judged s (trancheAt s i + l .loop .column) (l .loop .inv .1) (fault-of-tranche s i (l .loop .column) (omega arith))
@@ -64,6 +67,7 @@ column-judged c =
       l .before .word-at .ensures,
       l .before .before .class-before .ensures,
       l .before .before .before .tranche-at .ensures,
+      l .before .before .before .before .fact-at .ensures,
     ))
 
 enum-told : tie.Need-enum-told Inv-loop μ-loop
@@ -94,6 +98,7 @@ judge-tranche-spec =
     (tie.spec
     Inv-loop
     μ-loop
+    fact-at-requires
     tranche-at-requires
     class-before-requires
     word-at-requires

@@ -2,7 +2,7 @@
 
 use independent::sheet::{LINE_WORDS, ROW_WORDS, TRANCHE_WORDS};
 
-/// The words of the facts, without their count: four, or five with the STC mark.
+/// The words of the facts, without their count: four, five with the STC mark, or six with that and the reporting date.
 pub type Facts<'a> = &'a [u64];
 
 /// The words of a pool row.

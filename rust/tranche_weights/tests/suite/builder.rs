@@ -1,13 +1,14 @@
 //! What the typed way in lets through and what it answers with an error (document 01, "The deal sheet"; document 02,
-//! S-1).
+//! S-1 and S-3).
 
 use crate::checked_deal::{ordinary, row, tranche};
+use crate::dates::maturing;
 use crate::places::{
-    affirmed, first_tranche, row_count, tranche_count, COMPOSITION, DUE_DILIGENCE, RESECURITISATION, STC,
+    affirmed, affirmed_on, first_tranche, row_count, tranche_count, COMPOSITION, DUE_DILIGENCE, RESECURITISATION, STC,
 };
 use tranche_weights::{
-    Facts, Ordinary, PoolAmount, RiskWeight, Row, Sheet, SheetBuilder, SheetError, Status, MOST_ROWS, MOST_TRANCHES,
-    ROW_WORDS, TRANCHE_WORDS,
+    Date, Facts, Months, Ordinary, PoolAmount, RiskWeight, Row, Sheet, SheetBuilder, SheetError, Status, Tranche,
+    TrancheAmount, MOST_ROWS, MOST_TRANCHES, ROW_WORDS, TRANCHE_WORDS,
 };
 
 /// The facts' section of a sheet.
@@ -26,15 +27,17 @@ fn smallest(mut builder: SheetBuilder<Ordinary>) -> Result<Sheet, SheetError> {
     builder.build()
 }
 
-/// All of a tranche or nothing of it can be held, and no unit more than all.
+/// All of a tranche or nothing of it can be held, and no unit more than all, with either form of maturity.
 #[test]
 fn no_more_is_held_than_the_amount() {
-    assert!(tranche(800, 800).is_ok());
-    assert!(tranche(800, 0).is_ok());
-    assert_eq!(
-        tranche(800, 801),
-        Err(SheetError::HeldAboveAmount { held: 801, amount: 800 })
-    );
+    for tranche in [tranche, maturing] {
+        assert!(tranche(800, 800).is_ok());
+        assert!(tranche(800, 0).is_ok());
+        assert_eq!(
+            tranche(800, 801),
+            Err(SheetError::HeldAboveAmount { held: 801, amount: 800 })
+        );
+    }
 }
 
 /// Without setters no fact is affirmed; each setter sets its own word of the sheet and no other, and can take it back.
@@ -60,7 +63,8 @@ fn facts_are_set_one_by_one() -> Result<(), SheetError> {
     Ok(())
 }
 
-/// An STC deal states a fifth fact, its mark; a deal without the mark leaves it out. All other words are the same.
+/// An STC deal states a fifth fact, its mark; a deal with neither mark nor reporting date leaves it out. All other words
+/// are the same.
 #[test]
 fn the_mark_is_stated_where_it_is_set() -> Result<(), SheetError> {
     let held = Facts::new().with_due_diligence_held(true);
@@ -70,6 +74,72 @@ fn the_mark_is_stated_where_it_is_set() -> Result<(), SheetError> {
     assert_eq!(facts_of(&stc), [5, 0, 0, 1, 0, 1]);
     assert_eq!(facts_of(&smallest(SheetBuilder::stc(Facts::new()))?), affirmed(&[STC]));
     assert_eq!(after_facts(&plain), after_facts(&stc));
+    Ok(())
+}
+
+/// A deal with a reporting date states it as its sixth fact, after the mark; one without leaves it out.
+#[test]
+fn the_reporting_date_is_stated_where_it_is_set() -> Result<(), SheetError> {
+    let date = Date::new(2026, 11, 16)?;
+    let held = Facts::new().with_due_diligence_held(true);
+    let reported = held.with_reporting_date(Some(date));
+    for (mut builder, facts) in [
+        (SheetBuilder::ordinary(reported), affirmed_on(date, &[DUE_DILIGENCE])),
+        (SheetBuilder::stc(reported), affirmed_on(date, &[DUE_DILIGENCE, STC])),
+    ] {
+        builder.row(row(1)?, Status::Paying)?.next_class(maturing(1, 1)?)?;
+        assert_eq!(facts_of(&builder.build()?), facts);
+    }
+    let mut builder = SheetBuilder::resecuritisation(reported);
+    builder.row(row(1)?)?.next_class(maturing(1, 1)?)?;
+    assert_eq!(facts_of(&builder.build()?), [6, 0, 1, 1, 0, 0, 20_261_116]);
+    assert_eq!(reported.with_reporting_date(None), held);
+    Ok(())
+}
+
+/// The maturities of a deal have the form that its facts ask for; one of the other form is an error in either class and
+/// changes nothing.
+#[test]
+fn maturities_have_the_form_of_the_deal() -> Result<(), SheetError> {
+    let reported = Facts::new().with_reporting_date(Some(Date::new(2026, 11, 16)?));
+    let (in_months, as_date) = (tranche(1, 1)?, maturing(1, 1)?);
+    let no_date = SheetError::DateWithoutReportingDate(Date::new(2032, 11, 16)?);
+    let no_months = SheetError::MonthsWithReportingDate(Months::new(72)?);
+    for (facts, right, wrong, error) in [
+        (Facts::new(), in_months, as_date, no_date),
+        (reported, as_date, in_months, no_months),
+    ] {
+        let mut builder = SheetBuilder::ordinary(facts);
+        assert_eq!(builder.next_class(wrong), Err(error));
+        builder.row(row(1)?, Status::Paying)?.next_class(right)?;
+        let before = builder.clone();
+        assert_eq!(builder.next_class(wrong), Err(error));
+        assert_eq!(builder.same_class(wrong), Err(error));
+        assert_eq!(builder, before);
+        assert!(builder.same_class(right)?.build().is_ok());
+    }
+    Ok(())
+}
+
+/// A maturity lies after the reporting date, by at most 1200 months.
+#[test]
+fn a_maturity_lies_after_the_reporting_date() -> Result<(), SheetError> {
+    let reporting_date = Date::new(2026, 11, 16)?;
+    let placed = |maturity| {
+        let mut builder = SheetBuilder::ordinary(Facts::new().with_reporting_date(Some(reporting_date)));
+        let tranche = Tranche::maturing_on(TrancheAmount::new(1)?, maturity, 1)?;
+        builder.next_class(tranche).map(|_| ())
+    };
+    for maturity in [reporting_date, Date::new(2026, 11, 15)?] {
+        let error = SheetError::MaturityNotAfter {
+            maturity,
+            reporting_date,
+        };
+        assert_eq!(placed(maturity), Err(error));
+    }
+    assert_eq!(placed(Date::new(2026, 11, 17)?), Ok(()));
+    assert_eq!(placed(Date::new(2126, 11, 16)?), Ok(()));
+    assert_eq!(placed(Date::new(2126, 11, 17)?), Err(SheetError::Months(1201)));
     Ok(())
 }
 
@@ -162,7 +232,42 @@ fn nothing_is_built_of_nothing() -> Result<(), SheetError> {
     Ok(())
 }
 
-/// Each error says in one line what is admitted and what was given.
+/// Each error of a date says in one line what is admitted and what was given.
+#[test]
+fn errors_of_dates_say_what_is_admitted() -> Result<(), SheetError> {
+    let (maturity, reporting_date) = (Date::new(2026, 11, 15)?, Date::new(2026, 11, 16)?);
+    let lines = [
+        (
+            Date::new(2026, 2, 30).unwrap_err(),
+            "a date is a day of the years 2000 to 2199, not 2026-02-30",
+        ),
+        (
+            Date::try_from(72).unwrap_err(),
+            "a date is a day of the years 2000 to 2199, not 0000-00-72",
+        ),
+        (
+            SheetError::MaturityNotAfter {
+                maturity,
+                reporting_date,
+            },
+            "a maturity is after the reporting date 2026-11-16, not 2026-11-15",
+        ),
+        (
+            SheetError::MonthsWithReportingDate(Months::new(72)?),
+            "a maturity is a date in a deal with a reporting date, not 72 months",
+        ),
+        (
+            SheetError::DateWithoutReportingDate(maturity),
+            "a maturity is in months in a deal without a reporting date, not 2026-11-15",
+        ),
+    ];
+    for (error, line) in lines {
+        assert_eq!(error.to_string(), line);
+    }
+    Ok(())
+}
+
+/// Each other error says in one line what is admitted and what was given.
 #[test]
 fn errors_say_what_is_admitted() {
     let lines = [

@@ -53,8 +53,12 @@ pub fn ordinary() -> SheetBuilder<Ordinary> {
     SheetBuilder::ordinary(both_facts())
 }
 
-/// The sheet with the checked deal's rows and tranches, from the start of an ordinary deal.
-pub fn with_rows_and_tranches(mut builder: SheetBuilder<Ordinary>) -> Result<Sheet, SheetError> {
+/// The sheet with the checked deal's rows and tranches, from the start of an ordinary deal and with what makes an unrated
+/// tranche of an amount and an amount held.
+pub fn with_rows_and_tranches(
+    mut builder: SheetBuilder<Ordinary>,
+    tranche: fn(u64, u64) -> Result<Tranche, SheetError>,
+) -> Result<Sheet, SheetError> {
     builder
         .row(row(950)?, Status::Paying)?
         .row(row(50)?, Status::Delinquent)?
@@ -67,7 +71,7 @@ pub fn with_rows_and_tranches(mut builder: SheetBuilder<Ordinary>) -> Result<She
 /// The builder makes exactly the checked deal's words and file.
 #[test]
 fn the_builder_makes_the_checked_deal() -> Result<(), SheetError> {
-    let sheet = with_rows_and_tranches(ordinary())?;
+    let sheet = with_rows_and_tranches(ordinary(), tranche)?;
     assert_eq!(sheet.words(), WORDS);
     assert_eq!(sheet.to_file_bytes(), file_of(&WORDS));
     Ok(())

@@ -2,12 +2,13 @@
 
 use crate::checked_deal::file_of;
 use crate::places::{
-    affirmed, affirms, first_row, first_tranche, tranche_count, COMPOSITION, DUE_DILIGENCE, RESECURITISATION, STC,
+    affirmed, affirmed_on, affirms, fact, first_row, first_tranche, tranche_count, COMPOSITION, DUE_DILIGENCE,
+    REPORTING_DATE, RESECURITISATION, STC,
 };
 use crate::texts::text_of;
 use tranche_weights::{
-    report, weigh_file, Facts, Months, PoolAmount, Rating, Reason, RiskWeight, Row, Sheet, SheetBuilder, SheetError,
-    Status, Tranche, TrancheAmount, MOST_ROWS, MOST_TRANCHES, ROW_WORDS, TRANCHE_WORDS,
+    report, weigh_file, Date, Facts, Months, PoolAmount, Rating, Reason, RiskWeight, Row, Sheet, SheetBuilder,
+    SheetError, Status, Tranche, TrancheAmount, MOST_ROWS, MOST_TRANCHES, ROW_WORDS, TRANCHE_WORDS,
 };
 
 /// The statuses of an ordinary pool, by status word.
@@ -45,14 +46,47 @@ impl Generator {
         }
     }
 
-    /// The words of a sheet that documents 01 and 02 admit, of an SA pool, and that states no fact it can leave out.
+    /// The words of a sheet that documents 01 and 02 admit, of an SA pool, and that states no fact it can leave out. Half
+    /// of the sheets have a reporting date.
     fn words(&mut self) -> Vec<u64> {
-        let mut words = affirmed(KINDS[self.below(3) as usize]);
+        let kind = KINDS[self.below(3) as usize];
+        let reporting_date = (self.below(2) == 0).then(|| self.reporting_date());
+        let mut words = reporting_date.map_or_else(|| affirmed(kind), |date| affirmed_on(date, kind));
         words[DUE_DILIGENCE] = u64::from(self.below(8) > 0);
         words[COMPOSITION] = self.below(2);
         self.rows(&mut words);
-        self.tranches(&mut words);
+        self.tranches(&mut words, reporting_date);
         words
+    }
+
+    /// A date of these years. The first and the last month and day are drawn more often.
+    fn date(&mut self, first_year: u64, last_year: u64) -> Date {
+        loop {
+            let year = first_year + self.below(last_year - first_year + 1);
+            if let Ok(date) = Date::new(year, self.within(1, 12), self.within(1, 31)) {
+                return date;
+            }
+        }
+    }
+
+    /// A reporting date. The last day of all has no maturity after it, so the last year is left out.
+    fn reporting_date(&mut self) -> Date {
+        self.date(Date::FIRST_YEAR, Date::LAST_YEAR - 1)
+    }
+
+    /// The maturity word of a tranche: months within their limits, or a date that is so many months on.
+    fn maturity(&mut self, reporting_date: Option<Date>) -> u64 {
+        let Some(reporting_date) = reporting_date else {
+            return self.within(Months::LOWEST, Months::HIGHEST);
+        };
+        let first_year = reporting_date.year();
+        let last_year = Date::LAST_YEAR.min(first_year + self.within(1, Months::HIGHEST / 12));
+        loop {
+            let date = self.date(first_year, last_year);
+            if reporting_date.months_to(date).is_ok() {
+                return date.word();
+            }
+        }
     }
 
     /// Adds the pool's section. A third of the ordinary pools have paying rows alone, so that the charge is low; a
@@ -74,7 +108,7 @@ impl Generator {
     }
 
     /// Adds the tranches' section. Half of the deals have tranches of any size, half such that cut the pool up.
-    fn tranches(&mut self, words: &mut Vec<u64>) {
+    fn tranches(&mut self, words: &mut Vec<u64>, reporting_date: Option<Date>) {
         let nominal: u64 = words[first_row(words)..].chunks(ROW_WORDS).map(|row| row[1]).sum();
         let count = self.within(1, MOST_TRANCHES as u64);
         let highest = if self.below(2) == 0 {
@@ -90,7 +124,7 @@ impl Generator {
             words.extend([
                 amount,
                 class,
-                self.within(Months::LOWEST, Months::HIGHEST),
+                self.maturity(reporting_date),
                 held,
                 self.rating(),
                 self.rating(),
@@ -124,11 +158,21 @@ fn row_of(words: &[u64]) -> Result<Row, SheetError> {
     Ok(Row::new(exposure, nominal, RiskWeight::new(words[2])?))
 }
 
+/// The reporting date that a sheet states, if any.
+fn reporting_date_of(words: &[u64]) -> Result<Option<Date>, SheetError> {
+    match fact(words, REPORTING_DATE) {
+        0 => Ok(None),
+        word => Date::try_from(word).map(Some),
+    }
+}
+
 /// Builds the sheet that the words state, by the builder of its kind.
 fn built(words: &[u64]) -> Result<Sheet, SheetError> {
+    let reporting_date = reporting_date_of(words)?;
     let facts = Facts::new()
         .with_due_diligence_held(affirms(words, DUE_DILIGENCE))
-        .with_pool_composition_known(affirms(words, COMPOSITION));
+        .with_pool_composition_known(affirms(words, COMPOSITION))
+        .with_reporting_date(reporting_date);
     let rows = words[first_row(words)..tranche_count(words)].chunks(ROW_WORDS);
     let tranches = &words[first_tranche(words)..];
     if affirms(words, RESECURITISATION) {
@@ -136,7 +180,7 @@ fn built(words: &[u64]) -> Result<Sheet, SheetError> {
         for row in rows {
             builder.row(row_of(row)?)?;
         }
-        with_tranches(builder, tranches)
+        with_tranches(builder, tranches, reporting_date.is_some())
     } else {
         let mut builder = if affirms(words, STC) {
             SheetBuilder::stc(facts)
@@ -146,15 +190,25 @@ fn built(words: &[u64]) -> Result<Sheet, SheetError> {
         for row in rows {
             builder.row(row_of(row)?, STATUSES[row[3] as usize])?;
         }
-        with_tranches(builder, tranches)
+        with_tranches(builder, tranches, reporting_date.is_some())
     }
 }
 
-/// Places the tranches that the words state and builds the sheet.
-fn with_tranches<Kind>(mut builder: SheetBuilder<Kind>, words: &[u64]) -> Result<Sheet, SheetError> {
+/// The tranche that its words state, without its ratings; its maturity is a date or in months.
+fn unrated_of(words: &[u64], dated: bool) -> Result<Tranche, SheetError> {
+    let (amount, held) = (TrancheAmount::new(words[0])?, words[3]);
+    if dated {
+        Tranche::maturing_on(amount, Date::try_from(words[2])?, held)
+    } else {
+        Tranche::new(amount, Months::new(words[2])?, held)
+    }
+}
+
+/// Places the tranches that the words state, with maturities as dates or in months, and builds the sheet.
+fn with_tranches<Kind>(mut builder: SheetBuilder<Kind>, words: &[u64], dated: bool) -> Result<Sheet, SheetError> {
     let mut class = 0;
     for row in words.chunks(TRANCHE_WORDS) {
-        let tranche = Tranche::new(TrancheAmount::new(row[0])?, Months::new(row[2])?, row[3])?;
+        let tranche = unrated_of(row, dated)?;
         let tranche = tranche.with_ratings([rating_of(row[4])?, rating_of(row[5])?, rating_of(row[6])?]);
         if row[1] == class {
             builder.same_class(tranche)?;
@@ -166,9 +220,13 @@ fn with_tranches<Kind>(mut builder: SheetBuilder<Kind>, words: &[u64]) -> Result
     builder.build()
 }
 
-/// The kind of a sheet's deal, as `KINDS` lists them.
-fn kind_of(words: &[u64]) -> usize {
-    usize::from(affirms(words, STC)) + 2 * usize::from(affirms(words, RESECURITISATION))
+/// The sorts of sheets: each kind of deal with maturities in months, then each with maturities as dates.
+const SORTS: usize = 2 * KINDS.len();
+
+/// The sort of a sheet, its kind as `KINDS` lists them.
+fn sort_of(words: &[u64]) -> usize {
+    let kind = usize::from(affirms(words, STC)) + 2 * usize::from(affirms(words, RESECURITISATION));
+    kind + KINDS.len() * usize::from(fact(words, REPORTING_DATE) != 0)
 }
 
 /// Any admitted sheet that states no fact it can leave out can be built, to the word. It is weighed with a line per
@@ -177,17 +235,17 @@ fn kind_of(words: &[u64]) -> usize {
 #[test]
 fn a_built_sheet_is_refused_by_13_alone() -> Result<(), SheetError> {
     let mut generator = Generator(0x7261_6e63_6865_7301);
-    let (mut weighed, mut refused) = ([0; KINDS.len()], [0; KINDS.len()]);
-    for _ in 0..1200 {
+    let (mut weighed, mut refused) = ([0; SORTS], [0; SORTS]);
+    for _ in 0..2400 {
         let words = generator.words();
         let sheet = built(&words)?;
         assert_eq!(sheet.words(), words);
-        let kind = kind_of(&words);
+        let sort = sort_of(&words);
         let outcome = sheet.weigh();
         match &outcome {
             Ok(deal) => {
                 assert_eq!(deal.lines.len() as u64, words[tranche_count(&words)]);
-                weighed[kind] += 1;
+                weighed[sort] += 1;
             }
             Err(refusal) => {
                 assert_eq!(
@@ -197,7 +255,7 @@ fn a_built_sheet_is_refused_by_13_alone() -> Result<(), SheetError> {
                 );
                 let past = refusal.place() as usize - first_tranche(&words);
                 assert_eq!(past % TRANCHE_WORDS, 0, "{words:?}");
-                refused[kind] += 1;
+                refused[sort] += 1;
             }
         }
         assert_eq!(report(&file_of(&words)), text_of(&outcome), "{words:?}");

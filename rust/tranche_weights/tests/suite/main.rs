@@ -5,6 +5,7 @@
 mod build_script;
 mod builder;
 mod checked_deal;
+mod dates;
 mod drawn;
 mod numbers;
 mod places;

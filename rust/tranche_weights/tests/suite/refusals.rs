@@ -1,8 +1,9 @@
-//! Each refusal, with its number, place and reason (document 01, "Refusals, by who can cause them"; document 02, S-1).
+//! Each refusal, with its number, place and reason (document 01, "Refusals, by who can cause them"; document 02, S-1
+//! and S-3).
 
 use crate::checked_deal::{file_of, RESULTS, WORDS};
-use crate::places::{row_count, RESECURITISATION};
-use crate::stc::marked;
+use crate::dates::{dated, MATURITY, REPORTING_DATE};
+use crate::places::{row_count, with_facts, RESECURITISATION};
 use tranche_weights::{
     reply_to_file, reply_to_words, report, weigh_file, weigh_words, Reason, Refusal, Reply, BYTES_PER_WORD, FILE_BYTES,
     LINE_WORDS, RESULT_WORDS,
@@ -24,9 +25,9 @@ fn thin() -> Vec<u64> {
     [&facts[..], &pool, &[2], &senior, &junior].concat()
 }
 
-/// The checked deal as a re-securitisation, with this mark as its fifth fact.
-fn resecuritisation_marked(mark: u64) -> Vec<u64> {
-    marked(&with(RESECURITISATION, 1), mark)
+/// The checked deal as a re-securitisation, with these as its fifth fact and those after it.
+fn resecuritisation_with(further: &[u64]) -> Vec<u64> {
+    with_facts(&with(RESECURITISATION, 1), further)
 }
 
 /// Words refused by the library, each with number, place and reason.
@@ -35,16 +36,16 @@ fn refused_words() -> Vec<(Vec<u64>, u64, u64, Reason)> {
     vec![
         (vec![], 1, 0, Reason::MissingWord),
         (WORDS[..35].to_vec(), 1, 35, Reason::MissingWord),
-        (marked(&WORDS, 1)[..5].to_vec(), 1, 5, Reason::MissingWord),
+        (with_facts(&WORDS, &[1])[..5].to_vec(), 1, 5, Reason::MissingWord),
         (with(0, 3), 2, 0, Reason::Count),
-        (with(0, 6), 2, 0, Reason::Count),
+        (with(0, 7), 2, 0, Reason::Count),
         (with(5, 1001), 2, 5, Reason::Count),
         (with(14, 33), 2, 14, Reason::Count),
         (longer, 3, 36, Reason::WordsFollow),
         (with(1, 3), 4, 1, Reason::Fact),
         (with(4, 2), 4, 4, Reason::Fact),
-        (marked(&WORDS, 2), 4, 5, Reason::Fact),
-        (resecuritisation_marked(2), 4, 5, Reason::Fact),
+        (with_facts(&WORDS, &[2]), 4, 5, Reason::Fact),
+        (resecuritisation_with(&[2]), 4, 5, Reason::Fact),
         (with(6, 0), 5, 6, Reason::PoolAmount),
         (with(7, 10_000_000_001), 5, 7, Reason::PoolAmount),
         (with(8, 1251), 6, 8, Reason::RiskWeight),
@@ -59,9 +60,44 @@ fn refused_words() -> Vec<(Vec<u64>, u64, u64, Reason)> {
         (with(1, 1), 12, 1, Reason::PoolKind),
         (with(1, 2), 12, 1, Reason::PoolKind),
         (thin(), 13, 18, Reason::ThinTranche),
-        (marked(&thin(), 1), 13, 19, Reason::ThinTranche),
-        (resecuritisation_marked(1), 16, 5, Reason::StcMark),
+        (with_facts(&thin(), &[1]), 13, 19, Reason::ThinTranche),
+        (resecuritisation_with(&[1]), 16, 5, Reason::StcMark),
     ]
+}
+
+/// Words refused by the library for a reporting date or a maturity, each with number, place and reason. The reporting
+/// date stands at 6 and the maturity of the first tranche at 19.
+fn refused_dates() -> Vec<(Vec<u64>, u64, u64, Reason)> {
+    let reported_on = |date| dated(&WORDS, date, MATURITY);
+    let maturing_on = |maturity| dated(&WORDS, REPORTING_DATE, maturity);
+    let no_dates = [
+        1,
+        72,
+        19_991_231,
+        20_270_229,
+        21_000_229,
+        20_270_431,
+        22_000_101,
+        u64::MAX,
+    ];
+    let no_reporting_dates = no_dates.map(|word| (reported_on(word), 17, 6, Reason::Date));
+    let no_maturities = no_dates.map(|word| (maturing_on(word), 17, 19, Reason::Date));
+    let others = [
+        (reported_on(REPORTING_DATE)[..6].to_vec(), 1, 6, Reason::MissingWord),
+        (resecuritisation_with(&[1, 72]), 16, 5, Reason::StcMark),
+        (maturing_on(0), 17, 19, Reason::Date),
+        (maturing_on(REPORTING_DATE), 17, 19, Reason::Date),
+        (maturing_on(REPORTING_DATE - 1), 17, 19, Reason::Date),
+        (reported_on(MATURITY + 1), 17, 19, Reason::Date),
+        (maturing_on(21_261_117), 10, 19, Reason::Maturity),
+        (maturing_on(21_991_231), 10, 19, Reason::Maturity),
+        (with(17, MATURITY), 10, 17, Reason::Maturity),
+        (dated(&WORDS, 0, MATURITY), 10, 19, Reason::Maturity),
+        (dated(&WORDS, 0, 1201), 10, 19, Reason::Maturity),
+        (dated(&thin(), REPORTING_DATE, MATURITY), 13, 20, Reason::ThinTranche),
+    ];
+    let all = no_reporting_dates.into_iter().chain(no_maturities).chain(others);
+    all.collect()
 }
 
 /// Holds a refusal to number, place and reason, and its print to the report's.
@@ -78,7 +114,7 @@ fn hold(refusal: Refusal, number: u64, place: u64, reason: Reason) {
 #[test]
 fn refused_words_leave_the_results() {
     let before: Vec<u64> = (900..).take(RESULT_WORDS).collect();
-    for (words, number, place, reason) in refused_words() {
+    for (words, number, place, reason) in refused_words().into_iter().chain(refused_dates()) {
         let mut results = before.clone();
         hold(weigh_words(&words, &mut results).unwrap_err(), number, place, reason);
         assert_eq!(reply_to_words(&words, &mut results), Reply::refusing(number, place));
@@ -92,15 +128,19 @@ fn refused_words_leave_the_results() {
     }
 }
 
-/// A mark of 0 written as the fifth fact moves the place of a fault behind it by one, and changes no number.
+/// A fact of 0 written after the fourth moves the place of a fault behind it by one, two of them by two, and they change
+/// no number.
 #[test]
-fn a_mark_of_0_moves_later_places() {
+fn facts_of_0_move_later_places() {
     let refused = refused_words();
     let of_four_facts = refused.iter().filter(|(words, ..)| words.first() == Some(&4));
     for (words, number, place, _) in of_four_facts {
-        let moved = u64::from(*place as usize >= row_count(words));
-        let reply = reply_to_words(&marked(words, 0), &mut [0; RESULT_WORDS]);
-        assert_eq!(reply, Reply::refusing(*number, place + moved), "{words:?}");
+        for further in [&[0][..], &[0, 0]] {
+            let behind = *place as usize >= row_count(words);
+            let moved = if behind { further.len() as u64 } else { 0 };
+            let reply = reply_to_words(&with_facts(words, further), &mut [0; RESULT_WORDS]);
+            assert_eq!(reply, Reply::refusing(*number, place + moved), "{words:?}");
+        }
     }
 }
 

@@ -1,7 +1,7 @@
 //! The STC mark (document 02, S-1).
 
-use crate::checked_deal::{both_facts, file_of, with_rows_and_tranches, RESULTS, TEXT, WORDS};
-use crate::places::STC;
+use crate::checked_deal::{both_facts, file_of, tranche, with_rows_and_tranches, RESULTS, TEXT, WORDS};
+use crate::places::with_facts;
 use tranche_weights::{reply_to_words, report, Reply, SheetBuilder, SheetError};
 
 /// The report on the checked deal with the mark. AAA of class 1 at five years is 10%, BBB below it 255% times 0.85; the
@@ -14,17 +14,11 @@ charge 101000 tranches 3
 total 922 75
 ";
 
-/// A sheet of four facts with this mark as its fifth: every later word stands one place further on.
-pub fn marked(words: &[u64], mark: u64) -> Vec<u64> {
-    assert_eq!(words[0], 4);
-    [&[5], &words[1..STC], &[mark], &words[STC..]].concat()
-}
-
 /// The builder makes the checked deal with the mark, and it is weighed as an STC deal.
 #[test]
 fn the_builder_makes_the_checked_deal_stc() -> Result<(), SheetError> {
-    let sheet = with_rows_and_tranches(SheetBuilder::stc(both_facts()))?;
-    assert_eq!(sheet.words(), marked(&WORDS, 1));
+    let sheet = with_rows_and_tranches(SheetBuilder::stc(both_facts()), tranche)?;
+    assert_eq!(sheet.words(), with_facts(&WORDS, &[1]));
     assert_eq!(report(&sheet.to_file_bytes()), STC_TEXT);
     Ok(())
 }
@@ -32,7 +26,7 @@ fn the_builder_makes_the_checked_deal_stc() -> Result<(), SheetError> {
 /// A mark of 0 is the same as none: the same reply, the same results, the same report.
 #[test]
 fn a_mark_of_0_is_as_none() {
-    let words = marked(&WORDS, 0);
+    let words = with_facts(&WORDS, &[0]);
     let mut results = [0; RESULTS.len()];
     assert_eq!(reply_to_words(&words, &mut results), Reply::accepting(3, 101_000));
     assert_eq!(results, RESULTS);

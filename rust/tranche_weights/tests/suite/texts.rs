@@ -1,10 +1,10 @@
 //! The report's text and the lent room for it (document 01, "Checked deals").
 
 use crate::checked_deal::{file_of, TEXT, WORDS};
-use crate::places::{affirmed, COMPOSITION, DUE_DILIGENCE, STC};
+use crate::places::{affirmed_on, COMPOSITION, DUE_DILIGENCE, STC};
 use std::error::Error;
 use tranche_weights::{
-    report, report_into, weigh_file, Deal, Refusal, FILE_BYTES, MOST_ROWS, MOST_TRANCHES, ROW_WORDS, TEXT_ROOM,
+    report, report_into, weigh_file, Date, Deal, Refusal, FILE_BYTES, MOST_ROWS, MOST_TRANCHES, ROW_WORDS, TEXT_ROOM,
     TRANCHE_WORDS,
 };
 
@@ -38,13 +38,14 @@ fn the_report_on_a_refused_file_names_number_and_place() {
     assert_eq!(report(&file[..file.len() - 1]), "refused 15 at 0\n");
 }
 
-/// The file of a deal with the most facts, rows and tranches, every amount at its limit and all of it held.
+/// The file of a deal with the most facts, rows and tranches, every amount and maturity at its limit and all of it held.
 pub fn largest_file() -> Vec<u8> {
+    let [reporting_date, maturity] = [2000, 2100].map(|year| Date::new(year, 1, 1).expect("a day of these years"));
     let rows: [[u64; ROW_WORDS]; MOST_ROWS] = [[10_000_000_000, 10_000_000_000, 1250, 0]; MOST_ROWS];
-    let tranche: [u64; TRANCHE_WORDS] = [10_000_000_000_000, 1, 1200, 10_000_000_000_000, 0, 0, 0];
+    let tranche: [u64; TRANCHE_WORDS] = [10_000_000_000_000, 1, maturity.word(), 10_000_000_000_000, 0, 0, 0];
     let tranches = [tranche; MOST_TRANCHES];
     let counts = [rows.len() as u64, tranches.len() as u64];
-    let facts = affirmed(&[DUE_DILIGENCE, COMPOSITION, STC]);
+    let facts = affirmed_on(reporting_date, &[DUE_DILIGENCE, COMPOSITION, STC]);
     let pool = [&facts[..], &counts[..1], rows.as_flattened()].concat();
     file_of(&[&pool, &counts[1..], tranches.as_flattened()].concat())
 }

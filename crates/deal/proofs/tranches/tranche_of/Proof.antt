@@ -1,11 +1,13 @@
--- `tranche_of`: each word is read from its own place, and the points are those between the class after it and its own, which the table holds. No axioms.
+-- `tranche_of`: each word is read from its own place, the months are counted by the sheet's reporting date, and the points are those between the class after it and its own, which the table holds. No axioms.
 use mathlib.Core.List.{List}
-use mathlib.Core.Path.{_≡_}
+use mathlib.Core.Path.{_≡_, _∙_}
 use Prim.Native.Nat.{ℕ, _+_, _≤_, _<_}
 use native.Mathlib.Omega.{arith}
+use borrow.Author.Needs.{needs}
 use lib.Dec.{eqb}
 use lib.ListN.{getD}
 use Rattle.judgement.specs.DealSheet.{trancheCount, class, months, held, firstRating, secondRating, thirdRating}
+use Rattle.judgement.proofs.LayoutLaws.{reporting-date-is}
 use Rattle.judgement.proofs.SheetLimits.{tranches-counted, tranches-within, class-within}
 use Rattle.deal.specs.Points.{attachmentPoint, detachmentPoint}
 use Rattle.deal.specs.Lines.{tranche}
@@ -78,33 +80,47 @@ tranche-word-requires-2 c κs =
     let start = c .before .before .before .before in
     (start .pre .0, start .pre .2, omega arith)
 
+maturity-months-requires : tie.Need-maturity-months-requires
+maturity-months-requires c κs = search needs
+
 tranche-word-requires-3 : tie.Need-tranche-word-requires-3
 tranche-word-requires-3 c κs =
-    let start = c .before .before .before .before .before in
+    let start = c .before .before .before .before .before .before in
     (start .pre .0, start .pre .2, omega arith)
 
 tranche-word-requires-4 : tie.Need-tranche-word-requires-4
 tranche-word-requires-4 c κs =
-    let start = c .before .before .before .before .before .before in
+    let start = c .before .before .before .before .before .before .before in
     (start .pre .0, start .pre .2, omega arith)
 
 tranche-word-requires-5 : tie.Need-tranche-word-requires-5
 tranche-word-requires-5 c κs =
-    let start = c .before .before .before .before .before .before .before in
+    let start = c .before .before .before .before .before .before .before .before in
     (start .pre .0, start .pre .2, omega arith)
 
 tranche-word-requires-6 : tie.Need-tranche-word-requires-6
 tranche-word-requires-6 c κs =
-    let start = c .before .before .before .before .before .before .before .before in
+    let start = c .before .before .before .before .before .before .before .before .before in
     (start .pre .0, start .pre .2, omega arith)
+
+-- the months are those of the maturity's word, by the layout's reporting date
+own-months :
+    (c : tie.After-maturity-months) →
+    let start = c .before .before .before .before .before .before in
+    c .maturity-months .result ≡ months (start .args .s .now) (start .args .i)
+own-months c =
+    let start = c .before .before .before .before .before .before in
+    c .maturity-months .ensures ∙
+    rw (reporting-date-is (start .args .s .now) (start .args .l) (start .pre .0), c .before .tranche-word2 .ensures)
 
 returns : tie.Need-returns
 returns c =
-    let own = c .before .before .before .before .before .before .before in
+    let maturity = c .before .before .before .before in
+    let own = maturity .before .before .before .before in
     let start = own .before .before in
     made (start .args .s .now) (start .args .i) _ _ _ _ _ _ (start .pre .1) (start .pre .2) (own .tranche-word .ensures)
-    (c .before .before .before .before .tranche-word2 .ensures) (c .before .before .before .tranche-word3 .ensures)
-    (c .before .before .tranche-word4 .ensures) (c .before .tranche-word5 .ensures) (c .tranche-word6 .ensures)
+    (own-months maturity) (c .before .before .before .tranche-word3 .ensures) (c .before .before .tranche-word4 .ensures)
+    (c .before .tranche-word5 .ensures) (c .tranche-word6 .ensures)
 
 pub tranche-of-spec : {M : Type 1} → statement M
 tranche-of-spec =
@@ -117,6 +133,7 @@ tranche-of-spec =
     mul-t13
     element-copy-out-t16
     tranche-word-requires-2
+    maturity-months-requires
     tranche-word-requires-3
     tranche-word-requires-4
     tranche-word-requires-5

@@ -66,25 +66,28 @@ shared-slice-read-t16 c = known-fact-there _ (c .before .before .before .before 
 shared-slice-read-t19 : tie.Need-shared-slice-read-t19
 shared-slice-read-t19 c = known-fact-there _ (c .before .before .before .before .before .before .before .pre) _ (omega arith)
 
+fact-at-requires-2 : tie.Need-fact-at-requires-2
+fact-at-requires-2 c κs = search needs
+
 add-t11 : tie.Need-add-t11
-add-t11 c = omega (arith, facts _ (c .before .before .before .before .before .before .before .pre))
+add-t11 c = omega (arith, facts _ (c .before .before .before .before .before .before .before .before .pre))
 
 add-t8 : tie.Need-add-t8
 add-t8 c =
-    let start = c .before .before .before .before .before .before .before in
+    let start = c .before .before .before .before .before .before .before .before in
     omega (arith, facts _ (start .pre), rows-few _ (start .pre))
 
 mul-t10 : tie.Need-mul-t10
 mul-t10 c =
-    let start = c .before .before .before .before .before .before .before in
+    let start = c .before .before .before .before .before .before .before .before in
     omega (arith, facts _ (start .pre), rows-few _ (start .pre))
 
-shared-slice-read-t22 : tie.Need-shared-slice-read-t22
-shared-slice-read-t22 c = count-there _ (c .before .before .before .before .before .before .before .before .pre)
+shared-slice-read-t23 : tie.Need-shared-slice-read-t23
+shared-slice-read-t23 c = count-there _ (c .before .before .before .before .before .before .before .before .before .pre)
 
 returns : tie.Need-returns
 unfolding layout trancheCount tranchesAt rows poolAt
-returns c = simp (c .before .before .before .fact-at .ensures)
+returns c = simp (c .before .fact-at2 .ensures, c .before .before .before .before .fact-at .ensures)
 
 pub layout-of-spec : {M : Type 1} → statement M
 layout-of-spec =
@@ -101,8 +104,9 @@ layout-of-spec =
     fact-at-requires
     shared-slice-read-t16
     shared-slice-read-t19
+    fact-at-requires-2
     add-t11
     add-t8
     mul-t10
-    shared-slice-read-t22
+    shared-slice-read-t23
     returns)

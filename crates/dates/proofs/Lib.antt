@@ -1,0 +1,3 @@
+pub mod CalendarLaws
+pub mod MonthsLaws
+pub mod MaturityLaws

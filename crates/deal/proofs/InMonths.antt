@@ -1,0 +1,204 @@
+-- A sheet with a reporting date gets the answer and the lines of the same sheet in months: nothing else of a deal depends on how its maturities are written. No axioms.
+use mathlib.Core.Bool.{Bool, true, false}
+use mathlib.Core.List.{List}
+use mathlib.Core.Logic.{inl}
+use mathlib.Core.Path.{_≡_, refl, ap, _∙_}
+use Prim.Native.Nat.{ℕ, _+_, _-_, _≤_, _<_}
+use native.Mathlib.Nat.{add-zero, le-refl}
+use native.Mathlib.Omega.{arith}
+use lib.Dec.{eqb}
+use lib.ListN.{length}
+use borrow.Author.Tests.{leb-true, eqb-true, eqb-false}
+use Rattle.numbers.proofs.Tests.{at-cond}
+use Rattle.faults.specs.GoodWords.{GoodFact, GoodTranche}
+use Rattle.judgement.specs.DealSheet.{word, resecuritisation, hasFact, reportingDate, poolAt, rows, rowAt, tranchesAt, trancheCount, trancheAt, amount, class, months, held, firstRating, secondRating, thirdRating, needed}
+use Rattle.judgement.specs.GoodSheet.{GoodRowOf, GoodTrancheOf, GoodSheet}
+use Rattle.judgement.specs.Refusals.{firstOf, wordsVerdict}
+use Rattle.judgement.specs.declared.Verdict.{Verdict}
+use Rattle.judgement.specs.declared.Verdict.the-variants.{Sound, Faulty}
+use Rattle.judgement.proofs.FirstFault.{first-of-same}
+use Rattle.judgement.proofs.GoodSheetLaw.{good-sheet, good-sheet-words}
+use Rattle.judgement.proofs.JudgedLaws.{words-accepted, accepted-words}
+use Rattle.judgement.proofs.NeededLaws.{tranches-at-past-rows}
+use Rattle.judgement.proofs.SameLayout.{SameCounts, same-counts, same-needed, SameFacts, same-facts}
+use Rattle.pool.specs.PoolSums.{poolSums}
+use Rattle.pool.proofs.SameSums.{same-sums-in-order}
+use Rattle.deal.specs.Lines.{terms, tranche}
+use Rattle.deal.specs.Refusals.{thinVerdict, verdict}
+use Rattle.deal.specs.Results.{replyTo, replyFor, resultsFor, resultsAfter}
+use Rattle.deal.specs.InMonths.{InMonths, SameAnswer}
+use Rattle.deal.proofs.LineLaws.{lines-same}
+use Rattle.deal.proofs.SameTerms.{same-terms, same-tranche}
+
+module _ (s s′ : List ℕ) (r : InMonths s s′) (words : wordsVerdict s ≡ Sound) where
+  good : GoodSheet s
+  good = good-sheet s (words-accepted s words)
+
+  -- ---- what is the same: every word but the sixth fact and the maturities
+
+  date-before-pool : 6 < poolAt s
+  unfolding poolAt
+  date-before-pool = omega (arith, leb-true 6 (word s 0) (r .six-facts))
+
+  same-before : (p : ℕ) → (p ≡ 6 → ⊥) → p ≤ tranchesAt s → word s′ p ≡ word s p
+  same-before p other h = r .same-word p other (λ i l e. omega arith)
+
+  same-column : (j c : ℕ) → (c ≡ 2 → ⊥) → c < 7 → word s′ (trancheAt s j + c) ≡ word s (trancheAt s j + c)
+  same-column j c other h =
+      r .same-word (trancheAt s j + c)
+      (λ e. omega (arith, date-before-pool, tranches-at-past-rows s))
+      (λ i l e.
+      let is : c ≡ 2 = omega arith in
+      other is)
+
+  counts : SameCounts s s′
+  counts =
+      same-counts s s′ (same-before 0 (λ e. omega arith) (omega arith))
+      (same-before (poolAt s) (λ e. omega (arith, date-before-pool)) (omega (arith, tranches-at-past-rows s)))
+      (same-before (tranchesAt s) (λ e. omega (arith, date-before-pool, tranches-at-past-rows s)) (le-refl _))
+
+  facts : SameFacts s s′
+  facts =
+      same-facts s s′ (λ p h before. same-before p (λ e. omega arith) (omega (arith, tranches-at-past-rows s)))
+      (omega (arith, date-before-pool))
+
+  same-row-word : (i c : ℕ) → i < rows s → c < 4 → word s′ (rowAt s i + c) ≡ word s (rowAt s i + c)
+  same-row-word i c row column =
+      same-before (rowAt s i + c) (λ e. omega (arith, date-before-pool)) (omega (arith, tranches-at-past-rows s))
+
+  same-amount : (j : ℕ) → word s′ (trancheAt s j) ≡ word s (trancheAt s j)
+  same-amount j = simp add-zero at (same-column j 0 (λ e. omega arith) (omega arith))
+
+  -- ---- the maturities: the sheet in months has no reporting date, so each word is its own months
+
+  no-date : reportingDate s′ ≡ 0
+  no-date = at-cond (λ n. n ≡ 0) (hasFact s′ 6) (word s′ 6) 0 (λ _. r .no-date) (λ _. refl)
+
+  same-months : (i : ℕ) → i < trancheCount s → months s′ i ≡ months s i
+  same-months i l = rw (no-date, counts .tranches-at) (r .maturity-months i l)
+
+  -- ---- the words of the sheet in months are good
+
+  fact-in-months : (p : ℕ) → 1 ≤ p → p < poolAt s → GoodFact (resecuritisation s′) p (word s′ p)
+  fact-in-months p least before = by-place (eqb p 6) refl
+    where
+      by-place : (sixth : Bool) → eqb p 6 ≡ sixth → GoodFact (resecuritisation s′) p (word s′ p)
+      by-place true at =
+          let is = eqb-true p 6 at in
+          record {
+            pool-kind = λ e. absurd (omega arith);
+            code = λ h other. absurd (other is);
+            mark = λ e _. absurd (omega arith);
+            reporting-date = λ _. inl (ap (word s′) is ∙ r .no-date);
+          }
+      by-place false at =
+          rw (facts .same-resecuritisation, same-before p (eqb-false p 6 at) (omega (arith, tranches-at-past-rows s)))
+          (good .each-fact p least before)
+
+  row-in-months : (i : ℕ) → i < rows s → GoodRowOf s′ i
+  row-in-months i row =
+      rw (
+        facts .same-resecuritisation,
+        counts .pool-at,
+        simp add-zero at (same-row-word i 0 row (omega arith)),
+        same-row-word i 1 row (omega arith),
+        same-row-word i 2 row (omega arith),
+        same-row-word i 3 row (omega arith),
+      )
+      (good .each-row i row)
+
+  -- a tranche of good words is one without a reporting date whose maturity is its months
+  by-months : (i : ℕ) → i < trancheCount s → GoodTranche 0 (amount s i) (months s i) (held s i) (firstRating s i) (secondRating s i) (thirdRating s i)
+  by-months i row =
+      let g = good .each-tranche i row in
+      record {
+        amount-least = g .amount-least;
+        amount-most = g .amount-most;
+        maturity-day = λ set. absurd (omega arith);
+        maturity-after = λ set. absurd (omega arith);
+        months-least = g .months-least;
+        months-most = g .months-most;
+        held-most = g .held-most;
+        first-listed = g .first-listed;
+        second-listed = g .second-listed;
+        third-listed = g .third-listed;
+      }
+
+  tranche-in-months : (i : ℕ) → i < trancheCount s → GoodTrancheOf s′ i
+  tranche-in-months i row =
+      rw (
+        no-date,
+        counts .tranches-at,
+        same-amount i,
+        r .maturity-months i row,
+        same-column i 3 (λ e. omega arith) (omega arith),
+        same-column i 4 (λ e. omega arith) (omega arith),
+        same-column i 5 (λ e. omega arith) (omega arith),
+        same-column i 6 (λ e. omega arith) (omega arith),
+      )
+      (by-months i row)
+
+  good-in-months : GoodSheet s′
+  good-in-months = record {
+    facts-least = rw (same-before 0 (λ e. omega arith) (omega arith)) (good .facts-least);
+    facts-most = rw (same-before 0 (λ e. omega arith) (omega arith)) (good .facts-most);
+    each-fact = λ p least before. fact-in-months p least (omega (arith, before, counts .pool-at));
+    rows-least = rw (counts .row-count) (good .rows-least);
+    rows-most = rw (counts .row-count) (good .rows-most);
+    each-row = λ i row. row-in-months i (omega (arith, row, counts .row-count));
+    tranches-least = rw (counts .tranche-count) (good .tranches-least);
+    tranches-most = rw (counts .tranche-count) (good .tranches-most);
+    each-tranche = λ i row. tranche-in-months i (omega (arith, row, counts .tranche-count));
+    each-class = λ i row.
+        rw (
+          counts .tranches-at,
+          same-column i 1 (λ e. omega arith) (omega arith),
+          same-column (i - 1) 1 (λ e. omega arith) (omega arith),
+        )
+        (good .each-class i (omega (arith, row, counts .tranche-count)));
+    length-is = omega (arith, r .same-length, good .length-is, same-needed s s′ counts);
+  }
+
+  words-in-months : wordsVerdict s′ ≡ Sound
+  words-in-months = accepted-words s′ (good-sheet-words s′ good-in-months)
+
+  -- ---- the terms, the tranches and the verdict
+
+  sums : poolSums s′ ≡ poolSums s
+  sums = same-sums-in-order s s′ (counts .row-count) (λ i c row column. rw (counts .pool-at) (same-row-word i c row column))
+
+  shared : terms s′ ≡ terms s
+  shared = same-terms s s′ facts sums
+
+  own : (i : ℕ) → i < trancheCount s → tranche s′ i ≡ tranche s i
+  own i l =
+      same-tranche s s′ i (counts .tranche-count) sums l
+      (λ j c row column. rw (counts .tranches-at) (same-column j c (λ e. omega arith) (omega arith)))
+      (same-months i l)
+      (λ c past column. rw (counts .tranches-at) (same-column i c (λ e. omega arith) column))
+
+  same-thin : firstOf (λ i. thinVerdict s′ i) (trancheCount s) ≡ firstOf (λ i. thinVerdict s i) (trancheCount s)
+  same-thin =
+      first-of-same (λ i. thinVerdict s′ i) (λ i. thinVerdict s i) (trancheCount s)
+      (λ i l. rw (own i l, shared, counts .tranches-at))
+
+  same-verdict : (room : ℕ) → verdict s′ room ≡ verdict s room
+  unfolding verdict
+  same-verdict room = rw (words-in-months, words, counts .tranche-count, same-thin)
+
+  -- ---- the answer and the results
+
+  reply-same : (v : Verdict) → replyFor s′ v ≡ replyFor s v
+  reply-same Sound = rw (counts .tranche-count, shared)
+  reply-same (Faulty q) = refl
+
+  results-same : (old : List ℕ) (v : Verdict) → resultsFor s′ old v ≡ resultsFor s old v
+  results-same old Sound = rw (counts .tranche-count, lines-same s s′ (trancheCount s) shared own)
+  results-same old (Faulty q) = refl
+
+  pub months-for-dates : SameAnswer s s′
+  unfolding replyTo resultsAfter
+  months-for-dates = record {
+    same-reply = λ room. rw (same-verdict room) (reply-same (verdict s room));
+    same-results = λ old. rw (same-verdict (length old)) (results-same old (verdict s (length old)));
+  }
