@@ -12,7 +12,7 @@ const FIRST_YEAR: u64 = 2000;
 const LAST_YEAR: u64 = 2199;
 
 // The days of each month, January to December, in a year that is no leap year.
-const MONTH_LENGTHS: [u64; 12] = [31, 28, 31, 30, 31, 30, 31, 31, 30, 31, 30, 31];
+const MONTH_LENGTHS: [u8; 12] = [31, 28, 31, 30, 31, 30, 31, 31, 30, 31, 30, 31];
 
 // Whether a year of the Gregorian calendar is a leap year.
 fn is_leap_year(year: u64) -> bool
@@ -27,12 +27,19 @@ fn is_leap_year(year: u64) -> bool
     year % 400 == 0
 }
 
+// A length of the list as a number of 64 bits.
+fn wide(x: u8) -> u64
+    ensures { λ r. ⌜ r ≡ x ⌝ }
+{
+    x as u64
+}
+
 // The days of a month, counted from 1.
 fn days_of_month(year: u64, month: u64) -> u64
     requires { ⌜ (1 ≤ month) × (month ≤ 12) ⌝ }
     ensures { λ r. ⌜ r ≡ daysOfMonth year month ⌝ }
 {
-    let length = MONTH_LENGTHS[(month - 1) as usize];
+    let length = wide(MONTH_LENGTHS[(month - 1) as usize]);
     if month != 2 {
         return length;
     }
