@@ -67,8 +67,9 @@ static void hold(uint64_t reporting, uint64_t maturity, struct answer a, struct 
 {
     if (a.number == due.number && a.place == due.place && a.weight == due.weight)
         return;
-    fprintf(stderr, "reporting date %" PRIu64 ", maturity %" PRIu64 ": number %" PRIu64 " at %" PRIu64 ", weight %" PRIu64 "; due is %" PRIu64 " at %" PRIu64 ", weight %" PRIu64 "\n",
-            reporting, maturity, a.number, a.place, a.weight, due.number, due.place, due.weight);
+    fprintf(stderr, "reporting date %" PRIu64 ", maturity %" PRIu64 ": number %" PRIu64 " at %" PRIu64 ", weight %" PRIu64, reporting, maturity, a.number, a.place,
+            a.weight);
+    fprintf(stderr, "; due is %" PRIu64 " at %" PRIu64 ", weight %" PRIu64 "\n", due.number, due.place, due.weight);
     exit(1);
 }
 
@@ -95,15 +96,23 @@ static void list_days(void)
     printf("%zu days\n", n);
 }
 
-/* The answers that are due: a maturity that is no later day, and one that is some months on, the last of more than there may be. */
+/* The answers that are due: for a maturity that is no later day, and for one that is some months on, the last more than there may be. */
 static const struct answer no_later_day = {TRANCHE_WEIGHTS_REFUSED_DATE, MATURITY_AT, 0};
 static struct answer months_on[MOST_MONTHS + 2];
 
-/* Asks for the deal in months, with each number of months. */
+/* Asks for the deal in months, with each number of months: they are refused outside their limits, and the weight tells those from 12 to 72. */
 static void ask_in_months(void)
 {
+    static const struct answer outside = {TRANCHE_WEIGHTS_REFUSED_MATURITY, MATURITY_AT, 0};
     for (uint64_t n = 0; n <= MOST_MONTHS + 1; n++)
         months_on[n] = weigh(0, n);
+    hold(0, 0, months_on[0], outside);
+    hold(0, MOST_MONTHS + 1, months_on[MOST_MONTHS + 1], outside);
+    for (int n = 12; n < 72; n++)
+        if (months_on[n].weight >= months_on[n + 1].weight) {
+            fprintf(stderr, "the weight of %d months does not tell them from %d\n", n, n + 1);
+            exit(1);
+        }
 }
 
 /*
@@ -148,14 +157,17 @@ static uint64_t hold_pairs(long from, long first, long end)
     return pairs;
 }
 
-/* Whether a day is one of the reporting dates whose pairs are held: those of leap years and of 2100, and the first and last months of a century and of all years. */
+/*
+ * Whether a day is one of the reporting dates whose pairs are held: those of 2000 and 2004, leap years, of 2100, which is none, and of 2197, from where three years run
+ * past the last day; and January and December of 2099, from where 1200 months end at the last day, and of 2199.
+ */
 static int is_held(const struct day *day)
 {
     int year = day->month / 12, month = day->month % 12;
     return year == 2000 || year == 2004 || year == 2100 || year == 2197 || ((year == 2099 || year == 2199) && (month == 0 || month == 11));
 }
 
-/* Holds pairs of days: the days from a month before to three years after, which the weight tells by their months from 12 on; those about 1200 months later; and the last. */
+/* Holds pairs of days: from a month before to three years after, which the weight tells by their months from 12 on; about 1200 months later; and the last day. */
 static void hold_months(void)
 {
     uint64_t pairs = 0;

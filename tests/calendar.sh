@@ -1,5 +1,6 @@
 #!/bin/sh
-# The calendar: the words that the library takes for a day are those of the C library's calendar, over all 200 years, and its months between two days are counted right.
+# The calendar: the words that the library takes for a day are those of the C library's calendar, over all 200 years, and its answers for pairs of days are those of the
+# months between them.
 # Builds tests/calendar.c with every warning an error and runs it. The static library is built first: rt staticlib tranche_weights.
 set -eu
 cd "$(dirname "$0")/.."

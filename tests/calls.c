@@ -149,17 +149,18 @@ static struct given weigh_dated(size_t at, uint64_t word)
     return weigh(words, WORDS + 2, TRANCHE_WEIGHTS_LINE_WORDS);
 }
 
-/* The reporting date: the line is that of the months; dates that do not exist, and a maturity on the reporting date. */
+/* The reporting date: the line is that of the months; a date that does not exist, months, a maturity on the reporting date, and one too many months on. */
 static void *try_dates(void *unused)
 {
     accepted(weigh(dated_sheet, WORDS + 2, TRANCHE_WEIGHTS_LINE_WORDS), "a sheet with a reporting date");
     refused(weigh_dated(REPORTING_DATE_PLACE, 20230229), TRANCHE_WEIGHTS_REFUSED_DATE, REPORTING_DATE_PLACE, "a reporting date that does not exist");
     refused(weigh_dated(MATURITY_PLACE, 60), TRANCHE_WEIGHTS_REFUSED_DATE, MATURITY_PLACE, "months with a reporting date");
     refused(weigh_dated(MATURITY_PLACE, dated_sheet[REPORTING_DATE_PLACE]), TRANCHE_WEIGHTS_REFUSED_DATE, MATURITY_PLACE, "a maturity on the reporting date");
+    refused(weigh_dated(MATURITY_PLACE, 21991231), TRANCHE_WEIGHTS_REFUSED_MATURITY, MATURITY_PLACE, "a maturity too many months on");
     return unused;
 }
 
-/* The same of its file; and a bad length, which comes before too little room. */
+/* The file of the first sheet; and a bad length, which comes before too little room. */
 static void *try_weigh_file(void *unused)
 {
     const size_t whole = TRANCHE_WEIGHTS_BYTES_PER_WORD * WORDS, less = whole - TRANCHE_WEIGHTS_BYTES_PER_WORD;

@@ -227,3 +227,22 @@ held 'sheet_words: 5000 words'
 due '' "sheet_words: standard output can't be written\n"
 run_full sheet_words deal.txt
 held 'sheet_words: standard output is full'
+
+# ---- both programs on the example with dates, and on the same deal in months
+
+due 'charge 75072 tranches 4
+1 1 200000 1000000 3125 62500000 5000000
+2 1 200000 1000000 1500 7500000 600000
+3 1 80000 200000 12614 37842000 3027360
+4 2 0 80000 124753 499012000 39920960
+total 606854000 48548320\n' ''
+run sheet_words "$root/examples/dated.txt"
+cp out dated.sheet
+run tranche_report dated.sheet
+held 'tranche_report: the example with dates'
+sed 's/^20260630 /0 /; s/ 20290715 / 37 /; s/ 20261231 / 7 /; s/ 20310731 / 62 /; s/ 20360630 / 120 /' "$root/examples/dated.txt" > text
+run sheet_words text
+cp out months.sheet
+cmp -s dated.sheet months.sheet && { echo 'the example in months is the example with dates'; exit 1; }
+run tranche_report months.sheet
+held 'tranche_report: the same deal in months'

@@ -6,7 +6,7 @@ fractions, exponentials to a hundred digits, Python's own calendar.
 
 Where two raw weights pass, this prints the lower, the exact value rounded up. It fails where a figure of the rating tables is missing from the examples' weights,
 where a case of one, two or three ratings or of dates is met by no example, or where a deal in dates has other lines than the same deal in months. It needs Python's
-standard library and is no part of the gate; tests/calendar_due.py, which is, takes from it the months between two days and the weight by a rating.
+standard library and is no part of the gate.
 """
 import os
 import sys

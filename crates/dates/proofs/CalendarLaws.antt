@@ -1,16 +1,18 @@
--- The calendar at the days that are often taken wrong, and over all 200 years; and a word names a day just where some year, month and day of the calendar are
--- written in it. No axioms.
-use mathlib.Core.Bool.{Bool, true, false, _&&_}
+-- The calendar at the days that are often taken wrong, and over all 200 years; a word names a day just where some year, month and day of the calendar are written in
+-- it; and the words of days are in the order of the days. No axioms.
+use mathlib.Core.Bool.{true, false, _&&_}
+use mathlib.Core.Logic.{⊎-elim}
 use mathlib.Core.Path.{_≡_, refl}
-use Prim.Native.Nat.{ℕ, _+_, _*_, _-_, _≤_, _<_}
+use Prim.Native.Nat.{ℕ, _+_, _-_, _≤_, _<_}
+use native.Mathlib.Nat.{eq-or-lt-of-le}
 use native.Mathlib.Omega.{arith}
-use lib.Dec.{T, leb, eqb, leb→le}
+use lib.Dec.{leb, eqb, leb→le}
 use lib.ListN.{getD}
 use Rattle.numbers.specs.Limits.{within}
 use Rattle.numbers.specs.Sum.{sum}
-use Rattle.numbers.proofs.Table.{allBelow, at-each}
+use Rattle.numbers.proofs.Table.{at-each}
 use Rattle.numbers.proofs.Tests.{both-true, between-true, within-is, at-cond}
-use Rattle.dates.specs.Calendar.{yearOf, monthOf, dayOf, leapYear, monthLengths, daysOfMonth, namesDay, Day}
+use Rattle.dates.specs.Calendar.{yearOf, monthOf, dayOf, leapYear, monthLengths, daysOfMonth, namesDay, Day, Before, in-earlier-year, in-earlier-month, on-earlier-day}
 
 -- ---- leap years, and the ends of months and years
 
@@ -92,3 +94,27 @@ named-day w d =
       within-is 1 12 (d .month) (d .month-least) (d .month-most),
       within-is 1 (daysOfMonth (d .year) (d .month)) (d .day) (d .day-least) (d .day-most),
     )
+
+-- ---- the order of days is that of their words
+
+year-order : (v w : ℕ) (a : Day v) (b : Day w) → v < w → a .year ≤ b .year
+year-order v w a b smaller = omega (arith, a .written, b .written, b .month-most, day-within w b)
+
+month-order : (v w : ℕ) (a : Day v) (b : Day w) → v < w → a .year ≡ b .year → a .month ≤ b .month
+month-order v w a b smaller same-year = omega (arith, a .written, b .written, day-within w b)
+
+pub smaller-when-before : {v w : ℕ} (a : Day v) (b : Day w) → Before a b → v < w
+smaller-when-before {v} {w} a b (in-earlier-year years) = omega (arith, a .written, b .written, a .month-most, day-within v a)
+smaller-when-before {v} {w} a b (in-earlier-month years months) = omega (arith, a .written, b .written, day-within v a)
+smaller-when-before {v} {w} a b (on-earlier-day years months days) = omega (arith, a .written, b .written)
+
+pub before-when-smaller : {v w : ℕ} (a : Day v) (b : Day w) → v < w → Before a b
+before-when-smaller {v} {w} a b smaller =
+    ⊎-elim
+    (λ same-year.
+    ⊎-elim
+    (λ same-month. on-earlier-day same-year same-month (omega (arith, a .written, b .written)))
+    (λ months. in-earlier-month same-year months)
+    (eq-or-lt-of-le (month-order v w a b smaller same-year)))
+    (λ years. in-earlier-year years)
+    (eq-or-lt-of-le (year-order v w a b smaller))

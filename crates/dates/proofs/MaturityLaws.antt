@@ -10,31 +10,31 @@ use lib.Dec.{ltb, eqb}
 use borrow.Author.Tests.{ltb-true, lt-ltb, eq-eqb, ne-eqb}
 use Rattle.numbers.proofs.Tests.{both-true, true-either}
 use Rattle.dates.specs.Calendar.{namesDay, Day}
-use Rattle.dates.specs.Maturity.{maturityMonths, maturityDated}
+use Rattle.dates.specs.Maturity.{maturityMonths, maturityAllowed}
 use Rattle.dates.proofs.CalendarLaws.{day-named, named-day}
 
 -- the next day, the reporting date itself, the day before, and a number of months
 pub later-days-alone :
-    (maturityDated 20260131 20260201 ≡ true) × (maturityDated 20260131 20260131 ≡ false) × (maturityDated 20260131 20260130 ≡ false) ×
-    (maturityDated 20260131 36 ≡ false)
+    (maturityAllowed 20260131 20260201 ≡ true) × (maturityAllowed 20260131 20260131 ≡ false) × (maturityAllowed 20260131 20260130 ≡ false) ×
+    (maturityAllowed 20260131 36 ≡ false)
 unfolding namesDay
 later-days-alone = (refl, refl, refl, refl)
 
 -- "0 or absent means months as before."
-pub months-as-written : (w : ℕ) → (maturityMonths 0 w ≡ w) × (maturityDated 0 w ≡ true)
+pub months-as-written : (w : ℕ) → (maturityMonths 0 w ≡ w) × (maturityAllowed 0 w ≡ true)
 months-as-written w = (refl, refl)
 
-module _ (reported w : ℕ) where
-  pub later-day : maturityDated reported w ≡ true → 0 < reported → (reported < w) × Day w
+module _ (reportingDate w : ℕ) where
+  pub later-day : maturityAllowed reportingDate w ≡ true → 0 < reportingDate → (reportingDate < w) × Day w
   later-day e set =
-      let both = both-true (ltb reported w) (namesDay w) (rw (ne-eqb reported 0 (λ z. omega arith)) at e) in
-      (ltb-true reported w (both .0), day-named w (both .1))
+      let both = both-true (ltb reportingDate w) (namesDay w) (rw (ne-eqb reportingDate 0 (λ z. omega arith)) at e) in
+      (ltb-true reportingDate w (both .0), day-named w (both .1))
 
-  pub day-later : (0 < reported → reported < w) → (0 < reported → Day w) → maturityDated reported w ≡ true
+  pub day-later : (0 < reportingDate → reportingDate < w) → (0 < reportingDate → Day w) → maturityAllowed reportingDate w ≡ true
   day-later after day =
       ⊎-elim
-      (λ none. true-either (eqb reported 0) (ltb reported w && namesDay w) (inl (eq-eqb reported 0 none)))
+      (λ none. true-either (eqb reportingDate 0) (ltb reportingDate w && namesDay w) (inl (eq-eqb reportingDate 0 none)))
       (λ set.
-      true-either (eqb reported 0) (ltb reported w && namesDay w)
-      (inr (simp (lt-ltb reported w (after set), named-day w (day set)))))
-      (eq-zero-or-pos reported)
+      true-either (eqb reportingDate 0) (ltb reportingDate w && namesDay w)
+      (inr (simp (lt-ltb reportingDate w (after set), named-day w (day set)))))
+      (eq-zero-or-pos reportingDate)

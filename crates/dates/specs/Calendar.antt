@@ -2,7 +2,7 @@
 use mathlib.Core.Bool.{Bool, cond, not, _&&_, _||_}
 use mathlib.Core.List.{List, [], _∷_}
 use mathlib.Core.Path.{_≡_}
-use Prim.Native.Nat.{ℕ, _+_, _*_, _-_, _/_, _%_, _≤_}
+use Prim.Native.Nat.{ℕ, _+_, _*_, _-_, _/_, _%_, _≤_, _<_}
 use lib.Dec.{eqb}
 use lib.ListN.{getD}
 use Rattle.numbers.specs.Limits.{within}
@@ -53,3 +53,11 @@ pub record Day (w : ℕ) : Type 0 where
   pub month-most : month ≤ 12
   pub day-least : 1 ≤ day
   pub day-most : day ≤ daysOfMonth year month
+
+-- ---- "not after": a day before another is in an earlier year, or in an earlier month of its year, or is an earlier day of its month. That its word is then the smaller, and
+-- only then, is proved in proofs/CalendarLaws.antt.
+
+pub data Before {v w : ℕ} (a : Day v) (b : Day w) : Type 0 where
+  in-earlier-year : a .year < b .year → Before a b
+  in-earlier-month : a .year ≡ b .year → a .month < b .month → Before a b
+  on-earlier-day : a .year ≡ b .year → a .month ≡ b .month → a .day < b .day → Before a b

@@ -8,14 +8,16 @@ use Rattle.dates.specs.Calendar.{yearOf, monthOf, dayOf, namesDay}
 abbrev pub monthCount : ℕ → ℕ
 monthCount w = 12 * yearOf w + monthOf w
 
--- "Months are 12 × years apart + months apart, plus one when the maturity's day of the month is the later."
+-- "Months are 12 × years apart + months apart, plus one when the maturity's day of the month is the later." Where the maturity's month is the earlier, none are apart; for a
+-- later day nothing is cut off: `months-counted` (proofs/MonthsLaws.antt).
 unfoldable pub monthsBetween : ℕ → ℕ → ℕ
-monthsBetween reported maturity = monthCount maturity - monthCount reported + cond (ltb (dayOf reported) (dayOf maturity)) 1 0
+monthsBetween reportingDate maturity = monthCount maturity - monthCount reportingDate + cond (ltb (dayOf reportingDate) (dayOf maturity)) 1 0
 
 -- "0 or absent means months as before. With a date, the maturity word is a date too.": the months of a maturity word, by the reporting date or 0
 abbrev pub maturityMonths : ℕ → ℕ → ℕ
-maturityMonths reported w = cond (eqb reported 0) w (monthsBetween reported w)
+maturityMonths reportingDate w = cond (eqb reportingDate 0) w (monthsBetween reportingDate w)
 
--- "A date that does not exist or is outside those years, or a maturity not after the reporting date, gets 17": whether a maturity word is neither
-abbrev pub maturityDated : ℕ → ℕ → Bool
-maturityDated reported w = eqb reported 0 || (ltb reported w && namesDay w)
+-- "A date that does not exist or is outside those years, or a maturity not after the reporting date, gets 17": whether a maturity word does not get it. Where there is no reporting
+-- date none does; where there is one, only a later day.
+abbrev pub maturityAllowed : ℕ → ℕ → Bool
+maturityAllowed reportingDate w = eqb reportingDate 0 || (ltb reportingDate w && namesDay w)

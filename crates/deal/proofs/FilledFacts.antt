@@ -1,7 +1,7 @@
 -- A sheet whose list of facts is filled with zeros gets the answer and the lines that it got before, a refusal at the place to which its word has moved. No axioms.
 use mathlib.Core.List.{List, _∷_}
 use mathlib.Core.Path.{_≡_, refl, ap, _∙_}
-use Prim.Native.Nat.{ℕ, _+_, _*_, _<_}
+use Prim.Native.Nat.{ℕ, _*_, _<_}
 use native.Mathlib.Omega.{arith}
 use lib.Dec.{ltb}
 use lib.ListN.{length}
@@ -19,7 +19,7 @@ use Rattle.pool.proofs.SameSums.{same-sums-in-order}
 use Rattle.weights.specs.ApproachFloorCap.{thin}
 use Rattle.deal.specs.Lines.{terms, tranche}
 use Rattle.deal.specs.Refusals.{roomVerdict, thinVerdict, verdict}
-use Rattle.deal.specs.Results.{Reply, replyTo, replyFor, lines, resultsFor, resultsAfter}
+use Rattle.deal.specs.Results.{replyTo, replyFor, resultsFor, resultsAfter}
 use Rattle.deal.specs.FilledAnswer.{movedReply, SameWhenFilled}
 use Rattle.deal.proofs.LineLaws.{lines-same}
 use Rattle.deal.proofs.SameTerms.{same-terms, same-months, same-tranche}

@@ -1,4 +1,5 @@
--- A sheet with a reporting date gets the answer and the lines of the same sheet in months: nothing else of a deal depends on how its maturities are written. No axioms.
+-- A sheet with a reporting date, where its words are good, gets the answer and the lines of the same sheet in months: nothing else of a deal depends on how its maturities
+-- are written. No axioms.
 use mathlib.Core.Bool.{Bool, true, false}
 use mathlib.Core.List.{List}
 use mathlib.Core.Logic.{inl}
@@ -11,7 +12,7 @@ use lib.ListN.{length}
 use borrow.Author.Tests.{leb-true, eqb-true, eqb-false}
 use Rattle.numbers.proofs.Tests.{at-cond}
 use Rattle.faults.specs.GoodWords.{GoodFact, GoodTranche}
-use Rattle.judgement.specs.DealSheet.{word, resecuritisation, hasFact, reportingDate, poolAt, rows, rowAt, tranchesAt, trancheCount, trancheAt, amount, class, months, held, firstRating, secondRating, thirdRating, needed}
+use Rattle.judgement.specs.DealSheet.{word, resecuritisation, hasFact, reportingDate, poolAt, rows, rowAt, tranchesAt, trancheCount, trancheAt, amount, months, held, firstRating, secondRating, thirdRating}
 use Rattle.judgement.specs.GoodSheet.{GoodRowOf, GoodTrancheOf, GoodSheet}
 use Rattle.judgement.specs.Refusals.{firstOf, wordsVerdict}
 use Rattle.judgement.specs.declared.Verdict.{Verdict}
@@ -107,7 +108,7 @@ module _ (s s′ : List ℕ) (r : InMonths s s′) (words : wordsVerdict s ≡ S
       )
       (good .each-row i row)
 
-  -- a tranche of good words is one without a reporting date whose maturity is its months
+  -- a tranche's words stay good where its maturity is its months and there is no reporting date
   by-months : (i : ℕ) → i < trancheCount s → GoodTranche 0 (amount s i) (months s i) (held s i) (firstRating s i) (secondRating s i) (thirdRating s i)
   by-months i row =
       let g = good .each-tranche i row in

@@ -1,4 +1,4 @@
--- Two sheets of the same facts and pool sums have the same terms, and their tranches with the same words and months the same points, wherever these words stand. No axioms.
+-- Two sheets of the same facts and pool sums have the same terms, and their tranches with the same months and the same other words are the same, wherever these words stand. No axioms.
 use mathlib.Core.List.{List}
 use mathlib.Core.Path.{_≡_, ap, _∙_}
 use Prim.Native.Nat.{ℕ, _+_, _<_}

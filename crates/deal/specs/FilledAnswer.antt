@@ -1,4 +1,5 @@
--- 02, S-1: "a sheet with four facts counts as 0": what the answer to a sheet becomes where its list of facts is filled with zeros (FilledFacts.antt of `judgement`).
+-- 02, S-1: "a sheet with four facts counts as 0", and S-3: "0 or absent means months as before.": what the answer to a sheet becomes where its list of facts is filled
+-- with zeros (FilledFacts.antt of `judgement`).
 use mathlib.Core.List.{List}
 use mathlib.Core.Path.{_≡_}
 use Prim.Native.Nat.{ℕ}

@@ -1,5 +1,5 @@
--- 02, S-3: "0 or absent means months as before. With a date, the maturity word is a date too.": a sheet with a reporting date, and the same sheet in months. That it gets the same
--- answer and lines is `months-for-dates` (proofs/InMonths.antt).
+-- 02, S-3: "0 or absent means months as before. With a date, the maturity word is a date too.": a sheet with a reporting date, and the same sheet in months. That
+-- both get the same answer and lines, where the words of the first are good, is `months-for-dates` (proofs/InMonths.antt).
 use mathlib.Core.Bool.{true}
 use mathlib.Core.List.{List}
 use mathlib.Core.Path.{_≡_}

@@ -61,7 +61,7 @@ pub(crate) fn class_points(s: &[u64], l: Layout, nominal: u64) -> [u64; POINTS]
     points
 }
 
-// What is tranche i's own, its maturity in months, however the sheet states it.
+// What is tranche i's own; its maturity is in months, however the sheet states it.
 pub(crate) fn tranche_of(s: &[u64], l: Layout, points: &[u64; POINTS], i: u64) -> Tranche
     requires { ⌜ LaidOut (now s) l × ClassPoints (now s) (now points) × (i < trancheCount (now s)) ⌝ }
     ensures { λ r. ⌜ r ≡ tranche (now (s .entry)) i ⌝ }

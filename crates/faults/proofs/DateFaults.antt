@@ -1,5 +1,5 @@
--- The faults of a reporting date and of a maturity at the edges of their rules; without a reporting date a maturity is judged as before, and with one a 10 means more than
--- 1200 months. No axioms.
+-- The faults of a reporting date and of a maturity at the edges of their rules; without a reporting date a maturity is judged by its months alone, and with one a 10 means
+-- more than 1200 months. No axioms.
 use mathlib.Core.Bool.{Bool, true, false, cond}
 use mathlib.Core.Logic.{⊎-elim}
 use mathlib.Core.Path.{_≡_, refl, sym, _∙_}
@@ -9,7 +9,7 @@ use native.Mathlib.Omega.{arith}
 use borrow.Author.Tests.{ne-eqb}
 use Rattle.numbers.proofs.Tests.{within-is}
 use Rattle.dates.specs.Calendar.{namesDay, Day}
-use Rattle.dates.specs.Maturity.{monthsBetween, maturityMonths, maturityDated}
+use Rattle.dates.specs.Maturity.{monthsBetween, maturityMonths, maturityAllowed}
 use Rattle.dates.proofs.MonthsLaws.{months-least}
 use Rattle.dates.proofs.MaturityLaws.{later-day}
 use Rattle.faults.specs.WordFaults.{unless, reportingDateFault, monthsInLimits, maturityFault}
@@ -35,12 +35,12 @@ months-at-the-limits = (refl, refl, refl)
 pub fault-of-months : (w : ℕ) → maturityFault 0 w ≡ unless 10 (monthsInLimits w)
 fault-of-months w = refl
 
--- ---- a later day is at least one month on, so a 10 means that it is too far on
+-- ---- a later day is at least one month on, so a 10 means that it is more than 1200 months on
 
-told : (dated good : Bool) → cond dated (unless 10 good) 17 ≡ 10 → (dated ≡ true) × (good ≡ false)
-told true true e = absurd (omega arith)
-told true false e = (refl, refl)
-told false good e = absurd (omega arith)
+ten-means : (dated good : Bool) → cond dated (unless 10 good) 17 ≡ 10 → (dated ≡ true) × (good ≡ false)
+ten-means true true e = absurd (omega arith)
+ten-means true false e = (refl, refl)
+ten-means false good e = absurd (omega arith)
 
 above-most : (n : ℕ) → 1 ≤ n → monthsInLimits n ≡ false → 1200 < n
 above-most n least e =
@@ -52,10 +52,11 @@ above-most n least e =
     clash : true ≡ false → ⊥
     clash z = let y : _≡_ {A = ℕ} 0 1 = cc in omega arith
 
-pub too-many-months : (reported w : ℕ) → 0 < reported → Day reported → maturityFault reported w ≡ 10 → 1200 < maturityMonths reported w
-too-many-months reported w set from e =
-    let both = told (maturityDated reported w) (monthsInLimits (maturityMonths reported w)) e in
-    let later = later-day reported w (both .0) set in
-    above-most (maturityMonths reported w)
-    (rw (ne-eqb reported 0 (λ none. omega arith)) (months-least reported w from (later .1) (later .0)))
+pub too-many-months : (reportingDate w : ℕ) → Day reportingDate → maturityFault reportingDate w ≡ 10 → 1200 < maturityMonths reportingDate w
+too-many-months reportingDate w from e =
+    let set : 0 < reportingDate = omega (arith, from .written, from .year-least) in
+    let both = ten-means (maturityAllowed reportingDate w) (monthsInLimits (maturityMonths reportingDate w)) e in
+    let later = later-day reportingDate w (both .0) set in
+    above-most (maturityMonths reportingDate w)
+    (rw (ne-eqb reportingDate 0 (λ none. omega arith)) (months-least reportingDate w from (later .1) (later .0)))
     (both .1)

@@ -7,7 +7,7 @@ use lib.Dec.{leb, ltb, eqb}
 use Rattle.numbers.specs.Limits.{within}
 use Rattle.rating_codes.specs.RatingCodes.{listed}
 use Rattle.dates.specs.Calendar.{namesDay}
-use Rattle.dates.specs.Maturity.{maturityMonths, maturityDated}
+use Rattle.dates.specs.Maturity.{maturityMonths, maturityAllowed}
 use Rattle.faults.specs.WordFaults.{unless, countFault, yesOrNo, codeFault, factFault, poolAmountInLimits, riskWeightInLimits, statusAllowed, rowFault, classInOrder, trancheAmountInLimits, monthsInLimits, heldInLimits, trancheFault}
 
 pub record WordNumber (n : ℕ) : Type 0 where
@@ -52,11 +52,11 @@ row-number resecuritised column w =
     (picked (eqb column 2) _ _ (stands 6 (riskWeightInLimits w) (below-13 6 (omega arith)))
     (stands 7 (statusAllowed resecuritised w) (below-13 7 (omega arith))))
 
-pub tranche-number : (reported i before whole column w : ℕ) → WordNumber (trancheFault reported i before whole column w)
-tranche-number reported i before whole column w =
+pub tranche-number : (reportingDate i before whole column w : ℕ) → WordNumber (trancheFault reportingDate i before whole column w)
+tranche-number reportingDate i before whole column w =
     picked (eqb column 0) _ _ (stands 8 (trancheAmountInLimits w) (below-13 8 (omega arith)))
     (picked (eqb column 1) _ _ (stands 9 (classInOrder i before w) (below-13 9 (omega arith)))
     (picked (eqb column 2) _ _
-    (picked (maturityDated reported w) _ _ (stands 10 (monthsInLimits (maturityMonths reported w)) (below-13 10 (omega arith))) (above-14 17 (omega arith)))
+    (picked (maturityAllowed reportingDate w) _ _ (stands 10 (monthsInLimits (maturityMonths reportingDate w)) (below-13 10 (omega arith))) (above-14 17 (omega arith)))
     (picked (eqb column 3) _ _ (stands 8 (heldInLimits whole w) (below-13 8 (omega arith)))
     (stands 11 (listed w) (below-13 11 (omega arith))))))

@@ -1,7 +1,7 @@
 -- A fact, a pool row, a tranche row and a class keep the limits of 01's "The deal sheet" and 02's S-1 and S-3 just where their words have no fault. No axioms.
 use mathlib.Core.Bool.{Bool, true, false, cond, _&&_, _||_}
 use mathlib.Core.Logic.{_⊎_, inl, inr, ⊎-elim}
-use mathlib.Core.Path.{_≡_, refl, ap, _∙_}
+use mathlib.Core.Path.{_≡_, refl}
 use Prim.Native.Nat.{ℕ, zero, suc, _+_, _≤_, _<_}
 use native.Mathlib.Omega.{arith}
 use lib.Dec.{leb, eqb}
@@ -9,7 +9,7 @@ use borrow.Author.Tests.{leb-true, eqb-true, eqb-false, le-leb, eq-eqb, ne-eqb}
 use Rattle.numbers.proofs.Tests.{within-is, either-true, true-either}
 use Rattle.rating_codes.specs.RatingCodes.{listed}
 use Rattle.dates.specs.Calendar.{namesDay, Day}
-use Rattle.dates.specs.Maturity.{maturityMonths, maturityDated}
+use Rattle.dates.specs.Maturity.{maturityMonths, maturityAllowed}
 use Rattle.dates.proofs.CalendarLaws.{day-named, named-day}
 use Rattle.dates.proofs.MaturityLaws.{later-day, day-later}
 use Rattle.faults.specs.WordFaults.{yesOrNo, codeFault, factFault, riskWeightInLimits, statusAllowed, rowFault, classInOrder, heldInLimits, trancheFault}
@@ -168,7 +168,7 @@ module _ (r i b : ℕ) where
       trancheFault r i b a 5 y ≡ 0 → trancheFault r i b a 6 z ≡ 0 → GoodTranche r a m h x y z
   good-tranche a m h x y z amounts maturities holdings first second third =
       let amount = no-fault-within 8 1 10000000000000 a (omega arith) amounts in
-      let maturity = not-17 (maturityDated r m) _ maturities in
+      let maturity = not-17 (maturityAllowed r m) _ maturities in
       let months = no-fault-within 10 1 1200 (maturityMonths r m) (omega arith) (maturity .1) in
       record {
         amount-least = amount .0;

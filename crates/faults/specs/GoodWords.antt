@@ -30,13 +30,13 @@ pub record GoodRow (resecuritised : Bool) (exposure nominal weight status : ℕ)
 
 -- "A row: amount, 1 to 10^13; class; final legal maturity in months, 1 to 1200; amount held, 0 to the tranche amount; three rating words." 02, S-3: "With a date, the maturity
 -- word is a date too.", after the reporting date, and "The 1 to 1200 limit then applies.", to its months
-pub record GoodTranche (reported amount maturity held first second third : ℕ) : Type 0 where
+pub record GoodTranche (reportingDate amount maturity held first second third : ℕ) : Type 0 where
   pub amount-least : 1 ≤ amount
   pub amount-most : amount ≤ 10000000000000
-  pub maturity-day : 0 < reported → Day maturity
-  pub maturity-after : 0 < reported → reported < maturity
-  pub months-least : 1 ≤ maturityMonths reported maturity
-  pub months-most : maturityMonths reported maturity ≤ 1200
+  pub maturity-day : 0 < reportingDate → Day maturity
+  pub maturity-after : 0 < reportingDate → reportingDate < maturity
+  pub months-least : 1 ≤ maturityMonths reportingDate maturity
+  pub months-most : maturityMonths reportingDate maturity ≤ 1200
   pub held-most : held ≤ amount
   pub first-listed : listed first ≡ true
   pub second-listed : listed second ≡ true

@@ -6,7 +6,7 @@ use lib.Dec.{leb, ltb, eqb}
 use Rattle.numbers.specs.Limits.{within}
 use Rattle.rating_codes.specs.RatingCodes.{listed}
 use Rattle.dates.specs.Calendar.{namesDay}
-use Rattle.dates.specs.Maturity.{maturityMonths, maturityDated}
+use Rattle.dates.specs.Maturity.{maturityMonths, maturityAllowed}
 
 -- the number, unless the word is good
 abbrev pub unless : ℕ → Bool → ℕ
@@ -85,23 +85,23 @@ abbrev pub trancheAmountInLimits : ℕ → Bool
 trancheAmountInLimits w = within 1 10000000000000 w
 
 abbrev pub monthsInLimits : ℕ → Bool
-monthsInLimits w = within 1 1200 w
+monthsInLimits n = within 1 1200 n
 
 -- 02, S-3: "A date that does not exist or is outside those years, or a maturity not after the reporting date, gets 17 at its own word.", and of every other maturity "The 1 to
 -- 1200 limit then applies.", to its months
 abbrev pub maturityFault : ℕ → ℕ → ℕ
-maturityFault reported w = cond (maturityDated reported w) (unless 10 (monthsInLimits (maturityMonths reported w))) 17
+maturityFault reportingDate w = cond (maturityAllowed reportingDate w) (unless 10 (monthsInLimits (maturityMonths reportingDate w))) 17
 
 -- "amount held, 0 to the tranche amount"
 abbrev pub heldInLimits : ℕ → ℕ → Bool
 heldInLimits trancheAmount w = leb w trancheAmount
 
 -- "8: a tranche amount outside its limits, or held above the amount. 9: a class out of order. 10: a maturity outside 1 to 1200. 11: a rating code
--- not listed." The columns of tranche i, from 0: amount, class, maturity, held, three ratings; `reported` is the reporting date or 0, `before` the class of the row before
+-- not listed." The columns of tranche i, from 0: amount, class, maturity, held, three ratings; `reportingDate` is the reporting date or 0, `before` the class of the row before
 abbrev pub trancheFault : ℕ → ℕ → ℕ → ℕ → ℕ → ℕ → ℕ
-trancheFault reported i before trancheAmount column w =
+trancheFault reportingDate i before trancheAmount column w =
     cond (eqb column 0) (unless 8 (trancheAmountInLimits w))
     (cond (eqb column 1) (unless 9 (classInOrder i before w))
-    (cond (eqb column 2) (maturityFault reported w)
+    (cond (eqb column 2) (maturityFault reportingDate w)
     (cond (eqb column 3) (unless 8 (heldInLimits trancheAmount w))
     (unless 11 (listed w)))))

@@ -1,7 +1,7 @@
 // The fault of one word of a sheet, by its value and its column: the refusal's number in 01 or 02, or 0. Functions of numbers alone, open to all inputs.
 ghost use mathlib.Core.Path.{_≡_};
 ghost use Rattle.faults.specs.WordFaults.{unless, countFault, codeFault, poolKindFault, stcFault, reportingDateFault, factFault, statusAllowed, rowFault, rowIsGood, classInOrder, maturityFault, trancheFault};
-use dates::maturity_dated;
+use dates::maturity_allowed;
 use dates::maturity_months;
 use dates::names_day;
 use numbers::within;
@@ -59,7 +59,7 @@ fn stc_fault(resecuritised: bool, w: u64) -> u64
     code_fault(w)
 }
 
-// The fault of the sixth fact: a day, or 0 where maturities are in months.
+// The fault of the sixth fact, which is a day, or 0 where maturities are in months.
 fn reporting_date_fault(w: u64) -> u64
     ensures { λ r. ⌜ r ≡ reportingDateFault w ⌝ }
 {
@@ -150,18 +150,25 @@ fn class_in_order(i: u64, before: u64, w: u64) -> bool
 }
 
 // The fault of a maturity: with a reporting date the day is judged first, then the months that it gives.
-fn maturity_fault(reported: u64, w: u64) -> u64
-    ensures { λ r. ⌜ r ≡ maturityFault reported w ⌝ }
+fn maturity_fault(reporting_date: u64, w: u64) -> u64
+    ensures { λ r. ⌜ r ≡ maturityFault «reporting_date» w ⌝ }
 {
-    if !maturity_dated(reported, w) {
+    if !maturity_allowed(reporting_date, w) {
         return 17;
     }
-    unless(10, within(1, MONTHS, maturity_months(reported, w)))
+    unless(10, within(1, MONTHS, maturity_months(reporting_date, w)))
 }
 
 // The fault of a tranche row's word, by its column; the reporting date is 0 where maturities are in months.
-pub fn tranche_fault(reported: u64, i: u64, before: u64, amount: u64, column: u64, w: u64) -> u64
-    ensures { λ r. ⌜ r ≡ trancheFault reported i before amount column w ⌝ }
+pub fn tranche_fault(
+    reporting_date: u64,
+    i: u64,
+    before: u64,
+    amount: u64,
+    column: u64,
+    w: u64,
+) -> u64
+    ensures { λ r. ⌜ r ≡ trancheFault «reporting_date» i before amount column w ⌝ }
 {
     if column == 0 {
         return unless(8, within(1, TRANCHE_AMOUNT, w));
@@ -170,7 +177,7 @@ pub fn tranche_fault(reported: u64, i: u64, before: u64, amount: u64, column: u6
         return unless(9, class_in_order(i, before, w));
     }
     if column == 2 {
-        return maturity_fault(reported, w);
+        return maturity_fault(reporting_date, w);
     }
     if column == 3 {
         return unless(8, w <= amount);

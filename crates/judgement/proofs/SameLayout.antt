@@ -32,7 +32,7 @@ same-counts s s′ facts row-count count =
 pub same-needed : (s s′ : List ℕ) → SameCounts s s′ → needed s′ ≡ needed s
 same-needed s s′ counts = omega (arith, tranches-end s, tranches-end s′, counts .tranches-at, counts .tranche-count)
 
--- ---- the facts that the terms of a deal read, all but the reporting date
+-- ---- the facts that the terms of a deal read; the reporting date is not among them
 
 pub record SameFacts (s s′ : List ℕ) : Type 0 where
   pub same-resecuritisation : resecuritisation s′ ≡ resecuritisation s

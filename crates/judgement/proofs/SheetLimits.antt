@@ -95,14 +95,14 @@ pub good-fact-of : (s : List ℕ) (p : ℕ) → judged s (needed s) ≡ Sound �
 good-fact-of s p e least before =
     good-fact (resecuritisation s) p (word s p) (sym (fault-of-fact s p least before) ∙ good-word s (needed s) p e (omega (arith, pool-count-needed s)) .1)
 
--- "a sheet with four facts counts as 0"
+-- "a sheet with four facts counts as 0"; "0 or absent means months as before."
 pub short-list : (s : List ℕ) (n : ℕ) → word s 0 < n → fact s n ≡ 0
 short-list s n past = simp (lt-leb n (word s 0) past)
 
 pub four-facts : (s : List ℕ) → word s 0 ≡ 4 → stc s ≡ false
 four-facts s four = simp (short-list s 5 (omega arith))
 
--- a mark is the fifth word, a 1
+-- a mark is the fifth fact, a 1
 mark-there : (counted : Bool) (w : ℕ) → cond counted w 0 ≡ 1 → (counted ≡ true) × (w ≡ 1)
 mark-there true w e = (refl, e)
 mark-there false w e = absurd (omega arith)

@@ -1,5 +1,5 @@
--- 01, "The deal sheet", and 02, S-1, for the fifth fact, and S-3, for the sixth and for maturities: where each word of a sheet stands. Places are counted from 0. A count is read as it stands, however
--- wrong: a wrong count is itself the first fault of its sheet (Refusals.antt).
+-- 01, "The deal sheet", and 02, S-1, for the fifth fact, and S-3, for the sixth and for maturities: where each word of a sheet stands. Places are counted from 0. A
+-- count is read as it stands, however wrong: a wrong count is itself the first fault of its sheet (Refusals.antt).
 use mathlib.Core.Bool.{Bool, cond}
 use mathlib.Core.List.{List}
 use Prim.Native.Nat.{ℕ, _+_, _*_}
@@ -91,7 +91,7 @@ class s i = word s (trancheAt s i + 1)
 abbrev pub maturity : List ℕ → ℕ → ℕ
 maturity s i = word s (trancheAt s i + 2)
 
--- the months of the final legal maturity, which everything that depends on the maturity reads, however its word is written
+-- the months of the final legal maturity, which the weights read, however its word is written
 abbrev pub months : List ℕ → ℕ → ℕ
 months s i = maturityMonths (reportingDate s) (maturity s i)
 

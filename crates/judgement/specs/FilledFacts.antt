@@ -1,5 +1,5 @@
--- 02, S-1: "a sheet with four facts counts as 0": a sheet whose list of facts is filled with zeros, and where its words stand then. That it gets the same answer and lines is
--- `filled-facts` (proofs/FilledFacts.antt of `deal`).
+-- 02, S-1: "a sheet with four facts counts as 0", and S-3: "0 or absent means months as before.": a sheet whose list of facts is filled with zeros, and where its words
+-- stand then. That it gets the same answer and lines is `filled-facts` (proofs/FilledFacts.antt of `deal`).
 use mathlib.Core.Bool.{cond}
 use mathlib.Core.List.{List, _∷_, _++_}
 use Prim.Native.Nat.{ℕ, _+_, _-_, _≤_}

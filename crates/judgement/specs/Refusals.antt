@@ -1,5 +1,5 @@
--- 01, "Refusals, by who can cause them", and 02, S-1, for 16, and S-3, for 17: the fault of each word of a sheet, and the order in which they are judged. The fault of a word by its value is in
--- WordFaults.antt of `faults`.
+-- 01, "Refusals, by who can cause them", and 02, S-1, for 16, and S-3, for 17: the fault of each word of a sheet, and the order in which they are judged. The fault of a
+-- word by its value is in WordFaults.antt of `faults`.
 use mathlib.Core.Bool.{cond}
 use mathlib.Core.List.{List}
 use Prim.Native.Nat.{ℕ, zero, suc, _+_, _-_, _/_, _%_}

@@ -186,7 +186,7 @@ fn judge_tranche(s: &[u64], i: u64) -> Verdict
     requires { ⌜ (judged (now s) (trancheAt (now s) i) ≡ Sound) × (i < trancheCount (now s)) ⌝ }
     ensures { λ r. ⌜ r ≡ judged (now (s .entry)) (trancheAt (now (s .entry)) (i + 1)) ⌝ }
 {
-    let reported = fact_at(s, 6);
+    let reporting_date = fact_at(s, 6);
     let at = tranche_at(s, i);
     let before = class_before(s, i);
     let amount = word_at(s, at);
@@ -196,7 +196,7 @@ fn judge_tranche(s: &[u64], i: u64) -> Verdict
         let verdict = judge_word(
             s,
             p,
-            tranche_fault(reported, i, before, amount, column, word_at(s, p)),
+            tranche_fault(reporting_date, i, before, amount, column, word_at(s, p)),
         );
         let Verdict::Sound = verdict else {
             return verdict;

@@ -1,9 +1,9 @@
--- 01, "The deal sheet": how many words a sheet, its rows and its results have, and "Refusals": how long a sheet's file may be; 02, S-1 and S-3, for the fifth and the sixth fact. Every
--- limit that follows from another is worked out here from its parts.
+-- 01, "The deal sheet": how many words a sheet, its rows and its results have, and "Refusals": how long a sheet's file may be; 02, S-1 and S-3, for the fifth and the
+-- sixth fact. Every limit that follows from another is worked out here from its parts.
 use Prim.Native.Nat.{ℕ, _+_, _*_}
 
--- ---- "Facts, count 4"; S-1: "A fifth fact says so (0 no, 1 yes); a sheet with four facts counts as 0."; S-3: "A sixth fact is the reporting date, ...; 0 or absent means months as
--- before.": four to six
+-- ---- "Facts, count 4"; S-1: "A fifth fact says so (0 no, 1 yes); a sheet with four facts counts as 0."; S-3: "A sixth fact is the reporting date, ...; 0 or absent
+-- means months as before.": four to six
 
 abbrev pub factsLeast : ℕ
 factsLeast = 4

@@ -8,29 +8,46 @@ use independent::date::{self, days_of_month, Date, YEARS};
 use independent::Refusal;
 use std::cmp::Ordering;
 
+/// How a word is no date.
+#[derive(Debug, Clone, Copy, PartialEq, Eq)]
+pub enum NoDate {
+    /// No day of a year that dates can have.
+    NoDay,
+    /// The same, 29 February.
+    NoLeapDay,
+    /// In the year before the first.
+    YearBefore,
+    /// In the year after the last.
+    YearAfter,
+    /// A word of more than 32 bits.
+    Large,
+}
+
+impl NoDate {
+    /// Whether a word is no date in this way.
+    fn is_of(self, word: u64) -> bool {
+        let year = word / 10_000;
+        let is_no_day = (YEARS.0..=YEARS.1).contains(&year) && Date::of_word(word).is_none();
+        match self {
+            NoDate::NoDay => is_no_day,
+            NoDate::NoLeapDay => is_no_day && word % 10_000 == LEAP_DAY,
+            NoDate::YearBefore => year == YEARS.0 - 1,
+            NoDate::YearAfter => year == YEARS.1 + 1,
+            NoDate::Large => word > u64::from(u32::MAX),
+        }
+    }
+}
+
+/// 29 February, as a date's word has it after the year.
+const LEAP_DAY: u64 = 229;
+
 /// What must be met on some refused sheet with six facts.
 #[derive(Debug, Clone, Copy, PartialEq, Eq)]
 pub enum DateFeature {
-    /// The reporting date is no day of a year that dates can have.
-    ReportingNoDay,
-    /// The same, 29 February.
-    ReportingNoLeapDay,
-    /// The reporting date is in the year before the first.
-    ReportingYearBefore,
-    /// The reporting date is in the year after the last.
-    ReportingYearAfter,
-    /// The reporting date is a word of more than 32 bits.
-    ReportingLarge,
-    /// A maturity is no day of a year that dates can have.
-    MaturityNoDay,
-    /// The same, 29 February.
-    MaturityNoLeapDay,
-    /// A maturity is in the year before the first.
-    MaturityYearBefore,
-    /// A maturity is in the year after the last.
-    MaturityYearAfter,
-    /// A maturity is a word of more than 32 bits.
-    MaturityLarge,
+    /// The reporting date is no date.
+    Reporting(NoDate),
+    /// A maturity is no date.
+    Maturity(NoDate),
     /// A maturity in months, where a date is due.
     MaturityMonths,
     /// A maturity on the reporting date.
@@ -46,24 +63,48 @@ pub enum DateFeature {
 }
 
 impl DateFeature {
-    /// All features with their names, in the order of the enum.
+    /// All features with their names.
     pub(crate) const TABLE: [(DateFeature, &'static str); 16] = [
-        (DateFeature::ReportingNoDay, "refusal 17 for the reporting date, no day"),
-        (DateFeature::ReportingNoLeapDay, "refusal 17 for it, 29 February"),
-        (DateFeature::ReportingYearBefore, "refusal 17 for it, year 1999"),
-        (DateFeature::ReportingYearAfter, "refusal 17 for it, year 2200"),
-        (DateFeature::ReportingLarge, "refusal 17 for it, above 32 bits"),
-        (DateFeature::MaturityNoDay, "refusal 17 for a maturity, no day"),
-        (DateFeature::MaturityNoLeapDay, "refusal 17 for one, 29 February"),
-        (DateFeature::MaturityYearBefore, "refusal 17 for one, year 1999"),
-        (DateFeature::MaturityYearAfter, "refusal 17 for one, year 2200"),
-        (DateFeature::MaturityLarge, "refusal 17 for one, above 32 bits"),
-        (DateFeature::MaturityMonths, "refusal 17 for one, months"),
-        (DateFeature::MaturityOnDate, "refusal 17 for one, the reporting date"),
-        (DateFeature::MaturityBefore, "refusal 17 for one, before that date"),
-        (DateFeature::OneMonthTooMany, "refusal 10 for 1201 months by dates"),
-        (DateFeature::MonthsTooMany, "refusal 10 for more months by dates"),
-        (DateFeature::MonthsWithoutDate, "refusal 10 after a sixth fact of 0"),
+        (DateFeature::Reporting(NoDate::NoDay), "reporting date refused: no day"),
+        (
+            DateFeature::Reporting(NoDate::NoLeapDay),
+            "reporting date refused: 29 February",
+        ),
+        (
+            DateFeature::Reporting(NoDate::YearBefore),
+            "reporting date refused: year 1999",
+        ),
+        (
+            DateFeature::Reporting(NoDate::YearAfter),
+            "reporting date refused: year 2200",
+        ),
+        (
+            DateFeature::Reporting(NoDate::Large),
+            "reporting date refused: above 32 bits",
+        ),
+        (DateFeature::Maturity(NoDate::NoDay), "maturity refused by 17: no day"),
+        (
+            DateFeature::Maturity(NoDate::NoLeapDay),
+            "maturity refused by 17: 29 February",
+        ),
+        (
+            DateFeature::Maturity(NoDate::YearBefore),
+            "maturity refused by 17: year 1999",
+        ),
+        (
+            DateFeature::Maturity(NoDate::YearAfter),
+            "maturity refused by 17: year 2200",
+        ),
+        (
+            DateFeature::Maturity(NoDate::Large),
+            "maturity refused by 17: above 32 bits",
+        ),
+        (DateFeature::MaturityMonths, "maturity refused by 17: months"),
+        (DateFeature::MaturityOnDate, "maturity refused by 17: reporting date"),
+        (DateFeature::MaturityBefore, "maturity refused by 17: before that date"),
+        (DateFeature::OneMonthTooMany, "maturity refused by 10: 1201 months on"),
+        (DateFeature::MonthsTooMany, "maturity refused by 10: more months on"),
+        (DateFeature::MonthsWithoutDate, "maturity refused by 10: sixth fact 0"),
     ];
 
     /// Whether a refused sheet shows the feature. Words before the place of a refusal are good, so they can be read.
@@ -82,53 +123,22 @@ impl DateFeature {
 
     /// Whether a bad reporting date shows the feature.
     fn shown_by_reporting_date(self, word: u64) -> bool {
-        match self {
-            DateFeature::ReportingNoDay => is_no_day(word),
-            DateFeature::ReportingNoLeapDay => is_no_day(word) && is_leap_day(word),
-            DateFeature::ReportingYearBefore => year(word) == YEARS.0 - 1,
-            DateFeature::ReportingYearAfter => year(word) == YEARS.1 + 1,
-            DateFeature::ReportingLarge => is_large(word),
-            _ => false,
-        }
+        matches!(self, DateFeature::Reporting(no_date) if no_date.is_of(word))
     }
 
     /// Whether a bad maturity after this reporting date shows the feature.
     fn shown_by_maturity(self, from: Date, word: u64) -> bool {
         let months = date::months(Some(from), word);
         match self {
-            DateFeature::MaturityNoDay => is_no_day(word),
-            DateFeature::MaturityNoLeapDay => is_no_day(word) && is_leap_day(word),
-            DateFeature::MaturityYearBefore => year(word) == YEARS.0 - 1,
-            DateFeature::MaturityYearAfter => year(word) == YEARS.1 + 1,
-            DateFeature::MaturityLarge => is_large(word),
+            DateFeature::Maturity(no_date) => no_date.is_of(word),
             DateFeature::MaturityMonths => (1..=MONTHS).contains(&word),
             DateFeature::MaturityOnDate => Date::of_word(word) == Some(from),
             DateFeature::MaturityBefore => Date::of_word(word).is_some_and(|date| date < from),
             DateFeature::OneMonthTooMany => months == Some(MONTHS + 1),
             DateFeature::MonthsTooMany => months > Some(MONTHS + 1),
-            _ => false,
+            DateFeature::Reporting(_) | DateFeature::MonthsWithoutDate => false,
         }
     }
-}
-
-/// The year of a date's word, be there such a date or not.
-fn year(word: u64) -> u64 {
-    word / 10_000
-}
-
-/// Whether a word is in a year that dates can have, but names no day of it.
-fn is_no_day(word: u64) -> bool {
-    (YEARS.0..=YEARS.1).contains(&year(word)) && Date::of_word(word).is_none()
-}
-
-/// Whether a word is on 29 February.
-fn is_leap_day(word: u64) -> bool {
-    word % 10_000 == 229
-}
-
-/// Whether a word has more than 32 bits.
-fn is_large(word: u64) -> bool {
-    word > u64::from(u32::MAX)
 }
 
 /// What must be met on some line of a sheet with a reporting date.
@@ -220,12 +230,11 @@ mod tests {
     use super::*;
     use crate::answer::LINE_WORDS;
 
-    /// Features are counted by the enums' order, so the tables must follow it.
+    /// No feature stands twice in its table, and none of those of lines is left out.
     #[test]
-    fn tables_follow_the_enums() {
-        assert!((0..)
-            .zip(DateFeature::TABLE)
-            .all(|(place, entry)| entry.0 as usize == place));
+    fn each_feature_stands_once() {
+        let once = |table: &[DateFeature]| (1..table.len()).all(|n| !table[..n].contains(&table[n]));
+        assert!(once(&DateFeature::TABLE.map(|(feature, _)| feature)));
         assert!((0..)
             .zip(DatedLineFeature::TABLE)
             .all(|(place, entry)| entry.0 as usize == place));
@@ -257,12 +266,15 @@ mod tests {
     #[test]
     fn reporting_dates_are_counted() {
         let shown = |date| refused(date, 36);
-        assert_eq!(shown(20_240_431), [DateFeature::ReportingNoDay]);
-        let no_leap_day = [DateFeature::ReportingNoDay, DateFeature::ReportingNoLeapDay];
+        assert_eq!(shown(20_240_431), [DateFeature::Reporting(NoDate::NoDay)]);
+        let no_leap_day = [
+            DateFeature::Reporting(NoDate::NoDay),
+            DateFeature::Reporting(NoDate::NoLeapDay),
+        ];
         assert_eq!(shown(21_000_229), no_leap_day);
-        assert_eq!(shown(19_991_231), [DateFeature::ReportingYearBefore]);
-        assert_eq!(shown(22_000_101), [DateFeature::ReportingYearAfter]);
-        assert_eq!(shown((1 << 32) + 20_240_101), [DateFeature::ReportingLarge]);
+        assert_eq!(shown(19_991_231), [DateFeature::Reporting(NoDate::YearBefore)]);
+        assert_eq!(shown(22_000_101), [DateFeature::Reporting(NoDate::YearAfter)]);
+        assert_eq!(shown((1 << 32) + 20_240_101), [DateFeature::Reporting(NoDate::Large)]);
         assert!([36, 19_980_101].into_iter().all(|date| shown(date).is_empty()));
     }
 
@@ -270,12 +282,15 @@ mod tests {
     #[test]
     fn maturities_are_counted() {
         let shown = |maturity| refused(20_240_131, maturity);
-        assert_eq!(shown(20_250_100), [DateFeature::MaturityNoDay]);
-        let no_leap_day = [DateFeature::MaturityNoDay, DateFeature::MaturityNoLeapDay];
+        assert_eq!(shown(20_250_100), [DateFeature::Maturity(NoDate::NoDay)]);
+        let no_leap_day = [
+            DateFeature::Maturity(NoDate::NoDay),
+            DateFeature::Maturity(NoDate::NoLeapDay),
+        ];
         assert_eq!(shown(20_250_229), no_leap_day);
-        assert_eq!(shown(19_990_229), [DateFeature::MaturityYearBefore]);
-        assert_eq!(shown(22_001_301), [DateFeature::MaturityYearAfter]);
-        assert_eq!(shown(u64::MAX), [DateFeature::MaturityLarge]);
+        assert_eq!(shown(19_990_229), [DateFeature::Maturity(NoDate::YearBefore)]);
+        assert_eq!(shown(22_001_301), [DateFeature::Maturity(NoDate::YearAfter)]);
+        assert_eq!(shown(u64::MAX), [DateFeature::Maturity(NoDate::Large)]);
         assert_eq!([1, 1_200].map(shown), [[DateFeature::MaturityMonths]; 2]);
         assert_eq!(shown(20_240_131), [DateFeature::MaturityOnDate]);
         assert_eq!(shown(20_240_130), [DateFeature::MaturityBefore]);

@@ -109,8 +109,8 @@ fn set(deal: &mut Deal, from: Date, mut maturity: impl FnMut(u64) -> u64) {
     }
 }
 
-/// Days at which a rule of dates changes: the first and the last days of the years, those of the hundred years from
-/// which 1200 months are there, and the ends of February.
+/// Days at which a rule of dates changes: the first and the last days of the years, the last days of a month beside
+/// them, those of the hundred years from which 1200 months are there, and the ends of February.
 const SPECIAL_DAYS: &[u64] = &[
     DAYS.0,
     20_000_131,

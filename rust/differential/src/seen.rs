@@ -242,7 +242,7 @@ mod tests {
         [0, 1].map(|tranche| see(Seen::new(&sheet, &deal, tranche)))
     }
 
-    /// The kind of the deal, its floors and its cap, with four and with five facts.
+    /// The kind of the deal, its floors and its cap, with four, five and six facts.
     #[test]
     fn kinds_and_floors() {
         let terms = |facts: &[u64]| see(facts, [0, 0], |seen| (seen.kind, seen.floor(), seen.capped));
@@ -257,6 +257,8 @@ mod tests {
         let resecuritisation = (DealKind::Resecuritisation, 10_000, false);
         assert_eq!(terms(&[0, 1, 1, 1]), [resecuritisation; 2]);
         assert_eq!(terms(&[0, 1, 1, 1, 0]), [resecuritisation; 2]);
+        assert_eq!(terms(&[0, 1, 1, 1, 0, 0]), [resecuritisation; 2]);
+        assert_eq!(terms(&[0, 0, 1, 1, 1, 0]), [stc(1_000, true), stc(1_500, false)]);
     }
 
     /// What the table gives a rated line, as it stands and in class 1: A+ half thick, whose weight is the senior figure,

@@ -48,12 +48,12 @@ impl SheetFeature {
         (SheetFeature::FiveFacts, "accepted with a fifth fact of 0"),
         (
             SheetFeature::ResecuritisationFiveFacts,
-            "accepted with it, re-securitisation",
+            "accepted with a date, re-securitisation",
         ),
         (SheetFeature::Stc, "accepted as an STC deal"),
         (SheetFeature::SixFacts, "accepted with a sixth fact of 0"),
         (SheetFeature::Dated, "accepted with a reporting date"),
-        (SheetFeature::StcDated, "accepted with it, STC deal"),
+        (SheetFeature::StcDated, "accepted with a date, STC deal"),
         (
             SheetFeature::ResecuritisationDated,
             "accepted with that date, re-securitisation",

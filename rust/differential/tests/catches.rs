@@ -263,7 +263,7 @@ fn compared_with_senior(tranche: &Tranche, weight: u64) -> u64 {
 }
 
 /// A fifth fact that is judged or used wrongly: a mark on a re-securitisation, a fifth fact that is no code, a mark that
-/// is not used, five facts refused.
+/// is not used, more than four facts refused.
 #[test]
 fn wrong_fifth_fact() {
     assert_eq!(weighed(other_number_of_a_mark), Some(Part::Number));

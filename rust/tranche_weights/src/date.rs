@@ -77,8 +77,8 @@ impl Date {
     ///
     /// # Errors
     ///
-    /// [`SheetError::MaturityNotAfter`] where the maturity is not after this date, [`SheetError::Months`] where it is
-    /// more than 1200 months on.
+    /// [`SheetError::MaturityNotAfter`] where the maturity is not after this date, [`SheetError::MaturityTooLate`] where
+    /// it is more than 1200 months on.
     ///
     /// ```
     /// use tranche_weights::{Date, Months, SheetError};
@@ -96,7 +96,13 @@ impl Date {
             });
         }
         let apart = 12 * maturity.year() + maturity.month() - (12 * self.year() + self.month());
-        Months::new(apart + (maturity.day() > self.day()) as u64)
+        match Months::new(apart + (maturity.day() > self.day()) as u64) {
+            Err(_) => Err(SheetError::MaturityTooLate {
+                maturity,
+                reporting_date: self,
+            }),
+            months => months,
+        }
     }
 }
 

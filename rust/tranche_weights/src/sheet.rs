@@ -156,8 +156,8 @@ impl<Kind> SheetBuilder<Kind> {
     ///
     /// [`SheetError::TooManyTranches`] where the deal is full. [`SheetError::MonthsWithReportingDate`] or
     /// [`SheetError::DateWithoutReportingDate`] where the maturity is not in the form of the deal;
-    /// [`SheetError::MaturityNotAfter`] or [`SheetError::Months`] where it is a date that is not after the reporting date,
-    /// or more than 1200 months on.
+    /// [`SheetError::MaturityNotAfter`] or [`SheetError::MaturityTooLate`] where it is a date that is not after the
+    /// reporting date, or more than 1200 months on.
     pub fn next_class(&mut self, tranche: Tranche) -> Result<&mut Self, SheetError> {
         self.place(tranche, self.class + 1)
     }

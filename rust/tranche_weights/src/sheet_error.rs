@@ -26,7 +26,7 @@ pub enum SheetError {
         /// The tranche's amount.
         amount: u64,
     },
-    /// A maturity outside 1 to 1200 months: the months given, or those from the reporting date on (refusal 10).
+    /// A maturity outside 1 to 1200 months: the months given (refusal 10).
     Months(u64),
     /// A date that does not exist, or outside the years 2000 to 2199 (refusal 17).
     Date {
@@ -39,6 +39,13 @@ pub enum SheetError {
     },
     /// A maturity that is not after the reporting date (refusal 17).
     MaturityNotAfter {
+        /// The maturity, as given.
+        maturity: Date,
+        /// The deal's reporting date.
+        reporting_date: Date,
+    },
+    /// A maturity more than 1200 months after the reporting date (refusal 10).
+    MaturityTooLate {
         /// The maturity, as given.
         maturity: Date,
         /// The deal's reporting date.
@@ -79,6 +86,14 @@ impl fmt::Display for SheetError {
                 f,
                 "a maturity is after the reporting date {reporting_date}, not {maturity}"
             ),
+            SheetError::MaturityTooLate {
+                maturity,
+                reporting_date,
+            } => write!(
+                f,
+                "a maturity is at most {} months after the reporting date {reporting_date}, not {maturity}",
+                limits::MONTHS.1
+            ),
             SheetError::MonthsWithReportingDate(given) => {
                 write!(
                     f,
@@ -108,7 +123,7 @@ impl Error for SheetError {}
 /// Writes that a date does not exist, or is outside its years.
 fn not_a_day(f: &mut fmt::Formatter<'_>, given: &str) -> fmt::Result {
     let (first, last) = limits::YEARS;
-    write!(f, "a date is a day of the years {first} to {last}, not {given}")
+    write!(f, "{given} is no day of the years {first} to {last}")
 }
 
 /// Writes that a number is outside its limits.

@@ -8,7 +8,7 @@ use Rattle.dates.proofs.maturity_months.Tie as tie
 returns : tie.Need-returns
 returns c =
     let x = c .before .args in
-    simp (eq-eqb (x .reported) 0 (omega arith))
+    simp (eq-eqb (x .reporting-date) 0 (omega arith))
 
 months-between-requires : tie.Need-months-between-requires
 months-between-requires c κs = search needs
@@ -16,7 +16,7 @@ months-between-requires c κs = search needs
 returns-2 : tie.Need-returns-2
 returns-2 c =
     let x = c .before .before .args in
-    simp (ne-eqb (x .reported) 0 (λ e. omega arith), c .months-between .ensures)
+    simp (ne-eqb (x .reporting-date) 0 (λ e. omega arith), c .months-between .ensures)
 
 pub maturity-months-spec : {M : Type 1} → statement M
 maturity-months-spec = tie.close (tie.spec returns months-between-requires returns-2)

@@ -17,31 +17,40 @@ month-count-requires-2 c κs = search needs
 excess-requires : tie.Need-excess-requires
 excess-requires c κs = search needs
 
--- no month's count is near the end of 64 bits, since a word's year is a ten-thousandth of it
+day-of-requires : tie.Need-day-of-requires
+day-of-requires c κs = search needs
+
+day-of-requires-2 : tie.Need-day-of-requires-2
+day-of-requires-2 c κs = search needs
+
 add-result : tie.Need-add-result
 add-result c = search needs
 
 returns : tie.Need-returns
 unfolding monthsBetween
 returns c =
-    let x = c .before .before .before .before .args in
+    let days = c .before .before in
+    let counts = days .before .before in
+    let x = counts .before .before .args in
     simp (
-      lt-ltb (dayOf (x .reported)) (dayOf (x .maturity)) (omega arith),
-      c .before .excess .ensures,
-      c .before .before .month-count2 .ensures,
-      c .before .before .before .month-count .ensures,
+      lt-ltb (dayOf (x .reporting-date)) (dayOf (x .maturity)) (omega arith),
+      days .before .excess .ensures,
+      counts .month-count2 .ensures,
+      counts .before .month-count .ensures,
     )
 
 returns-2 : tie.Need-returns-2
 unfolding monthsBetween
 returns-2 c =
-    let x = c .before .before .before .before .args in
+    let days = c .before .before in
+    let counts = days .before .before in
+    let x = counts .before .before .args in
     simp (
-      le-ltb (dayOf (x .reported)) (dayOf (x .maturity)) (omega arith),
+      le-ltb (dayOf (x .reporting-date)) (dayOf (x .maturity)) (omega arith),
       add-zero,
-      c .before .excess .ensures,
-      c .before .before .month-count2 .ensures,
-      c .before .before .before .month-count .ensures,
+      days .before .excess .ensures,
+      counts .month-count2 .ensures,
+      counts .before .month-count .ensures,
     )
 
 pub months-between-spec : {M : Type 1} → statement M
@@ -51,6 +60,8 @@ months-between-spec =
     month-count-requires
     month-count-requires-2
     excess-requires
+    day-of-requires
+    day-of-requires-2
     add-result
     returns
     returns-2)

@@ -1,14 +1,14 @@
--- `maturity_fault`: each return by what is told of the day. No axioms.
+-- `maturity_fault`: each return by the test of the day. No axioms.
 use borrow.Author.Needs.{needs}
 use borrow.Author.Tests.{not-true, not-false}
 use Rattle.faults.proofs.maturity_fault.Statement.{statement}
 use Rattle.faults.proofs.maturity_fault.Tie as tie
 
-maturity-dated-requires : tie.Need-maturity-dated-requires
-maturity-dated-requires c κs = search needs
+maturity-allowed-requires : tie.Need-maturity-allowed-requires
+maturity-allowed-requires c κs = search needs
 
 returns : tie.Need-returns
-returns c = simp (← c .before .maturity-dated .ensures, not-true (c .before .maturity-dated .result) (c .if1 .taken))
+returns c = simp (← c .before .maturity-allowed .ensures, not-true (c .before .maturity-allowed .result) (c .if1 .taken))
 
 maturity-months-requires : tie.Need-maturity-months-requires
 maturity-months-requires c κs = search needs
@@ -23,8 +23,8 @@ returns-2 : tie.Need-returns-2
 returns-2 c =
     let dated = c .before .before .before in
     simp (
-      ← dated .before .maturity-dated .ensures,
-      not-false (dated .before .maturity-dated .result) (dated .if1 .left),
+      ← dated .before .maturity-allowed .ensures,
+      not-false (dated .before .maturity-allowed .result) (dated .if1 .left),
       c .unless .ensures,
       c .before .within .ensures,
       c .before .before .maturity-months .ensures,
@@ -34,7 +34,7 @@ pub maturity-fault-spec : {M : Type 1} → statement M
 maturity-fault-spec =
     tie.close
     (tie.spec
-    maturity-dated-requires
+    maturity-allowed-requires
     returns
     maturity-months-requires
     within-requires

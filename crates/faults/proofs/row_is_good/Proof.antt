@@ -1,7 +1,6 @@
 -- `row_is_good`: each test is that of the word's fault, in the columns' order. No axioms.
 use mathlib.Core.Bool.{Bool, true, false}
 use mathlib.Core.Path.{_≡_, refl, _∙_, sym}
-use Prim.Native.Nat.{ℕ}
 use native.Mathlib.Omega.{arith}
 use lib.Dec.{eqb}
 use borrow.Author.Tests.{not-true, not-false, lt-leb, le-leb}

@@ -13,10 +13,10 @@ use Rattle.judgement.proofs.judge_tranche.Statement.{statement}
 use Rattle.judgement.proofs.judge_tranche.Tie as tie
 
 abbrev Inv-loop : tie.InvT-loop
-Inv-loop s i reported at before whole column₀ column = (column ≤ 7) × (judged s (trancheAt s i + column) ≡ Sound)
+Inv-loop s i reportingDate at before whole column₀ column = (column ≤ 7) × (judged s (trancheAt s i + column) ≡ Sound)
 
 abbrev μ-loop : tie.MeasureT-loop
-μ-loop s i reported at before whole column₀ column = 7 - column
+μ-loop s i reportingDate at before whole column₀ column = 7 - column
 
 fact-at-requires : tie.Need-fact-at-requires Inv-loop μ-loop
 fact-at-requires c κs = search needs

@@ -139,7 +139,12 @@ fn a_maturity_lies_after_the_reporting_date() -> Result<(), SheetError> {
     }
     assert_eq!(placed(Date::new(2026, 11, 17)?), Ok(()));
     assert_eq!(placed(Date::new(2126, 11, 16)?), Ok(()));
-    assert_eq!(placed(Date::new(2126, 11, 17)?), Err(SheetError::Months(1201)));
+    let maturity = Date::new(2126, 11, 17)?;
+    let too_late = SheetError::MaturityTooLate {
+        maturity,
+        reporting_date,
+    };
+    assert_eq!(placed(maturity), Err(too_late));
     Ok(())
 }
 
@@ -239,11 +244,11 @@ fn errors_of_dates_say_what_is_admitted() -> Result<(), SheetError> {
     let lines = [
         (
             Date::new(2026, 2, 30).unwrap_err(),
-            "a date is a day of the years 2000 to 2199, not 2026-02-30",
+            "2026-02-30 is no day of the years 2000 to 2199",
         ),
         (
             Date::try_from(72).unwrap_err(),
-            "a date is a day of the years 2000 to 2199, not 0000-00-72",
+            "0000-00-72 is no day of the years 2000 to 2199",
         ),
         (
             SheetError::MaturityNotAfter {
@@ -251,6 +256,13 @@ fn errors_of_dates_say_what_is_admitted() -> Result<(), SheetError> {
                 reporting_date,
             },
             "a maturity is after the reporting date 2026-11-16, not 2026-11-15",
+        ),
+        (
+            SheetError::MaturityTooLate {
+                maturity: Date::new(2126, 11, 17)?,
+                reporting_date,
+            },
+            "a maturity is at most 1200 months after the reporting date 2026-11-16, not 2126-11-17",
         ),
         (
             SheetError::MonthsWithReportingDate(Months::new(72)?),

@@ -121,8 +121,13 @@ fn months_are_counted_by_the_day_of_the_month() -> Result<(), SheetError> {
     ] {
         assert_eq!(months_between(reporting_date, maturity), Months::new(months));
     }
-    assert_eq!(months_between(20_000_101, 21_000_102), Err(SheetError::Months(1201)));
-    assert_eq!(months_between(20_000_101, 21_991_231), Err(SheetError::Months(2400)));
+    for maturity in [21_000_102, 21_991_231] {
+        let error = SheetError::MaturityTooLate {
+            maturity: Date::try_from(maturity)?,
+            reporting_date: Date::try_from(20_000_101)?,
+        };
+        assert_eq!(months_between(20_000_101, maturity), Err(error));
+    }
     for maturity in [20_261_116, 20_261_115, 20_251_117] {
         let error = SheetError::MaturityNotAfter {
             maturity: Date::try_from(maturity)?,

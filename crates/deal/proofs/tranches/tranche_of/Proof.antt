@@ -1,4 +1,4 @@
--- `tranche_of`: each word is read from its own place, the months are counted by the sheet's reporting date, and the points are those between the class after it and its own, which the table holds. No axioms.
+-- `tranche_of`: each word is read from its own place, the months are by the sheet's reporting date, and the points are those between the class after it and its own, which the table holds. No axioms.
 use mathlib.Core.List.{List}
 use mathlib.Core.Path.{_≡_, _∙_}
 use Prim.Native.Nat.{ℕ, _+_, _≤_, _<_}

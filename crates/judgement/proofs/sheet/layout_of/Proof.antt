@@ -1,6 +1,6 @@
 -- `layout_of`: the facts are counted and the pool has at most so many rows, so every word that is read is there. No axioms.
 use mathlib.Core.List.{List}
-use mathlib.Core.Path.{_≡_, refl}
+use mathlib.Core.Path.{_≡_}
 use Prim.Native.Nat.{ℕ, _+_, _*_, _≤_, _<_}
 use native.Mathlib.Omega.{arith}
 use lib.ListN.{length, getD}
