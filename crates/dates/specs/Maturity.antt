@@ -17,7 +17,7 @@ monthsBetween reportingDate maturity = monthCount maturity - monthCount reportin
 abbrev pub maturityMonths : ℕ → ℕ → ℕ
 maturityMonths reportingDate w = cond (eqb reportingDate 0) w (monthsBetween reportingDate w)
 
--- "A date that does not exist or is outside those years, or a maturity not after the reporting date, gets 17": whether a maturity word does not get it. Where there is no reporting
--- date none does; where there is one, only a later day.
+-- "A date that does not exist or is outside those years, or a maturity not after the reporting date, gets 17": whether a maturity word is free of it, as any
+-- word is where there is no reporting date, and where there is one a later day.
 abbrev pub maturityAllowed : ℕ → ℕ → Bool
 maturityAllowed reportingDate w = eqb reportingDate 0 || (ltb reportingDate w && namesDay w)
