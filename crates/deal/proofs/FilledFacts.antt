@@ -1,11 +1,11 @@
 -- A sheet whose list of facts is filled with zeros gets the answer and the lines that it got before, a refusal at the place to which its word has moved. No axioms.
-use mathlib.Core.List.{List, _∷_}
+use mathlib.Core.List.{List, [], _∷_, _++_}
 use mathlib.Core.Path.{_≡_, refl, ap, _∙_}
-use Prim.Native.Nat.{ℕ, _*_, _<_}
+use Prim.Native.Nat.{ℕ, suc, _+_, _*_, _-_, _≤_, _<_}
 use native.Mathlib.Omega.{arith}
 use lib.Dec.{ltb}
-use lib.ListN.{length}
-use Rattle.limits.specs.SheetSize.{lineSize}
+use lib.ListN.{length, take, drop, length-append}
+use Rattle.limits.specs.SheetSize.{factsLeast, factsMost, lineSize}
 use Rattle.judgement.specs.DealSheet.{poolAt, trancheCount, trancheAt}
 use Rattle.judgement.specs.FilledFacts.{CanFill, filled, moved}
 use Rattle.judgement.specs.Refusals.{refused, orElse, firstOf, wordsVerdict}
@@ -89,26 +89,30 @@ module _ (n : ℕ) (s : List ℕ) (c : CanFill n s) where
     same-results = λ old. rw (verdict-moved (length old)) (results-kept old (verdict s (length old)));
   }
 
--- ---- a sheet with four facts, and the same sheet with a fifth fact of 0
+-- ---- a sheet, and the same sheet with one fact more, which is 0: S-1's "a sheet with four facts counts as 0", S-3's "0 or absent means months as before."
 
-pub four-filled : (a b c d : ℕ) (rest : List ℕ) → filled 5 (4 ∷ a ∷ b ∷ c ∷ d ∷ rest) ≡ 5 ∷ a ∷ b ∷ c ∷ d ∷ 0 ∷ rest
-unfolding filled poolAt
-four-filled a b c d rest = refl
+take-whole : (xs ys : List ℕ) → take (length xs) (xs ++ ys) ≡ xs
+take-whole [] ys = refl
+take-whole (x ∷ xs) ys = ap (λ (r : List ℕ). x ∷ r) (take-whole xs ys)
 
-pub fifth-fact-zero : (a b c d : ℕ) (rest : List ℕ) → SameWhenFilled 5 (4 ∷ a ∷ b ∷ c ∷ d ∷ rest)
-unfolding poolAt
-fifth-fact-zero a b c d rest =
-    filled-facts 5 (4 ∷ a ∷ b ∷ c ∷ d ∷ rest)
-    (record { least = omega arith; most = omega arith; limit = omega arith; there = omega arith })
+drop-whole : (xs ys : List ℕ) → drop (length xs) (xs ++ ys) ≡ ys
+drop-whole [] ys = refl
+drop-whole (x ∷ xs) ys = drop-whole xs ys
 
--- ---- a sheet with five facts, and the same sheet with a sixth fact of 0: "0 or absent means months as before."
+module _ (facts rest : List ℕ) where
+  -- a sheet with these facts, and what follows them
+  abbrev sheet : List ℕ
+  sheet = length facts ∷ (facts ++ rest)
 
-pub five-filled : (a b c d e : ℕ) (rest : List ℕ) → filled 6 (5 ∷ a ∷ b ∷ c ∷ d ∷ e ∷ rest) ≡ 6 ∷ a ∷ b ∷ c ∷ d ∷ e ∷ 0 ∷ rest
-unfolding filled poolAt
-five-filled a b c d e rest = refl
+  pub one-fact-filled : filled (length facts + 1) sheet ≡ (length facts + 1) ∷ (facts ++ (0 ∷ rest))
+  unfolding filled poolAt
+  one-fact-filled =
+      let more : length facts + 1 - length facts ≡ 1 = omega arith in
+      let past : 1 + length facts ≡ suc (length facts) = omega arith in
+      rw (more, past, take-whole facts rest, drop-whole facts rest)
 
-pub sixth-fact-zero : (a b c d e : ℕ) (rest : List ℕ) → SameWhenFilled 6 (5 ∷ a ∷ b ∷ c ∷ d ∷ e ∷ rest)
-unfolding poolAt
-sixth-fact-zero a b c d e rest =
-    filled-facts 6 (5 ∷ a ∷ b ∷ c ∷ d ∷ e ∷ rest)
-    (record { least = omega arith; most = omega arith; limit = omega arith; there = omega arith })
+  pub one-fact-more : factsLeast ≤ length facts → length facts < factsMost → SameWhenFilled (length facts + 1) sheet
+  unfolding poolAt
+  one-fact-more least most =
+      filled-facts (length facts + 1) sheet
+      (record { least = least; most = omega arith; limit = omega arith; there = omega (arith, length-append facts rest) })
