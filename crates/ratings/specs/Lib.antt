@@ -1,1 +1,2 @@
 pub mod RatingTable
+pub mod StoredFigures

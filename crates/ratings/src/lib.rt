@@ -4,6 +4,7 @@ ghost use mathlib.Core.List.{[]};
 ghost use Prim.Native.Nat.{_-_, max, _≤_, _<_};
 ghost use lib.ListN.{getD};
 ghost use Rattle.ratings.specs.RatingTable.{ratingTable, stcRatingTable, figuresOf, maturityFifths, linear, besideSenior, longTermExact, shortTermExact, exactWeight, weightByRating, weightByRatings};
+ghost use Rattle.ratings.specs.StoredFigures.{inPercent, rowInPercent, tableInPercent};
 
 mod table;
 
@@ -36,26 +37,49 @@ pub fn maturity_fifths(months: u64) -> u64
     larger(60, 4 * smaller(months, 72) + 12)
 }
 
-// The row of a deal's rating table at a grade, counted from 1, with both tables lent: the rows of both are read and one is picked.
-fn table_row(ordinary: &[[u16; 4]; 18], marked: &[[u16; 4]; 18], stc: bool, grade: u64) -> [u16; 4]
-    requires { ⌜ (now ordinary ≡ ratingTable) × (now marked ≡ stcRatingTable) × (1 ≤ grade) × (grade ≤ 18) ⌝ }
+// A figure in percent, from the byte in which it is kept, in fives of a percent.
+fn percent(fives: u8) -> u16
+    ensures { λ r. ⌜ r ≡ inPercent fives ⌝ }
+{
+    5 * (fives as u16)
+}
+
+// The four figures of a row in percent, from its bytes.
+fn row_in_percent(row: [u8; 4]) -> [u16; 4]
+    ensures { λ r. ⌜ r ≡ rowInPercent row ⌝ }
+{
+    [
+        percent(row[0]),
+        percent(row[1]),
+        percent(row[2]),
+        percent(row[3]),
+    ]
+}
+
+// The row of a deal's rating table at a grade, counted from 1, in percent, with both tables lent: the rows of both are read and one is picked.
+fn table_row(ordinary: &[[u8; 4]; 18], marked: &[[u8; 4]; 18], stc: bool, grade: u64) -> [u16; 4]
+    requires { ⌜ (tableInPercent (now ordinary) ≡ ratingTable) × (tableInPercent (now marked) ≡ stcRatingTable) × (1 ≤ grade) × (grade ≤ 18) ⌝ }
     ensures { λ r. ⌜ r ≡ getD (figuresOf stc .longTermFigures) (grade - 1) [] ⌝ }
 {
     let at = (grade - 1) as usize;
     let unmarked_row = ordinary[at];
     let marked_row = marked[at];
-    if stc { marked_row } else { unmarked_row }
+    if stc {
+        row_in_percent(marked_row)
+    } else {
+        row_in_percent(unmarked_row)
+    }
 }
 
-// The figure of a deal's short-term grade.
+// The figure of a deal's short-term grade, in percent.
 fn short_term_figure(stc: bool, code: u64) -> u16
     requires { ⌜ (21 ≤ code) × (code ≤ 24) ⌝ }
     ensures { λ r. ⌜ r ≡ getD (figuresOf stc .shortTermFigures) (code - 21) 0 ⌝ }
 {
     if stc {
-        return STC_SHORT_TERM[(code - 21) as usize];
+        return percent(STC_SHORT_TERM[(code - 21) as usize]);
     }
-    SHORT_TERM[(code - 21) as usize]
+    percent(SHORT_TERM[(code - 21) as usize])
 }
 
 // A figure of the tables as a number of 64 bits.
@@ -85,15 +109,15 @@ fn beside_senior(stc: bool, own: u64, senior: u64) -> u64
 
 // The exact weight by a long-term grade, times EXACT_PARTS: a non-senior tranche's falls with its thickness.
 fn long_term_exact(
-    ordinary: &[[u16; 4]; 18],
-    marked: &[[u16; 4]; 18],
+    ordinary: &[[u8; 4]; 18],
+    marked: &[[u8; 4]; 18],
     stc: bool,
     grade: u64,
     senior: bool,
     fifths: u64,
     thickness: u64,
 ) -> u64
-    requires { ⌜ (now ordinary ≡ ratingTable) × (now marked ≡ stcRatingTable) × (1 ≤ grade) × (grade ≤ 18) × (60 ≤ fifths) × (fifths ≤ 300) ⌝ }
+    requires { ⌜ (tableInPercent (now ordinary) ≡ ratingTable) × (tableInPercent (now marked) ≡ stcRatingTable) × (1 ≤ grade) × (grade ≤ 18) × (60 ≤ fifths) × (fifths ≤ 300) ⌝ }
     ensures { λ r. ⌜ r ≡ longTermExact (figuresOf stc) grade senior fifths thickness ⌝ }
 {
     let row = table_row(ordinary, marked, stc, grade);
@@ -115,15 +139,15 @@ fn short_term_exact(stc: bool, code: u64) -> u64
 
 // The exact weight by a code, times EXACT_PARTS; 0 where the code is no rating.
 fn exact_weight(
-    ordinary: &[[u16; 4]; 18],
-    marked: &[[u16; 4]; 18],
+    ordinary: &[[u8; 4]; 18],
+    marked: &[[u8; 4]; 18],
     stc: bool,
     code: u64,
     senior: bool,
     months: u64,
     thickness: u64,
 ) -> u64
-    requires { ⌜ (now ordinary ≡ ratingTable) × (now marked ≡ stcRatingTable) ⌝ }
+    requires { ⌜ (tableInPercent (now ordinary) ≡ ratingTable) × (tableInPercent (now marked) ≡ stcRatingTable) ⌝ }
     ensures { λ r. ⌜ r ≡ exactWeight (figuresOf stc) code senior months thickness ⌝ }
 {
     if long_term(code) {
@@ -147,8 +171,8 @@ fn exact_weight(
 // rating having weight 0, so that it is never the highest. The exact weights are compared and the one that counts is rounded up, which gives the same as rounding each
 // before (`pick-then-rounded`).
 fn weight_by_tables(
-    ordinary: &[[u16; 4]; 18],
-    marked: &[[u16; 4]; 18],
+    ordinary: &[[u8; 4]; 18],
+    marked: &[[u8; 4]; 18],
     stc: bool,
     first: u64,
     second: u64,
@@ -157,7 +181,7 @@ fn weight_by_tables(
     months: u64,
     thickness: u64,
 ) -> u64
-    requires { ⌜ (now ordinary ≡ ratingTable) × (now marked ≡ stcRatingTable) ⌝ }
+    requires { ⌜ (tableInPercent (now ordinary) ≡ ratingTable) × (tableInPercent (now marked) ≡ stcRatingTable) ⌝ }
     ensures { λ r. ⌜ r ≡ weightByRatings (figuresOf stc) first second third senior months thickness ⌝ }
 {
     let a = exact_weight(ordinary, marked, stc, first, senior, months, thickness);

@@ -24,11 +24,12 @@ type Tranche = [u64; TRANCHE_WORDS];
 const MATURITY: usize = 2;
 
 /// The sheets on which the versions are compared, with their names in the table.
-pub fn compared() -> [(&'static str, Vec<u64>); 10] {
+pub fn compared() -> [(&'static str, Vec<u64>); 11] {
     [
         ("small: 3 rows, 3 tranches, one unrated", small()),
         ("small, all tranches rated", small_rated()),
         ("small, three ratings on each tranche", small_rated_thrice()),
+        ("small, all tranches with a short-term rating", small_short_term()),
         ("small, all tranches rated, maturities as dates", small_dated()),
         ("small STC deal: 3 rows, 3 tranches, one unrated", small_stc()),
         ("small STC deal, all tranches rated", small_stc_rated()),
@@ -59,6 +60,15 @@ fn small_rated_thrice() -> Vec<u64> {
     let ratings = [[1, 3, 2], [9, 10, 8], [15, 13, 14]];
     for (tranche, ratings) in tranches.iter_mut().zip(ratings) {
         tranche[TRANCHE_WORDS - 3..].copy_from_slice(&ratings);
+    }
+    sheet(ORDINARY, &few_rows(100), &tranches)
+}
+
+/// The small deal with a short-term grade on each tranche, from the first down.
+fn small_short_term() -> Vec<u64> {
+    let mut tranches = three_tranches(1_000_000_000, 0);
+    for (tranche, grade) in tranches.iter_mut().zip(21..) {
+        tranche[TRANCHE_WORDS - 3] = grade;
     }
     sheet(ORDINARY, &few_rows(100), &tranches)
 }
@@ -225,6 +235,12 @@ mod tests {
     #[test]
     fn dates_are_as_many_months_on() {
         assert_eq!(weights(&small_dated()), weights(&small_rated()));
+    }
+
+    /// With short-term grades each weight is the grade's figure, which neither floor nor cap hides.
+    #[test]
+    fn short_term_figures_count() {
+        assert_eq!(weights(&small_short_term()), [1_500, 5_000, 10_000]);
     }
 
     /// With three ratings each weight is that of the middle one, and neither floor nor cap hides it: AA+ 30%, BBB and B+ as

@@ -51,6 +51,8 @@ pub struct Rated {
     pub senior_weight: u64,
     /// The weight before floor and cap that the tranche would have with a month more.
     pub longer_weight: u64,
+    /// The tranche's maturity in months.
+    pub months: u64,
     /// The tranche's rating words.
     pub codes: [u64; RATINGS],
     /// The weight by each of the words alone, before floor and cap; none where the word is no rating.
@@ -77,6 +79,7 @@ impl Rated {
             weight: weight(class, months, codes),
             senior_weight: weight(1, months, codes),
             longer_weight: weight(class, months + 1, codes),
+            months,
             codes,
             weights: codes.map(|code| (code != 0).then(|| weight(class, months, [code, 0, 0]))),
         }
@@ -211,12 +214,11 @@ impl<'a> Seen<'a> {
         self.capped && !self.is(Approach::Fallback) && self.weight() < self.floor()
     }
 
-    /// The code of the only rating, where the cap did not lower its weight.
-    pub fn grade(&self) -> Option<u64> {
+    /// The code of the only rating and the tranche's months, where the cap did not lower its weight.
+    pub fn grade(&self) -> Option<(u64, u64)> {
         let rated = self.rated.as_ref()?;
-        rated
-            .only_code()
-            .filter(|_| self.weight() == rated.weight.max(self.floor()))
+        let code = rated.only_code()?;
+        (self.weight() == rated.weight.max(self.floor())).then_some((code, rated.months))
     }
 }
 
@@ -319,9 +321,9 @@ mod tests {
     #[test]
     fn grades_that_decide() {
         let grades = |facts: &[u64], ratings| see(facts, ratings, |seen| seen.grade());
-        assert_eq!(grades(&[0, 0, 1, 0, 1], [21, 21]), [Some(21), Some(21)]);
-        assert_eq!(grades(&[0, 0, 1, 1], [18, 18]), [None, Some(18)]);
-        assert_eq!(grades(&[0, 0, 1, 1], [0, 7]), [None, Some(7)]);
+        assert_eq!(grades(&[0, 0, 1, 0, 1], [21, 21]), [Some((21, 12)); 2]);
+        assert_eq!(grades(&[0, 0, 1, 1], [18, 18]), [None, Some((18, 12))]);
+        assert_eq!(grades(&[0, 0, 1, 1], [0, 7]), [None, Some((7, 12))]);
         let several = Rated::new(DealKind::Stc, &[1, 2, 12, 0, 5, 5, 0], 12, 0);
         assert_eq!((several.weight, several.only_code()), (3_500, None));
         assert_eq!(several.weights, [Some(3_500), Some(3_500), None]);

@@ -18,12 +18,22 @@ const LONG_TERM_GRADES: u64 = LONG_TERM.1 - LONG_TERM.0 + 1;
 /// How many grades there are.
 const GRADES: usize = (LONG_TERM_GRADES + SHORT_TERM.1 - SHORT_TERM.0 + 1) as usize;
 
-/// The columns by which grades are counted: the rating tables, each for class 1 and for the classes below.
-const COLUMNS: [&str; 4] = [
-    "ordinary, class 1",
-    "ordinary, below class 1",
-    "STC, class 1",
-    "STC, below class 1",
+/// The columns by which grades are counted: the rating tables, each for class 1 and for the classes below, at one year,
+/// at five years and between. At one year and at five years a long-term grade is weighed by one figure of its row alone
+/// (below class 1 beside the senior figure), so that no figure of either table is left out.
+const COLUMNS: [&str; 12] = [
+    "ordinary, senior, 1 year",
+    "ordinary, senior, between",
+    "ordinary, senior, 5 years",
+    "ordinary, non-senior, 1 year",
+    "ordinary, non-senior, between",
+    "ordinary, non-senior, 5 years",
+    "STC, senior, 1 year",
+    "STC, senior, between",
+    "STC, senior, 5 years",
+    "STC, non-senior, 1 year",
+    "STC, non-senior, between",
+    "STC, non-senior, 5 years",
 ];
 
 /// The place of a grade among all grades, the long-term ones first.
@@ -35,9 +45,14 @@ fn grade_place(code: u64) -> usize {
     place as usize
 }
 
-/// The column of a line under SEC-ERBA.
-fn column(seen: &Seen) -> usize {
-    2 * usize::from(seen.kind == DealKind::Stc) + usize::from(!seen.senior)
+/// The column of a line under SEC-ERBA, by the mark of its deal, its seniority and its months.
+fn column(stc: bool, senior: bool, months: u64) -> usize {
+    let maturity = match months {
+        ..=12 => 0,
+        13..=71 => 1,
+        72.. => 2,
+    };
+    6 * usize::from(stc) + 3 * usize::from(!senior) + maturity
 }
 
 /// Adds counts to others, place by place.
@@ -175,8 +190,9 @@ impl Tally {
         for (count, (feature, _)) in self.dated_line_features.iter_mut().zip(DatedLineFeature::TABLE) {
             *count += u64::from(feature.shown(seen));
         }
-        if let Some(code) = seen.grade() {
-            self.grades[column(seen)][grade_place(code)] += 1;
+        if let Some((code, months)) = seen.grade() {
+            let column = column(seen.kind == DealKind::Stc, seen.senior, months);
+            self.grades[column][grade_place(code)] += 1;
         }
     }
 
@@ -274,7 +290,7 @@ impl fmt::Display for Tally {
     /// Prints each count with its name, a line each.
     fn fmt(&self, to: &mut fmt::Formatter<'_>) -> fmt::Result {
         for (name, count, _) in self.named() {
-            writeln!(to, "{name:<45} {count:>12}")?;
+            writeln!(to, "{name:<50} {count:>12}")?;
         }
         Ok(())
     }
@@ -291,6 +307,16 @@ mod tests {
         let codes = (LONG_TERM.0..=LONG_TERM.1).chain(SHORT_TERM.0..=SHORT_TERM.1);
         let places: Vec<usize> = codes.map(grade_place).collect();
         assert_eq!(places, (0..GRADES).collect::<Vec<_>>());
+    }
+
+    /// Each table, seniority and maturity has a column of its own, in the order of the names: one year reaches to 12
+    /// months, five years begin at 72.
+    #[test]
+    fn lines_have_their_columns() {
+        let lines = [(false, true), (false, false), (true, true), (true, false)];
+        let at = |(stc, senior)| [1, 12, 13, 71, 72, 1_200].map(|months| column(stc, senior, months));
+        let expected: Vec<usize> = (0..COLUMNS.len()).flat_map(|column| [column; 2]).collect();
+        assert_eq!(lines.map(at).as_flattened(), expected);
     }
 
     /// A file counts by its answer and by its length; a refused length counts as 15 and by its length alone.
@@ -368,6 +394,6 @@ mod tests {
         assert_eq!(missing.len(), all - 5);
         let noted = ["refusal 13", "sheets: cap decided", "STC sheets: cap decided"];
         assert!(noted.iter().all(|name| !missing.contains(&name.to_string())));
-        assert!(!missing.contains(&"lines: rarest grade, ordinary, class 1".to_string()));
+        assert!(!missing.contains(&"lines: rarest grade, ordinary, senior, 1 year".to_string()));
     }
 }

@@ -1,4 +1,4 @@
--- `weight_by_ratings`: the source's tables and those of the definitions are the same lists, figure by figure. No axioms.
+-- `weight_by_ratings`: five times each byte of the source's tables is the figure of the definitions, by one computation for each table. No axioms.
 use mathlib.Core.Path.{refl}
 use Rattle.ratings.proofs.weight_by_ratings.Statement.{statement}
 use Rattle.ratings.proofs.weight_by_ratings.Tie as tie
