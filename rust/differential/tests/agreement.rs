@@ -8,7 +8,7 @@ use differential::{Library, Run};
 fn proved_library_agrees() {
     let run = Run {
         seed: 20_000,
-        sheets: 20_000,
+        sheets: 100_000,
         threads: 2,
     };
     let tally = run.go(&Library::PROVED).unwrap_or_else(|found| panic!("{found:?}"));

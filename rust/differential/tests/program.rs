@@ -18,10 +18,10 @@ fn lines(output: &Output) -> Vec<String> {
 /// A run without differences that met all that must occur: status 0, and the last line says so.
 #[test]
 fn run_without_differences() {
-    let output = run(&["--sheets", "20000", "--seed", "5", "--threads", "2"]);
+    let output = run(&["--sheets", "100000", "--seed", "5", "--threads", "2"]);
     assert_eq!(
         lines(&output).last().map(String::as_str),
-        Some("differential: 20000 sheets, 0 differences")
+        Some("differential: 100000 sheets, 0 differences")
     );
     assert_eq!(output.status.code(), Some(0));
 }
