@@ -11,6 +11,7 @@ inPercent fives = 5 * fives
 abbrev pub rowInPercent : List ℕ → List ℕ
 rowInPercent row = map inPercent row
 
--- "What a lookup returns does not change.": a table in percent, from the table as it is kept. The tables that are lent to a lookup are in percent those of RatingTable.antt
+-- a table in percent, from the table as it is kept. "What a lookup returns does not change.": the tables lent to a lookup are in percent those of RatingTable.antt, by which
+-- its promise is stated as before
 abbrev pub tableInPercent : List (List ℕ) → List (List ℕ)
 tableInPercent table = map rowInPercent table

@@ -221,8 +221,15 @@ mod tests {
             assert!(needs_formula(&small.lines[2], small.charge));
         }
         let rated = |line: &Line| line.approach == Approach::SecErba.word();
-        for all_rated in [small_rated(), small_rated_thrice(), small_dated(), small_stc_rated()] {
-            assert!(deal(&all_rated).lines.iter().all(rated));
+        let all_rated = [
+            small_rated(),
+            small_rated_thrice(),
+            small_short_term(),
+            small_dated(),
+            small_stc_rated(),
+        ];
+        for sheet in all_rated {
+            assert!(deal(&sheet).lines.iter().all(rated));
         }
     }
 
@@ -237,7 +244,7 @@ mod tests {
         assert_eq!(weights(&small_dated()), weights(&small_rated()));
     }
 
-    /// With short-term grades each weight is the grade's figure, which neither floor nor cap hides.
+    /// With short-term grades each weight is the grade's figure; the first is the floor too, and the cap lowers none.
     #[test]
     fn short_term_figures_count() {
         assert_eq!(weights(&small_short_term()), [1_500, 5_000, 10_000]);

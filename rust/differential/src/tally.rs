@@ -19,8 +19,9 @@ const LONG_TERM_GRADES: u64 = LONG_TERM.1 - LONG_TERM.0 + 1;
 const GRADES: usize = (LONG_TERM_GRADES + SHORT_TERM.1 - SHORT_TERM.0 + 1) as usize;
 
 /// The columns by which grades are counted: the rating tables, each for class 1 and for the classes below, at one year,
-/// at five years and between. At one year and at five years a long-term grade is weighed by one figure of its row alone
-/// (below class 1 beside the senior figure), so that no figure of either table is left out.
+/// between and at five years. At one year and at five years one figure of a long-term row is read for class 1, and below
+/// it one beside the senior figure, so that each figure of both tables is read; the floor or the senior figure may still
+/// be what counts.
 const COLUMNS: [&str; 12] = [
     "ordinary, senior, 1 year",
     "ordinary, senior, between",

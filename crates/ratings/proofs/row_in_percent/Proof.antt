@@ -1,4 +1,4 @@
--- `row_in_percent`: five times each of the four figures. No axioms.
+-- `row_in_percent`: five times each of the four bytes. No axioms.
 use mathlib.Core.List.{List, [], _∷_}
 use mathlib.Core.Path.{_≡_, refl}
 use Prim.Native.Nat.{ℕ}
@@ -11,7 +11,7 @@ use Rattle.ratings.specs.StoredFigures.{inPercent, rowInPercent}
 use Rattle.ratings.proofs.row_in_percent.Statement.{statement}
 use Rattle.ratings.proofs.row_in_percent.Tie as tie
 
--- four figures, each by itself
+-- the figures of a row of four, each by itself
 four-figures :
     (row : List ℕ) → length row ≡ 4 →
     rowInPercent row ≡ inPercent (getD row 0 0) ∷ inPercent (getD row 1 0) ∷ inPercent (getD row 2 0) ∷ inPercent (getD row 3 0) ∷ []
