@@ -3,8 +3,8 @@ ghost use mathlib.Core.Path.{_≡_};
 ghost use mathlib.Core.List.{[]};
 ghost use Prim.Native.Nat.{_-_, max, _≤_, _<_};
 ghost use lib.ListN.{getD};
-ghost use Rattle.ratings.specs.RatingTable.{ratingTable, stcRatingTable, figuresOf, maturityFifths, linear, besideSenior, longTermExact, shortTermExact, exactWeight, weightByRating, weightByRatings};
-ghost use Rattle.ratings.specs.StoredFigures.{inPercent, rowInPercent, tableInPercent};
+ghost use Rattle.ratings.specs.RatingTable.{figuresOf, maturityFifths, linear, besideSenior, longTermExact, shortTermExact, exactWeight, weightByRating, weightByRatings};
+ghost use Rattle.ratings.specs.StoredFigures.{inPercent, rowInPercent, KeptTables};
 
 mod table;
 
@@ -58,7 +58,7 @@ fn row_in_percent(row: [u8; 4]) -> [u16; 4]
 
 // The row of a deal's rating table at a grade, counted from 1, in percent, with both tables lent: the rows of both are read and one is picked.
 fn table_row(ordinary: &[[u8; 4]; 18], marked: &[[u8; 4]; 18], stc: bool, grade: u64) -> [u16; 4]
-    requires { ⌜ (tableInPercent (now ordinary) ≡ ratingTable) × (tableInPercent (now marked) ≡ stcRatingTable) × (1 ≤ grade) × (grade ≤ 18) ⌝ }
+    requires { ⌜ KeptTables (now ordinary) (now marked) × (1 ≤ grade) × (grade ≤ 18) ⌝ }
     ensures { λ r. ⌜ r ≡ getD (figuresOf stc .longTermFigures) (grade - 1) [] ⌝ }
 {
     let at = (grade - 1) as usize;
@@ -117,7 +117,7 @@ fn long_term_exact(
     fifths: u64,
     thickness: u64,
 ) -> u64
-    requires { ⌜ (tableInPercent (now ordinary) ≡ ratingTable) × (tableInPercent (now marked) ≡ stcRatingTable) × (1 ≤ grade) × (grade ≤ 18) × (60 ≤ fifths) × (fifths ≤ 300) ⌝ }
+    requires { ⌜ KeptTables (now ordinary) (now marked) × (1 ≤ grade) × (grade ≤ 18) × (60 ≤ fifths) × (fifths ≤ 300) ⌝ }
     ensures { λ r. ⌜ r ≡ longTermExact (figuresOf stc) grade senior fifths thickness ⌝ }
 {
     let row = table_row(ordinary, marked, stc, grade);
@@ -147,7 +147,7 @@ fn exact_weight(
     months: u64,
     thickness: u64,
 ) -> u64
-    requires { ⌜ (tableInPercent (now ordinary) ≡ ratingTable) × (tableInPercent (now marked) ≡ stcRatingTable) ⌝ }
+    requires { ⌜ KeptTables (now ordinary) (now marked) ⌝ }
     ensures { λ r. ⌜ r ≡ exactWeight (figuresOf stc) code senior months thickness ⌝ }
 {
     if long_term(code) {
@@ -181,7 +181,7 @@ fn weight_by_tables(
     months: u64,
     thickness: u64,
 ) -> u64
-    requires { ⌜ (tableInPercent (now ordinary) ≡ ratingTable) × (tableInPercent (now marked) ≡ stcRatingTable) ⌝ }
+    requires { ⌜ KeptTables (now ordinary) (now marked) ⌝ }
     ensures { λ r. ⌜ r ≡ weightByRatings (figuresOf stc) first second third senior months thickness ⌝ }
 {
     let a = exact_weight(ordinary, marked, stc, first, senior, months, thickness);

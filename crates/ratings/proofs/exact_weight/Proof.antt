@@ -28,7 +28,7 @@ long-term-exact-requires : tie.Need-long-term-exact-requires
 long-term-exact-requires c κs =
     let start = c .before .before .before in
     let within = long-term-within (start .args .code) (is-long-term (c .before)) in
-    (start .pre .0, start .pre .1, within .0, within .1, omega arith, omega arith)
+    (start .pre, within .0, within .1, omega arith, omega arith)
 
 returns : tie.Need-returns
 unfolding exactWeight

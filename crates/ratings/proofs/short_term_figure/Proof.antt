@@ -1,13 +1,13 @@
 -- `short_term_figure`: five times each of the source's bytes is the figure of the definitions, by one computation for each list. No axioms.
 use mathlib.Core.Bool.{Bool, true, false}
-use mathlib.Core.List.{List, map}
+use mathlib.Core.List.{List}
 use mathlib.Core.Path.{_≡_, refl, _∙_, sym}
 use Prim.Native.Nat.{ℕ, _-_}
 use lib.ListN.{getD, List·getD-map}
 use borrow.Author.Needs.{needs}
 use borrow.Table.Row.{get}
 use Rattle.ratings.specs.RatingTable.{figuresOf}
-use Rattle.ratings.specs.StoredFigures.{inPercent}
+use Rattle.ratings.specs.StoredFigures.{inPercent, rowInPercent}
 use Rattle.ratings.proofs.short_term_figure.Statement.{statement}
 use Rattle.ratings.proofs.short_term_figure.Tie as tie
 use Rattle.ratings.proofs.short_term_figure.Reads as reads
@@ -16,7 +16,7 @@ use Rattle.ratings.proofs.percent.Reads as percent-reads
 
 -- the figure at a place of the list that the mark picks, where the list as it is kept is in percent that list
 kept-figure :
-    (stc mark : Bool) (kept : List ℕ) (i r : ℕ) → stc ≡ mark → map inPercent kept ≡ figuresOf mark .shortTermFigures →
+    (stc mark : Bool) (kept : List ℕ) (i r : ℕ) → stc ≡ mark → rowInPercent kept ≡ figuresOf mark .shortTermFigures →
     r ≡ inPercent (getD kept i 0) → r ≡ getD (figuresOf stc .shortTermFigures) i 0
 kept-figure stc mark kept i r same list read =
     read ∙ sym (List·getD-map inPercent kept i 0) ∙ rw (list, same)

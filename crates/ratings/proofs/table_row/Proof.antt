@@ -28,11 +28,11 @@ row-in-percent-requires-2 c κs = search needs
 
 returns : tie.Need-returns
 returns c =
-    simp (c .row-in-percent .ensures, ← List·getD-map rowInPercent, c .before .before .before .before .pre .1, c .before .if1 .taken)
+    simp (c .row-in-percent .ensures, ← List·getD-map rowInPercent, c .before .before .before .before .pre .0 .marked-kept, c .before .if1 .taken)
 
 returns-2 : tie.Need-returns-2
 returns-2 c =
-    simp (c .row-in-percent2 .ensures, ← List·getD-map rowInPercent, c .before .before .before .before .pre .0, c .before .if1 .left)
+    simp (c .row-in-percent2 .ensures, ← List·getD-map rowInPercent, c .before .before .before .before .pre .0 .ordinary-kept, c .before .if1 .left)
 
 pub table-row-spec : {M : Type 1} → statement M
 table-row-spec =

@@ -4,7 +4,7 @@ use Rattle.ratings.proofs.weight_by_ratings.Statement.{statement}
 use Rattle.ratings.proofs.weight_by_ratings.Tie as tie
 
 weight-by-tables-requires : tie.Need-weight-by-tables-requires
-weight-by-tables-requires c κs = (refl, refl)
+weight-by-tables-requires c κs = record { ordinary-kept = refl; marked-kept = refl }
 
 returns : tie.Need-returns
 returns c = c .weight-by-tables .ensures
