@@ -26,9 +26,9 @@ all-known q same positive =
     (rounded-up-is (q .all .exposure * knownCharge q) (q .all .exposure) (knownCharge q) (omega arith) (omega arith) (omega arith))
 
 -- no delinquent rows, the base charge alone
-pub none-late : (q : Sums) → q .late ≡ 0 → knownCharge q ≡ baseCharge q
+pub none-late : (q : Sums) → q .late ≡ 0 → knownCharge q ≡ baseCharge (q .known)
 unfolding knownCharge
 none-late q none =
     let share : lateShare q ≡ 0 = rw none (rounded-up-zero (q .known .nominal)) in
-    rounded-up-is ((1000000 - lateShare q) * baseCharge q + 500000 * lateShare q) 1000000 (baseCharge q) (omega arith)
+    rounded-up-is ((1000000 - lateShare q) * baseCharge (q .known) + 500000 * lateShare q) 1000000 (baseCharge (q .known)) (omega arith)
     (rw share (omega arith)) (rw share (omega arith))

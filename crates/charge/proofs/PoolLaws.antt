@@ -4,12 +4,20 @@ use native.Mathlib.Nat.{le-refl, mul-le-mul-left}
 use native.Mathlib.Omega.{arith}
 use Rattle.numbers.proofs.RoundingLaws.{rounded-up-at-most}
 use Rattle.numbers.proofs.Tests.{at-cond}
-use Rattle.charge.specs.PoolCharge.{baseCharge, lateShare, knownCharge, unknownExposure, mostlyKnown, poolCharge, poolAverage}
-use Rattle.charge.specs.SumLimits.{SumLimits}
+use Rattle.charge.specs.PoolCharge.{baseCharge, lateShare, knownCharge, unknownExposure, mostlyKnown, poolCharge, mixedCharge, poolAverage}
+use Rattle.charge.specs.SumLimits.{TotalsLimits, SumLimits}
+use Rattle.irba.specs.declared.IrbFigures.{IrbFigures}
 use Rattle.charge.specs.declared.Sums.{Sums}
+use Rattle.charge.specs.declared.Totals.{Totals}
 
-pub base-at-most-million : (q : Sums) → SumLimits q → baseCharge q ≤ 1000000
-base-at-most-million q l = rounded-up-at-most _ _ 1000000 (omega arith)
+pub all-limits : (q : Sums) → SumLimits q → TotalsLimits (q .all)
+all-limits q l = record { exposure-most = l .exposure-most; weighted-most = l .weighted-most }
+
+pub known-limits : (q : Sums) → SumLimits q → TotalsLimits (q .known)
+known-limits q l = record { exposure-most = omega (arith, l .exposure-most, l .known-among-all); weighted-most = l .known-weighted-most }
+
+pub base-at-most-million : (t : Totals) → TotalsLimits t → baseCharge t ≤ 1000000
+base-at-most-million t l = rounded-up-at-most _ _ 1000000 (omega (arith, l .weighted-most))
 
 pub late-at-most-million : (q : Sums) → SumLimits q → lateShare q ≤ 1000000
 late-at-most-million q l = rounded-up-at-most _ _ 1000000 (omega arith)
@@ -17,8 +25,8 @@ late-at-most-million q l = rounded-up-at-most _ _ 1000000 (omega arith)
 pub known-charge-at-most-million : (q : Sums) → SumLimits q → knownCharge q ≤ 1000000
 unfolding knownCharge
 known-charge-at-most-million q l =
-    rounded-up-at-most ((1000000 - lateShare q) * baseCharge q + 500000 * lateShare q) 1000000 1000000
-    (total (baseCharge q) (lateShare q) (base-at-most-million q l) (late-at-most-million q l))
+    rounded-up-at-most ((1000000 - lateShare q) * baseCharge (q .known) + 500000 * lateShare q) 1000000 1000000
+    (total (baseCharge (q .known)) (lateShare q) (base-at-most-million (q .known) (known-limits q l)) (late-at-most-million q l))
   where
     total : (base late : ℕ) → base ≤ 1000000 → late ≤ 1000000 → (1000000 - late) * base + 500000 * late ≤ 1000000 * 1000000
     total base late b h = omega (arith, mul-le-mul-left (1000000 - late) b)
@@ -31,6 +39,15 @@ pool-charge-at-most-million q l =
     rounded-up-at-most (q .known .exposure * knownCharge q + unknownExposure q * 1000000) (q .all .exposure) 1000000
     (omega (arith, mul-le-mul-left (q .known .exposure) (known-charge-at-most-million q l))))
     (λ e. le-refl 1000000)
+
+pub mixed-charge-at-most-million : (f : IrbFigures) (t : Totals) → TotalsLimits t → f .share ≤ 1000000 → f .charge ≤ 1000000 → mixedCharge f t ≤ 1000000
+unfolding mixedCharge
+mixed-charge-at-most-million f t l share charge =
+    rounded-up-at-most (f .share * f .charge + (1000000 - f .share) * baseCharge t) 1000000 1000000
+    (mixed (f .share) (f .charge) (baseCharge t) share charge (base-at-most-million t l))
+  where
+    mixed : (x k b : ℕ) → x ≤ 1000000 → k ≤ 1000000 → b ≤ 1000000 → x * k + (1000000 - x) * b ≤ 1000000 * 1000000
+    mixed x k b most one base = omega (arith, mul-le-mul-left x one, mul-le-mul-left (1000000 - x) base)
 
 pub pool-average-at-most : (q : Sums) → SumLimits q → poolAverage q ≤ 125000
 pool-average-at-most q l = rounded-up-at-most _ _ 125000 (omega arith)

@@ -3,7 +3,9 @@
 use mathlib.Core.Bool.{Bool, _&&_}
 use Prim.Native.Nat.{ℕ, _*_, _≤_}
 use lib.Dec.{leb}
+use Rattle.irba.specs.declared.IrbFigures.{IrbFigures}
 use Rattle.charge.specs.declared.Sums.{Sums}
+use Rattle.charge.specs.declared.Totals.{Totals}
 
 -- the largest sum of amounts: 1,000 rows of 10^10. A bound of this crate's own, which more rows would move
 abbrev pub largestSum : ℕ
@@ -31,3 +33,19 @@ pub record SumLimits (q : Sums) : Type 0 where
   pub known-weighted-most : q .known .weighted ≤ highestWeight * q .known .exposure
   pub known-nominal-most : q .known .nominal ≤ largestSum
   pub late-among-known : q .late ≤ q .known .nominal
+
+-- totals over some rows, within the same limits: those over all rows and those over the rows with known status keep them
+pub record TotalsLimits (t : Totals) : Type 0 where
+  pub exposure-most : t .exposure ≤ largestSum
+  pub weighted-most : t .weighted ≤ highestWeight * t .exposure
+
+-- ---- the figures of an IRB section: a share and a charge of at most 1, and an average of at most 1250%
+
+unfoldable pub irbWithin : IrbFigures → Bool
+irbWithin f = leb (f .share) 1000000 && leb (f .charge) 1000000 && leb (f .average) 125000
+
+-- the same in plain relations; those of every sheet with good words keep them (`irb-limits`, TermsLaws.antt of `deal`)
+pub record IrbLimits (f : IrbFigures) : Type 0 where
+  pub share-most : f .share ≤ 1000000
+  pub charge-most : f .charge ≤ 1000000
+  pub average-most : f .average ≤ 125000

@@ -1,8 +1,9 @@
-// The charge of a pool and its average risk weight, from the pool's sums.
+// The charge of a pool and its average risk weight, from the pool's sums and, under SEC-IRBA, from the figures of its IRB section.
 ghost use mathlib.Core.Path.{_≡_};
-ghost use Rattle.charge.specs.PoolCharge.{baseCharge, lateShare, knownCharge, mostlyKnown, poolCharge, poolAverage};
-ghost use Rattle.charge.specs.SumLimits.{sumsWithin, SumLimits};
-ghost use Rattle.charge.specs.Figures.{figures};
+ghost use Rattle.charge.specs.PoolCharge.{baseCharge, lateShare, knownCharge, mostlyKnown, poolCharge, mixedCharge, poolAverage};
+ghost use Rattle.charge.specs.SumLimits.{TotalsLimits, sumsWithin, SumLimits, irbWithin, IrbLimits};
+ghost use Rattle.charge.specs.Figures.{highestFigures, figures, irbaFigures};
+use irba::IrbFigures;
 use numbers::rounded_up;
 
 // Sums over rows of a pool: exposure, nominal, and exposure × risk weight, the risk weight in percent.
@@ -70,12 +71,12 @@ fn sums_within(q: Sums) -> bool
     q.late <= q.known.nominal
 }
 
-// The base charge: 8% of the average risk weight of the rows with known status, rounded up.
-fn base_charge(q: Sums) -> u64
-    requires { ⌜ SumLimits q ⌝ }
-    ensures { λ r. ⌜ r ≡ baseCharge q ⌝ }
+// The base charge of some rows: 8% of their average risk weight, rounded up.
+fn base_charge(t: Totals) -> u64
+    requires { ⌜ TotalsLimits t ⌝ }
+    ensures { λ r. ⌜ r ≡ baseCharge t ⌝ }
 {
-    rounded_up(UNIT_CHARGE * q.known.weighted, q.known.exposure)
+    rounded_up(UNIT_CHARGE * t.weighted, t.exposure)
 }
 
 // The share of delinquent nominal in the nominal of the rows with known status, rounded up.
@@ -91,7 +92,7 @@ fn known_charge(q: Sums) -> u64
     requires { ⌜ SumLimits q ⌝ }
     ensures { λ r. ⌜ r ≡ knownCharge q ⌝ }
 {
-    let base = base_charge(q);
+    let base = base_charge(q.known);
     let late = late_share(q);
     rounded_up((MILLION - late) * base + LATE_CHARGE * late, MILLION)
 }
@@ -127,21 +128,67 @@ fn pool_average(q: Sums) -> u64
     rounded_up(UNIT_AVERAGE * q.all.weighted, q.all.exposure)
 }
 
+// The highest figures, for sums that no sheet has, so that no caller gets one that is too low.
+fn highest_figures() -> Figures
+    ensures { λ r. ⌜ r ≡ highestFigures ⌝ }
+{
+    Figures {
+        known: false,
+        charge: MILLION,
+        average: HIGHEST_AVERAGE,
+    }
+}
+
 // The figures of a pool with these sums; the highest where the sums are outside their limits, which no sheet's are, so that no caller gets one that is too
 // low.
 pub fn figures_of(q: Sums) -> Figures
     ensures { λ r. ⌜ r ≡ figures q ⌝ }
 {
     if !sums_within(q) {
-        return Figures {
-            known: false,
-            charge: MILLION,
-            average: HIGHEST_AVERAGE,
-        };
+        return highest_figures();
     }
     Figures {
         known: mostly_known(q),
         charge: pool_charge(q),
         average: pool_average(q),
+    }
+}
+
+// The charge under SEC-IRBA: the IRB charge for its share of exposure, and for the rest the base charge of all rows.
+fn mixed_charge(f: IrbFigures, all: Totals) -> u64
+    requires { ⌜ IrbLimits f × TotalsLimits all ⌝ }
+    ensures { λ r. ⌜ r ≡ mixedCharge f all ⌝ }
+{
+    let base = base_charge(all);
+    rounded_up(f.share * f.charge + (MILLION - f.share) * base, MILLION)
+}
+
+// Whether the figures of an IRB section are within the limits under which nothing overflows.
+fn irb_within(f: IrbFigures) -> bool
+    ensures { λ r. ⌜ r ≡ irbWithin f ⌝ }
+{
+    if MILLION < f.share {
+        return false;
+    }
+    if MILLION < f.charge {
+        return false;
+    }
+    f.average <= HIGHEST_AVERAGE
+}
+
+// The figures under SEC-IRBA of a pool with these sums and this IRB section; the highest where sums or section are outside their limits, which no sheet's are.
+pub fn irba_figures_of(f: IrbFigures, q: Sums) -> Figures
+    ensures { λ r. ⌜ r ≡ irbaFigures f q ⌝ }
+{
+    if !sums_within(q) {
+        return highest_figures();
+    }
+    if !irb_within(f) {
+        return highest_figures();
+    }
+    Figures {
+        known: mostly_known(q),
+        charge: mixed_charge(f, q.all),
+        average: f.average,
     }
 }

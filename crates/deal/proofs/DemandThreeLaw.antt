@@ -1,20 +1,25 @@
--- Demand 3 of the line of every accepted SEC-SA tranche with K at least 1 and D above K, and the weight in the cases that 01 gives in closed form. No
+-- Demand 3 of the line of every accepted tranche under the formula, SEC-SA or SEC-IRBA, with K at least 1 and D above K, and the weight in the cases that 01 gives in closed form. No
 -- accepted tranche is too thin for the formula, and its inputs are within the limits for which the formula is computed. No axioms.
-use mathlib.Core.Bool.{true}
+use mathlib.Core.Bool.{true, false}
 use mathlib.Core.List.{List}
 use mathlib.Core.Logic.{⊎-elim}
-use mathlib.Core.Path.{_≡_, sym, _∙_, ap, subst}
+use mathlib.Core.Path.{_≡_, refl, sym, _∙_, ap, subst}
 use Prim.Native.Nat.{ℕ, _-_, _≤_, _<_}
 use native.Mathlib.Nat.{eq-zero-or-pos}
 use native.Mathlib.Omega.{arith}
+use lib.Dec.{eqb}
 use lib.ListN.{length}
 use Rattle.series.specs.Ends.{Passes}
 use Rattle.formula.specs.Formula.{WithinLimits, RawWeightNumbers, weighing, PassingWeight, IsRawWeight}
 use Rattle.formula.specs.FixedPoint.{rawWeight}
 use Rattle.formula.proofs.RawWeightLaw.{raw-weight-is}
-use Rattle.judgement.specs.DealSheet.{stc, trancheCount, needed, layout}
+use Rattle.irba.specs.Parameter.{parameter as irbaParameter}
+use Rattle.ratings.specs.RatingTable.{maturityFifths}
+use Rattle.judgement.specs.DealSheet.{class, months, stc, trancheCount, irbFigures, needed, layout}
 use Rattle.deal.specs.Points.{attachmentPoint, detachmentPoint}
 use Rattle.weights.specs.ApproachFloorCap.{byFormula, parameter, afterFloorAndCap, weightOrHighest, formulaRawWeight, weight}
+use Rattle.weights.specs.declared.Terms.{Terms}
+use Rattle.weights.specs.declared.Tranche.{Tranche}
 use Rattle.deal.specs.Lines.{terms, tranche, line, lineWords}
 use Rattle.deal.specs.DemandThree.{AboveCharge, rawWeightOf, DemandThree, KeepsDemandThree}
 use Rattle.judgement.specs.Refusals.{judged}
@@ -23,14 +28,14 @@ use Rattle.deal.specs.Refusals.{verdict}
 use Rattle.deal.specs.Results.{resultsAfter}
 use Rattle.judgement.specs.declared.Verdict.the-variants.{Sound}
 use Rattle.deal.proofs.PointLaws.{attachment-at-most-detachment, detachment-at-most-million}
-use Rattle.deal.proofs.TermsLaws.{charge-at-most-million}
+use Rattle.deal.proofs.TermsLaws.{charge-at-most-million, irba-ordinary}
 use Rattle.deal.proofs.JudgedLaws.{accepted-means, accepted-judged}
 use Rattle.deal.proofs.LineLaws.{results-line}
 use Rattle.weights.proofs.WeightLaws.{formula-weight, thick-where, parameter-within}
 
 -- ---- no accepted tranche is too thin
 
--- where SEC-SA applies and D is above the pool charge, A is below D
+-- where the formula applies and D is above the pool charge, A is below D
 pub attachment-below-detachment :
     (s : List ℕ) (room i : ℕ) → verdict s room ≡ Sound → i < trancheCount s → byFormula (tranche s i) (terms s) ≡ true →
     terms s .charge < detachmentPoint s i → attachmentPoint s i < detachmentPoint s i
@@ -65,7 +70,7 @@ raw-weight-number : (s : List ℕ) (i w : ℕ) → formulaAnswer s i ≡ weighin
 unfolding formulaRawWeight tranche terms
 raw-weight-number s i w e = ap weightOrHighest e
 
--- where SEC-SA applies and the raw weight is a number, the weight is that number after floor and cap
+-- where the formula applies and the raw weight is a number, the weight is that number after floor and cap
 weighs-raw :
     (s : List ℕ) (i w : ℕ) → byFormula (tranche s i) (terms s) ≡ true → formulaAnswer s i ≡ weighing w →
     weight (tranche s i) (terms s) ≡ afterFloorAndCap (tranche s i) (terms s) w
@@ -73,7 +78,7 @@ weighs-raw s i w by e =
     formula-weight (tranche s i) (terms s) by ∙
     ap (λ (x : ℕ). afterFloorAndCap (tranche s i) (terms s) x) (raw-weight-number s i w e)
 
--- ---- an accepted SEC-SA tranche
+-- ---- an accepted tranche under the formula
 
 module _ (s : List ℕ) (room i : ℕ) (accepted : verdict s room ≡ Sound) where
   limits : WithinLimits (attachmentPoint s i) (detachmentPoint s i) (terms s .charge) (parameter (tranche s i) (terms s))
@@ -129,19 +134,45 @@ demand-three s old i t =
       at-most = subst (λ (x : ℕ). x ≤ 125000) (sym number) (w .at-most);
     }
 
--- S-1 of 02: "The exact value is then taken with 0.5."
-pub stc-parameter : (s : List ℕ) (i : ℕ) → judged s (needed s) ≡ Sound → stc s ≡ true → parameter (tranche s i) (terms s) ≡ 500000
+-- of which parameter it speaks
+with-parameter :
+    (s old : List ℕ) (i p : ℕ) → parameter (tranche s i) (terms s) ≡ p → AboveCharge s (length old) i →
+    Passes (attachmentPoint s i) (detachmentPoint s i) (terms s .charge) p (rawWeightOf s i)
+with-parameter s old i p is t =
+    subst (λ (x : ℕ). Passes (attachmentPoint s i) (detachmentPoint s i) (terms s .charge) x (rawWeightOf s i)) is (demand-three s old i t .passes)
+
+-- S-1 of 02: "The exact value is then taken with 0.5.", under SEC-SA
+marked-parameter : (t : Tranche) (d : Terms) → d .resecuritisation ≡ false → d .irba ≡ false → d .stc ≡ true → parameter t d ≡ 500000
+marked-parameter t d ordinary by marked = simp (ordinary, by, marked)
+
+pub stc-parameter :
+    (s : List ℕ) (i : ℕ) → judged s (needed s) ≡ Sound → terms s .irba ≡ false → stc s ≡ true → parameter (tranche s i) (terms s) ≡ 500000
 unfolding terms layout
-stc-parameter s i sound marked = simp (stc-ordinary s sound marked, marked)
+stc-parameter s i sound by marked = marked-parameter (tranche s i) (terms s) (stc-ordinary s sound marked) by marked
 
 pub stc-demand-three :
-    (s old : List ℕ) (i : ℕ) → stc s ≡ true → AboveCharge s (length old) i →
+    (s old : List ℕ) (i : ℕ) → terms s .irba ≡ false → stc s ≡ true → AboveCharge s (length old) i →
     Passes (attachmentPoint s i) (detachmentPoint s i) (terms s .charge) 500000 (rawWeightOf s i)
-stc-demand-three s old i marked t =
-    subst
-    (λ (p : ℕ). Passes (attachmentPoint s i) (detachmentPoint s i) (terms s .charge) p (rawWeightOf s i))
-    (stc-parameter s i (accepted-judged s (length old) (t .accepted)) marked)
-    (demand-three s old i t .passes)
+stc-demand-three s old i by marked t =
+    with-parameter s old i 500000 (stc-parameter s i (accepted-judged s (length old) (t .accepted)) by marked) t
+
+-- S-5 of 02: "the exact value read[s] this charge and parameter"
+abbrev pub irbaParameterOf : List ℕ → ℕ → ℕ
+irbaParameterOf s i = irbaParameter (eqb (class s i) 1) (stc s) (terms s .charge) (maturityFifths (months s i)) (irbFigures s)
+
+read-parameter :
+    (s : List ℕ) (i : ℕ) →
+    irbaParameter (tranche s i .senior) (terms s .stc) (terms s .charge) (maturityFifths (tranche s i .months)) (terms s .irb) ≡ irbaParameterOf s i
+unfolding tranche terms layout
+read-parameter s i = refl
+
+pub irba-parameter : (s : List ℕ) (i : ℕ) → terms s .irba ≡ true → parameter (tranche s i) (terms s) ≡ irbaParameterOf s i
+irba-parameter s i by = rw (irba-ordinary s by .1, by) (read-parameter s i)
+
+pub irba-demand-three :
+    (s old : List ℕ) (i : ℕ) → terms s .irba ≡ true → AboveCharge s (length old) i →
+    Passes (attachmentPoint s i) (detachmentPoint s i) (terms s .charge) (irbaParameterOf s i) (rawWeightOf s i)
+irba-demand-three s old i by t = with-parameter s old i (irbaParameterOf s i) (irba-parameter s i by) t
 
 -- Whatever results a sheet is due keep it.
 pub keeps-demand-three : (s old new : List ℕ) → new ≡ resultsAfter s old → KeepsDemandThree s (length old) new

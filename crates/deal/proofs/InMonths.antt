@@ -12,16 +12,16 @@ use lib.ListN.{length}
 use borrow.Author.Tests.{leb-true, eqb-true, eqb-false}
 use Rattle.numbers.proofs.Tests.{at-cond}
 use Rattle.faults.specs.GoodWords.{GoodFact, GoodTranche}
-use Rattle.judgement.specs.DealSheet.{word, resecuritisation, hasFact, reportingDate, poolAt, rows, rowAt, tranchesAt, trancheCount, trancheAt, amount, months, held, firstRating, secondRating, thirdRating}
-use Rattle.judgement.specs.GoodSheet.{GoodRowOf, GoodTrancheOf, GoodSheet}
+use Rattle.judgement.specs.DealSheet.{word, resecuritisation, hasFact, reportingDate, poolAt, rows, rowAt, tranchesAt, trancheCount, trancheAt, amount, months, held, firstRating, secondRating, thirdRating, hasIrb, irbAt, irbPlace}
+use Rattle.judgement.specs.GoodSheet.{GoodRowOf, GoodTrancheOf, GoodIrbOf, GoodSheet}
 use Rattle.judgement.specs.Refusals.{firstOf, wordsVerdict}
 use Rattle.judgement.specs.declared.Verdict.{Verdict}
 use Rattle.judgement.specs.declared.Verdict.the-variants.{Sound, Faulty}
 use Rattle.judgement.proofs.FirstFault.{first-of-same}
 use Rattle.judgement.proofs.GoodSheetLaw.{good-sheet, good-sheet-words}
 use Rattle.judgement.proofs.JudgedLaws.{words-accepted, accepted-words}
-use Rattle.judgement.proofs.NeededLaws.{tranches-at-past-rows}
-use Rattle.judgement.proofs.SameLayout.{SameCounts, same-counts, same-needed, SameFacts, same-facts}
+use Rattle.judgement.proofs.NeededLaws.{tranches-at-past-rows, irb-at-past-tranches}
+use Rattle.judgement.proofs.SameLayout.{SameCounts, same-counts, same-irb-at, same-needed, SameFacts, same-facts, same-irb-figures}
 use Rattle.pool.specs.PoolSums.{poolSums}
 use Rattle.pool.proofs.SameSums.{same-sums-in-order}
 use Rattle.deal.specs.Lines.{terms, tranche}
@@ -66,6 +66,16 @@ module _ (s s′ : List ℕ) (r : InMonths s s′) (words : wordsVerdict s ≡ S
   same-row-word : (i c : ℕ) → i < rows s → c < 4 → word s′ (rowAt s i + c) ≡ word s (rowAt s i + c)
   same-row-word i c row column =
       same-before (rowAt s i + c) (λ e. omega (arith, date-before-pool)) (omega (arith, tranches-at-past-rows s))
+
+  -- a maturity stands before the IRB section
+  same-irb-word : (p : ℕ) → irbAt s ≤ p → word s′ p ≡ word s p
+  same-irb-word p after =
+      r .same-word p
+      (λ e. omega (arith, date-before-pool, tranches-at-past-rows s, irb-at-past-tranches s))
+      (λ i l e. omega (arith, irb-at-past-tranches s))
+
+  same-irb-column : (c : ℕ) → word s′ (irbPlace s c) ≡ word s (irbPlace s c)
+  same-irb-column c = same-irb-word (irbPlace s c) (omega arith)
 
   same-amount : (j : ℕ) → word s′ (trancheAt s j) ≡ word s (trancheAt s j)
   same-amount j = simp add-zero at (same-column j 0 (λ e. omega arith) (omega arith))
@@ -139,6 +149,20 @@ module _ (s s′ : List ℕ) (r : InMonths s s′) (words : wordsVerdict s ≡ S
       )
       (by-months i row)
 
+  irb-in-months : hasIrb s′ ≡ true → GoodIrbOf s′
+  irb-in-months has =
+      rw (
+        facts .same-kind,
+        same-irb-at s s′ counts,
+        same-irb-column 0,
+        same-irb-column 1,
+        same-irb-column 2,
+        same-irb-column 3,
+        same-irb-column 4,
+        same-irb-column 5,
+      )
+      (good .irb-row (rw (facts .same-kind) at has))
+
   good-in-months : GoodSheet s′
   good-in-months = record {
     facts-least = rw (same-before 0 (λ e. omega arith) (omega arith)) (good .facts-least);
@@ -157,7 +181,10 @@ module _ (s s′ : List ℕ) (r : InMonths s s′) (words : wordsVerdict s ≡ S
           same-column (i - 1) 1 (λ e. omega arith) (omega arith),
         )
         (good .each-class i (omega (arith, row, counts .tranche-count)));
-    length-is = omega (arith, r .same-length, good .length-is, same-needed s s′ counts);
+    irb-count = λ has.
+        rw (same-irb-at s s′ counts, same-irb-word (irbAt s) (le-refl _)) (good .irb-count (rw (facts .same-kind) at has));
+    irb-row = irb-in-months;
+    length-is = omega (arith, r .same-length, good .length-is, same-needed s s′ counts (facts .same-kind));
   }
 
   words-in-months : wordsVerdict s′ ≡ Sound
@@ -169,7 +196,10 @@ module _ (s s′ : List ℕ) (r : InMonths s s′) (words : wordsVerdict s ≡ S
   sums = same-sums-in-order s s′ (counts .row-count) (λ i c row column. rw (counts .pool-at) (same-row-word i c row column))
 
   shared : terms s′ ≡ terms s
-  shared = same-terms s s′ facts sums
+  shared =
+      same-terms s s′ facts
+      (same-irb-figures s s′ (facts .same-kind) (λ c column. rw (same-irb-at s s′ counts) (same-irb-column c)))
+      sums
 
   own : (i : ℕ) → i < trancheCount s → tranche s′ i ≡ tranche s i
   own i l =

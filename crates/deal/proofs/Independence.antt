@@ -6,7 +6,7 @@ use native.Mathlib.Nat.{le-refl}
 use native.Mathlib.Omega.{arith}
 use lib.ListN.{length, getD}
 use Rattle.limits.specs.SheetSize.{lineSize}
-use Rattle.judgement.specs.DealSheet.{word, poolAt, rowAt, tranchesAt, trancheCount, trancheAt, needed}
+use Rattle.judgement.specs.DealSheet.{word, poolAt, rowAt, tranchesAt, trancheCount, trancheAt, irbPlace, needed}
 use Rattle.pool.specs.PoolSums.{poolSums}
 use Rattle.pool.proofs.SameSums.{same-sums-in-order}
 use Rattle.deal.specs.Lines.{terms, tranche, lineWords}
@@ -15,8 +15,8 @@ use Rattle.deal.specs.Refusals.{verdict}
 use Rattle.deal.specs.Results.{resultsAfter}
 use Rattle.deal.specs.OtherRatings.{SameButOtherRatings}
 use Rattle.judgement.specs.declared.Verdict.the-variants.{Sound}
-use Rattle.judgement.proofs.NeededLaws.{tranches-at-past-rows}
-use Rattle.judgement.proofs.SameLayout.{SameCounts, same-counts, same-facts, same-reporting-date}
+use Rattle.judgement.proofs.NeededLaws.{tranches-at-past-rows, irb-at-past-tranches}
+use Rattle.judgement.proofs.SameLayout.{SameCounts, same-counts, same-irb-at, SameFacts, same-facts, same-irb-figures, same-reporting-date}
 use Rattle.judgement.proofs.SheetLimits.{facts-counted, pool-at-within}
 use Rattle.deal.proofs.JudgedLaws.{accepted-judged}
 use Rattle.deal.proofs.LineLaws.{results-line}
@@ -49,11 +49,17 @@ module _ (s s′ : List ℕ) (i : ℕ) (same : SameButOtherRatings s s′ i) whe
       same-sums-in-order s s′ (ratings-counts .row-count)
       (λ j c row column. rw (ratings-counts .pool-at) (same-head (rowAt s j + c) (omega (arith, tranches-at-past-rows s))))
 
+  ratings-facts : judged s (needed s) ≡ Sound → SameFacts s s′
+  ratings-facts e =
+      same-facts s s′ (λ p h before. same-head p (omega (arith, tranches-at-past-rows s))) (pool-at-within s (facts-counted s e) .0)
+
+  -- none stands in the IRB section
+  same-irb-word : (c : ℕ) → c < 6 → word s′ (irbPlace s′ c) ≡ word s (irbPlace s c)
+  same-irb-word c column = rw (same-irb-at s s′ ratings-counts) (same .same-word (irbPlace s c) (λ r. omega (arith, irb-at-past-tranches s)))
+
   pub ratings-terms : judged s (needed s) ≡ Sound → terms s′ ≡ terms s
   ratings-terms e =
-      same-terms s s′
-      (same-facts s s′ (λ p h before. same-head p (omega (arith, tranches-at-past-rows s))) (pool-at-within s (facts-counted s e) .0))
-      ratings-sums
+      same-terms s s′ (ratings-facts e) (same-irb-figures s s′ (ratings-facts e .same-kind) same-irb-word) ratings-sums
 
   pub ratings-tranche : judged s (needed s) ≡ Sound → i < trancheCount s → tranche s′ i ≡ tranche s i
   ratings-tranche e l =

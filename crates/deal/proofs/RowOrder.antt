@@ -9,7 +9,7 @@ use native.Mathlib.Omega.{arith}
 use lib.ListN.{length}
 use borrow.Author.Tests.{lt-ltb}
 use Rattle.limits.specs.SheetSize.{factsLeast}
-use Rattle.judgement.specs.DealSheet.{word, reportingDate, poolAt, rows, rowAt, tranchesAt, trancheCount, trancheAt, needed}
+use Rattle.judgement.specs.DealSheet.{word, irbFigures, reportingDate, poolAt, rows, rowAt, tranchesAt, trancheCount, trancheAt, irbPlace, needed}
 use Rattle.pool.specs.PoolSums.{poolSums}
 use Rattle.pool.specs.OrderOfRows.{Reordered}
 use Rattle.pool.proofs.SameSums.{same-sums}
@@ -20,9 +20,9 @@ use Rattle.deal.specs.Results.{replyTo, resultsAfter}
 use Rattle.deal.specs.Judged.{Accepted}
 use Rattle.judgement.specs.declared.Verdict.the-variants.{Sound}
 use Rattle.judgement.proofs.FirstFault.{first-of-all}
-use Rattle.judgement.proofs.NeededLaws.{tranches-at-past-rows, row-word-needed}
+use Rattle.judgement.proofs.NeededLaws.{pool-at-least, tranches-at-past-rows, irb-at-past-tranches, row-word-needed}
 use Rattle.judgement.proofs.Judgement.{good-word, fault-of-row, InSection, in-section}
-use Rattle.judgement.proofs.SameLayout.{SameCounts, same-counts, same-needed, SameFacts, same-facts, same-reporting-date}
+use Rattle.judgement.proofs.SameLayout.{SameCounts, same-counts, same-irb-at, same-needed, SameFacts, same-facts, same-irb-figures, same-reporting-date}
 use Rattle.judgement.proofs.SheetLimits.{facts-counted, pool-at-within}
 use Rattle.judgement.proofs.JudgedLaws.{judged-good}
 use Rattle.deal.proofs.JudgedLaws.{accepted-means, accepted-judged, accepted-when}
@@ -37,7 +37,7 @@ module _ (s s′ : List ℕ) (π σ : ℕ → ℕ) (r : Reordered s s′ π σ) 
       same-counts s s′ (r .same-before 0 (omega arith)) (r .same-before (poolAt s) (omega arith)) (r .same-after (tranchesAt s) (le-refl _))
 
   order-needed : needed s′ ≡ needed s
-  order-needed = same-needed s s′ order-counts
+  order-needed = same-needed s s′ order-counts (r .same-before 1 (omega (arith, pool-at-least s)))
 
   order-sums : poolSums s′ ≡ poolSums s
   order-sums =
@@ -50,11 +50,16 @@ module _ (s s′ : List ℕ) (π σ : ℕ → ℕ) (r : Reordered s s′ π σ) 
     order-facts : SameFacts s s′
     order-facts = same-facts s s′ (λ p h before. r .same-before p (omega arith)) facts
 
+    order-irb : irbFigures s′ ≡ irbFigures s
+    order-irb =
+        same-irb-figures s s′ (order-facts .same-kind)
+        (λ c column. rw (same-irb-at s s′ order-counts) (r .same-after (irbPlace s c) (omega (arith, irb-at-past-tranches s))))
+
     order-date : reportingDate s′ ≡ reportingDate s
     order-date = same-reporting-date s s′ (λ p before. r .same-before p (omega arith)) facts
 
     order-terms : terms s′ ≡ terms s
-    order-terms = same-terms s s′ order-facts order-sums
+    order-terms = same-terms s s′ order-facts order-irb order-sums
 
     order-word : (j c : ℕ) → word s′ (trancheAt s′ j + c) ≡ word s (trancheAt s j + c)
     order-word j c = rw (order-counts .tranches-at) (r .same-after (trancheAt s j + c) (omega arith))
@@ -76,6 +81,8 @@ module _ (s s′ : List ℕ) (π σ : ℕ → ℕ) (r : Reordered s s′ π σ) 
           same,
           order-counts .pool-at,
           order-counts .tranches-at,
+          same-irb-at s s′ order-counts,
+          order-facts .same-kind,
           order-facts .same-resecuritisation,
           order-date,
           r .same-after (trancheAt s (i - 1) + 1) (omega arith),

@@ -1,4 +1,4 @@
--- Two sheets of the same facts and pool sums have the same terms, and their tranches with the same months and the same other words are the same, wherever these words stand. No axioms.
+-- Two sheets of the same facts, IRB figures and pool sums have the same terms, and their tranches with the same months and the same other words are the same, wherever these words stand. No axioms.
 use mathlib.Core.List.{List}
 use mathlib.Core.Path.{_≡_, ap, _∙_}
 use Prim.Native.Nat.{ℕ, _+_, _<_}
@@ -7,7 +7,7 @@ use native.Mathlib.Omega.{arith}
 use lib.Dec.{ltb}
 use Rattle.numbers.specs.Sum.{sum, whereCounted}
 use Rattle.numbers.proofs.SumLaws.{sum-same}
-use Rattle.judgement.specs.DealSheet.{word, reportingDate, trancheCount, trancheAt, amount, class, maturity, months, layout}
+use Rattle.judgement.specs.DealSheet.{word, reportingDate, trancheCount, trancheAt, amount, class, maturity, months, irbFigures, layout}
 use Rattle.judgement.proofs.SameLayout.{SameFacts}
 use Rattle.pool.specs.PoolSums.{poolSums}
 use Rattle.deal.specs.Points.{seniorAmount, attachmentPoint, detachmentPoint}
@@ -15,10 +15,10 @@ use Rattle.deal.specs.Lines.{terms, tranche}
 
 -- ---- what the tranches share
 
-pub same-terms : (s s′ : List ℕ) → SameFacts s s′ → poolSums s′ ≡ poolSums s → terms s′ ≡ terms s
+pub same-terms : (s s′ : List ℕ) → SameFacts s s′ → irbFigures s′ ≡ irbFigures s → poolSums s′ ≡ poolSums s → terms s′ ≡ terms s
 unfolding terms layout
-same-terms s s′ facts sums =
-    rw (facts .same-resecuritisation, facts .same-stc, facts .same-diligence, facts .same-composition, sums)
+same-terms s s′ facts irb sums =
+    rw (facts .same-kind, facts .same-resecuritisation, facts .same-stc, facts .same-diligence, facts .same-composition, irb, sums)
 
 -- ---- a tranche
 

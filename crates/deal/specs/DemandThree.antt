@@ -1,5 +1,6 @@
 -- 01, "The formula and its series", demand 3: what the results hold for every accepted SEC-SA tranche with K at least 1 and D above K, where the rules
--- leave the raw weight open. The parameter is the deal's own; S-1 of 02 for STC deals: "The exact value is then taken with 0.5."
+-- leave the raw weight open. The parameter is the deal's own; S-1 of 02 for STC deals: "The exact value is then taken with 0.5." S-5: "what demand 3 and 01 say of SEC-SA lines
+-- holds for approach 3 lines too", and "the exact value read[s] this charge and parameter".
 use mathlib.Core.Bool.{true}
 use mathlib.Core.List.{List}
 use mathlib.Core.Path.{_≡_}
@@ -14,7 +15,8 @@ use Rattle.deal.specs.Lines.{terms, tranche}
 use Rattle.deal.specs.Refusals.{verdict}
 use Rattle.judgement.specs.declared.Verdict.the-variants.{Sound}
 
--- "every accepted SEC-SA tranche with K at least 1 and D above K"; "A tranche is accepted where its sheet gets no refusal."
+-- "every accepted SEC-SA tranche with K at least 1 and D above K", and every such tranche under approach 3: both are by the formula; "A tranche is accepted where its sheet gets
+-- no refusal."
 pub record AboveCharge (s : List ℕ) (room i : ℕ) : Type 0 where
   pub accepted : verdict s room ≡ Sound
   pub among : i < trancheCount s

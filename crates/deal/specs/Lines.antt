@@ -1,5 +1,6 @@
--- 01, "The deal sheet" and "Which approach, then floor, then cap": what the tranches of a sheet share, what is each tranche's own, and the line that they
+-- 01, "The deal sheet" and "Which approach, then floor, then cap", and 02, S-1 and S-5: what the tranches of a sheet share, what is each tranche's own, and the line that they
 -- make.
+use mathlib.Core.Bool.{Bool, cond}
 use mathlib.Core.List.{List, [], _∷_}
 use Prim.Native.Nat.{ℕ, _*_}
 use lib.Dec.{eqb}
@@ -7,7 +8,9 @@ use Rattle.numbers.specs.Rounding.{roundedUp}
 use Rattle.weights.specs.ApproachFloorCap.{approach, weight}
 use Rattle.weights.specs.declared.Terms.{Terms}
 use Rattle.weights.specs.declared.Tranche.{Tranche}
-use Rattle.charge.specs.PoolCharge.{mostlyKnown, poolCharge, poolAverage}
+use Rattle.irba.specs.IrbPool.{irbaApplies}
+use Rattle.charge.specs.Figures.{poolFigures, mixedFigures}
+use Rattle.charge.specs.declared.Figures.{Figures}
 use Rattle.charge.specs.declared.Sums.{Sums}
 use Rattle.judgement.specs.DealSheet.{class, months, held, firstRating, secondRating, thirdRating, layout}
 use Rattle.judgement.specs.declared.Layout.{Layout}
@@ -17,16 +20,26 @@ use Rattle.deal.specs.declared.Line.{Line}
 
 -- ---- what the tranches share, and what is a tranche's own
 
--- what the tranches of a deal share, from the sheet's facts (with S-1 of 02 the STC mark) and its pool's sums
+-- whether approach 3 applies to the deal
+abbrev pub irbaFor : Layout → Bool
+irbaFor l = irbaApplies (l .diligence) (l .resecuritisation) (l .kind) (l .irb .share)
+
+-- "The answer's charge is this one under approach 3, else 01's", and so is the average
+abbrev pub figuresFor : Layout → Sums → Figures
+figuresFor l q = cond (irbaFor l) (mixedFigures (l .irb) q) (poolFigures q)
+
+-- what the tranches of a deal share, from the sheet's facts (with S-1 of 02 the STC mark), its IRB section (S-5) and its pool's sums
 abbrev pub termsFor : Layout → Sums → Terms
 termsFor l q = record {
   diligence = l .diligence;
   resecuritisation = l .resecuritisation;
   stc = l .stc;
   composition = l .composition;
-  known = mostlyKnown q;
-  charge = poolCharge q;
-  average = poolAverage q;
+  irba = irbaFor l;
+  known = figuresFor l q .known;
+  charge = figuresFor l q .charge;
+  average = figuresFor l q .average;
+  irb = l .irb;
 }
 
 unfoldable pub terms : List ℕ → Terms
@@ -55,7 +68,7 @@ riskWeightedAmount heldAmount w = roundedUp (heldAmount * w) 10000
 abbrev pub capital : ℕ → ℕ → ℕ
 capital heldAmount w = roundedUp (heldAmount * w * 8) 1000000
 
--- ---- the line: "approach (0 fallback, 1 SEC-ERBA, 2 SEC-SA), A, D, weight, risk-weighted amount, capital"
+-- ---- the line: "approach (0 fallback, 1 SEC-ERBA, 2 SEC-SA), A, D, weight, risk-weighted amount, capital"; S-5's "approach 3"
 
 unfoldable pub line : Tranche → Terms → Line
 line t d = record {

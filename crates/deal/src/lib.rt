@@ -1,6 +1,8 @@
 ghost use mathlib.Core.Path.{_≡_};
 ghost use lib.ListN.{length};
-ghost use Rattle.charge.specs.SumLimits.{SumLimits};
+ghost use mathlib.Core.Bool.{cond};
+ghost use Rattle.charge.specs.Figures.{poolFigures, mixedFigures};
+ghost use Rattle.charge.specs.SumLimits.{SumLimits, IrbLimits};
 ghost use Rattle.pool.specs.SummedPool.{OpenPool};
 ghost use Rattle.deal.specs.DemandThree.{KeepsDemandThree};
 ghost use Rattle.deal.specs.Lines.{termsFor};
@@ -9,7 +11,9 @@ ghost use Rattle.deal.specs.Results.{replyOf, replyTo, resultsAfter};
 mod lines;
 mod tranches;
 
+use charge::Figures;
 use charge::Sums;
+use irba::IrbFigures;
 use judgement::Layout;
 use judgement::Refusal;
 use judgement::Verdict;
@@ -33,20 +37,35 @@ pub(crate) struct Line {
     pub(crate) capital: u64,
 }
 
+// The pool's figures: where SEC-IRBA applies those that its IRB section enters.
+fn figures_for(irba: bool, f: IrbFigures, q: Sums) -> Figures
+    requires { ⌜ SumLimits q × IrbLimits f ⌝ }
+    ensures { λ r. ⌜ r ≡ cond irba (mixedFigures f q) (poolFigures q) ⌝ }
+{
+    if irba {
+        return charge::irba_figures_of(f, q);
+    }
+    charge::figures_of(q)
+}
+
 // What the tranches of the deal share.
 fn terms_of(l: Layout, q: Sums) -> Terms
-    requires { ⌜ SumLimits q ⌝ }
+    requires { ⌜ SumLimits q × IrbLimits (l .irb) ⌝ }
     ensures { λ r. ⌜ r ≡ termsFor l q ⌝ }
 {
-    let figures = charge::figures_of(q);
+    let irb = l.irb;
+    let irba = irba::applies(l.diligence, l.resecuritisation, l.kind, irb.share);
+    let figures = figures_for(irba, irb, q);
     Terms {
         diligence: l.diligence,
         resecuritisation: l.resecuritisation,
         stc: l.stc,
         composition: l.composition,
+        irba,
         known: figures.known,
         charge: figures.charge,
         average: figures.average,
+        irb,
     }
 }
 

@@ -8,7 +8,7 @@ use Rattle.numbers.specs.Limits.{within}
 use Rattle.rating_codes.specs.RatingCodes.{listed}
 use Rattle.dates.specs.Calendar.{namesDay}
 use Rattle.dates.specs.Maturity.{maturityMonths, maturityAllowed}
-use Rattle.faults.specs.WordFaults.{unless, countFault, yesOrNo, codeFault, factFault, poolAmountInLimits, riskWeightInLimits, statusAllowed, rowFault, classInOrder, trancheAmountInLimits, monthsInLimits, heldInLimits, trancheFault}
+use Rattle.faults.specs.WordFaults.{unless, countFault, yesOrNo, codeFault, factFault, poolAmountInLimits, riskWeightInLimits, statusAllowed, rowFault, classInOrder, trancheAmountInLimits, monthsInLimits, heldInLimits, trancheFault, irbInLimits, irbFault}
 
 pub record WordNumber (n : ℕ) : Type 0 where
   pub not-thin : n ≡ 13 → ⊥
@@ -40,7 +40,7 @@ code-number w = stands 4 (yesOrNo w) (below-13 4 (omega arith))
 pub fact-number : (resecuritised : Bool) (p w : ℕ) → WordNumber (factFault resecuritised p w)
 fact-number resecuritised p w =
     picked (eqb p 1) _ _
-    (picked (eqb w 0) _ _ (below-13 0 (omega arith)) (picked (leb w 2) _ _ (below-13 12 (omega arith)) (below-13 4 (omega arith))))
+    (stands 4 (leb w 2) (below-13 4 (omega arith)))
     (picked (eqb p 5) _ _
     (picked (resecuritised && eqb w 1) _ _ (above-14 16 (omega arith)) (code-number w))
     (picked (eqb p 6) _ _ (stands 17 (eqb w 0 || namesDay w) (above-14 17 (omega arith)))
@@ -60,3 +60,6 @@ tranche-number reportingDate i before whole column w =
     (picked (maturityAllowed reportingDate w) _ _ (stands 10 (monthsInLimits (maturityMonths reportingDate w)) (below-13 10 (omega arith))) (above-14 17 (omega arith)))
     (picked (eqb column 3) _ _ (stands 8 (heldInLimits whole w) (below-13 8 (omega arith)))
     (stands 11 (listed w) (below-13 11 (omega arith))))))
+
+pub irb-number : (kind column w : ℕ) → WordNumber (irbFault kind column w)
+irb-number kind column w = stands 18 (irbInLimits kind column w) (above-14 18 (omega arith))

@@ -1,4 +1,4 @@
--- A fact, a pool row, a tranche row and a class keep the limits of 01's "The deal sheet" and 02's S-1 and S-3 just where their words have no fault. No axioms.
+-- A fact, a pool row, a tranche row, a class and an IRB section keep the limits of 01's "The deal sheet" and 02's S-1, S-3 and S-5 just where their words have no fault. No axioms.
 use mathlib.Core.Bool.{Bool, true, false, cond, _&&_, _||_}
 use mathlib.Core.Logic.{_⊎_, inl, inr, ⊎-elim}
 use mathlib.Core.Path.{_≡_, refl}
@@ -12,16 +12,11 @@ use Rattle.dates.specs.Calendar.{namesDay, Day}
 use Rattle.dates.specs.Maturity.{maturityMonths, maturityAllowed}
 use Rattle.dates.proofs.CalendarLaws.{day-named, named-day}
 use Rattle.dates.proofs.MaturityLaws.{later-day, day-later}
-use Rattle.faults.specs.WordFaults.{yesOrNo, codeFault, factFault, riskWeightInLimits, statusAllowed, rowFault, classInOrder, heldInLimits, trancheFault}
-use Rattle.faults.specs.GoodWords.{GoodFact, GoodRow, GoodTranche, NextClass, GoodClass}
+use Rattle.faults.specs.WordFaults.{yesOrNo, codeFault, factFault, riskWeightInLimits, statusAllowed, rowFault, classInOrder, heldInLimits, trancheFault, shareAllowed, irbFault}
+use Rattle.faults.specs.GoodWords.{GoodFact, GoodRow, GoodTranche, NextClass, GoodClass, GoodIrb}
 use Rattle.faults.proofs.FaultLaws.{unless-zero, no-fault-within}
 
 -- ---- facts
-
-zero-alone : (b c : Bool) → _≡_ {A = ℕ} (cond b 0 (cond c 12 4)) 0 → b ≡ true
-zero-alone true c e = refl
-zero-alone false true e = absurd (omega arith)
-zero-alone false false e = absurd (omega arith)
 
 code-of : (w : ℕ) → codeFault w ≡ 0 → w ≤ 1
 code-of w e = omega (arith, leb-true w _ (unless-zero 4 (yesOrNo w) (omega arith) e))
@@ -47,8 +42,8 @@ dated w (inl none) = true-either (eqb w 0) (namesDay w) (inl (eq-eqb w 0 none))
 dated w (inr day) = true-either (eqb w 0) (namesDay w) (inr (named-day w day))
 
 module _ (resecuritised : Bool) (p w : ℕ) where
-  kind-code : p ≡ 1 → factFault resecuritised p w ≡ 0 → w ≡ 0
-  kind-code is e = eqb-true w 0 (zero-alone (eqb w 0) (leb w 2) (rw (eq-eqb p 1 is) at e))
+  kind-code : p ≡ 1 → factFault resecuritised p w ≡ 0 → w ≤ 2
+  kind-code is e = leb-true w 2 (unless-zero 4 (leb w 2) (omega arith) (rw (eq-eqb p 1 is) at e))
 
   stc-code : p ≡ 5 → factFault resecuritised p w ≡ 0 → (w ≤ 1) × (resecuritised ≡ true → w ≡ 0)
   stc-code is e =
@@ -80,7 +75,7 @@ module _ (resecuritised : Bool) (p w : ℕ) where
 
 pub fact-good : (resecuritised : Bool) (p w : ℕ) → 1 ≤ p → GoodFact resecuritised p w → factFault resecuritised p w ≡ 0
 fact-good resecuritised zero w least g = absurd (omega arith)
-fact-good resecuritised (suc zero) w least g = simp (g .pool-kind refl)
+fact-good resecuritised (suc zero) w least g = simp (le-leb w 2 (g .pool-kind refl))
 fact-good resecuritised (suc (suc p)) w least g = by-place (eqb (suc (suc p)) 5) refl (eqb (suc (suc p)) 6) refl
   where
     other : suc (suc p) ≡ 1 → ⊥
@@ -219,3 +214,58 @@ module _ (r i b : ℕ) where
 
     pub third-good : trancheFault r i b a 6 z ≡ 0
     third-good = simp (g .third-listed)
+
+-- ---- the IRB section
+
+share-of : (kind w : ℕ) → shareAllowed kind w ≡ true → (kind ≡ 1 → w ≡ 1000000) × (w ≤ 1000000)
+share-of kind w e = by-kind (eqb kind 1) refl
+  where
+    by-kind : (whole : Bool) → eqb kind 1 ≡ whole → (kind ≡ 1 → w ≡ 1000000) × (w ≤ 1000000)
+    by-kind true is =
+        let all = eqb-true w 1000000 (rw is at e) in
+        (λ _. all, omega arith)
+    by-kind false is = (λ one. absurd (eqb-false kind 1 is one), leb-true w 1000000 (rw is at e))
+
+share-good : (kind w : ℕ) → (kind ≡ 1 → w ≡ 1000000) → w ≤ 1000000 → shareAllowed kind w ≡ true
+share-good kind w whole most = by-kind (eqb kind 1) refl
+  where
+    by-kind : (one : Bool) → eqb kind 1 ≡ one → shareAllowed kind w ≡ true
+    by-kind true is = rw is (eq-eqb w 1000000 (whole (eqb-true kind 1 is)))
+    by-kind false is = rw is (le-leb w 1000000 most)
+
+module _ (kind k l n t x a : ℕ) where
+  pub good-irb :
+      irbFault kind 0 k ≡ 0 → irbFault kind 1 l ≡ 0 → irbFault kind 2 n ≡ 0 → irbFault kind 3 t ≡ 0 → irbFault kind 4 x ≡ 0 → irbFault kind 5 a ≡ 0 →
+      GoodIrb kind k l n t x a
+  good-irb charge loss loans retail share average =
+      let number = no-fault-within 18 1 1000000 n (omega arith) loans in
+      let allowed = share-of kind x (unless-zero 18 (shareAllowed kind x) (omega arith) share) in
+      record {
+        charge-most = leb-true k 1000000 (unless-zero 18 (leb k 1000000) (omega arith) charge);
+        loss-most = leb-true l 1000000 (unless-zero 18 (leb l 1000000) (omega arith) loss);
+        loans-least = number .0;
+        loans-most = number .1;
+        retail-code = leb-true t 1 (unless-zero 18 (yesOrNo t) (omega arith) retail);
+        share-whole = allowed .0;
+        share-most = allowed .1;
+        average-most = leb-true a 125000 (unless-zero 18 (leb a 125000) (omega arith) average);
+      }
+
+  module _ (g : GoodIrb kind k l n t x a) where
+    pub irb-charge-good : irbFault kind 0 k ≡ 0
+    irb-charge-good = simp (le-leb k 1000000 (g .charge-most))
+
+    pub irb-loss-good : irbFault kind 1 l ≡ 0
+    irb-loss-good = simp (le-leb l 1000000 (g .loss-most))
+
+    pub irb-loans-good : irbFault kind 2 n ≡ 0
+    irb-loans-good = simp (within-is 1 1000000 n (g .loans-least) (g .loans-most))
+
+    pub irb-retail-good : irbFault kind 3 t ≡ 0
+    irb-retail-good = simp (le-leb t 1 (g .retail-code))
+
+    pub irb-share-good : irbFault kind 4 x ≡ 0
+    irb-share-good = simp (share-good kind x (g .share-whole) (g .share-most))
+
+    pub irb-average-good : irbFault kind 5 a ≡ 0
+    irb-average-good = simp (le-leb a 125000 (g .average-most))

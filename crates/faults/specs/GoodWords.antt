@@ -1,4 +1,4 @@
--- 01, "The deal sheet", and 02, S-1 and S-3, in plain relations: the limits that a good fact, pool row and tranche row keep. That a word keeps them just where it has no fault
+-- 01, "The deal sheet", and 02, S-1, S-3 and S-5, in plain relations: the limits that a good fact, pool row, tranche row and IRB section keep. That a word keeps them just where it has no fault
 -- (WordFaults.antt; a fact stands at place 1 or after) is proved in proofs/GoodWordsLaw.antt.
 use mathlib.Core.Bool.{Bool, true, false}
 use mathlib.Core.Logic.{_⊎_}
@@ -8,11 +8,11 @@ use Rattle.rating_codes.specs.RatingCodes.{listed}
 use Rattle.dates.specs.Calendar.{Day}
 use Rattle.dates.specs.Maturity.{maturityMonths}
 
--- "pool kind (0 SA, 1 IRB, 2 mixed); re-securitisation; due diligence held; pool composition known. The last three are 0 no, 1 yes." Of the kinds, "12: pool
--- kind 1 or 2" leaves SA. The kind is at place 1. 02, S-1: "A fifth fact says so (0 no, 1 yes)"; "An STC mark on a re-securitisation gets 16": none is good there. S-3: "A sixth
+-- "pool kind (0 SA, 1 IRB, 2 mixed); re-securitisation; due diligence held; pool composition known. The last three are 0 no, 1 yes." The kind is at
+-- place 1. 02, S-1: "A fifth fact says so (0 no, 1 yes)"; "An STC mark on a re-securitisation gets 16": none is good there. S-3: "A sixth
 -- fact is the reporting date, ...; 0 or absent means months as before."
 pub record GoodFact (resecuritised : Bool) (p w : ℕ) : Type 0 where
-  pub pool-kind : p ≡ 1 → w ≡ 0
+  pub pool-kind : p ≡ 1 → w ≤ 2
   pub code : 1 < p → (p ≡ 6 → ⊥) → w ≤ 1
   pub mark : p ≡ 5 → resecuritised ≡ true → w ≡ 0
   pub reporting-date : p ≡ 6 → (w ≡ 0) ⊎ Day w
@@ -49,3 +49,15 @@ NextClass before w = (w ≡ before) ⊎ (w ≡ before + 1)
 pub record GoodClass (i before w : ℕ) : Type 0 where
   pub of-first : i ≡ 0 → w ≡ 1
   pub of-next : 0 < i → NextClass before w
+
+-- 02, S-5: "IRB charge and average loss given default (millionths, to 10^6), effective number of loans (1 to 10^6), retail (0 or 1), share of exposure with an IRB charge
+-- (10^6 for kind 1, 0 to 10^6 for kind 2), IRB average weight (...; to 125,000)"
+pub record GoodIrb (kind charge loss loans retail share average : ℕ) : Type 0 where
+  pub charge-most : charge ≤ 1000000
+  pub loss-most : loss ≤ 1000000
+  pub loans-least : 1 ≤ loans
+  pub loans-most : loans ≤ 1000000
+  pub retail-code : retail ≤ 1
+  pub share-whole : kind ≡ 1 → share ≡ 1000000
+  pub share-most : share ≤ 1000000
+  pub average-most : average ≤ 125000

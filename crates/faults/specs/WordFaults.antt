@@ -1,4 +1,4 @@
--- 01, "Refusals, by who can cause them", and 02, S-1, for 16, and S-3, for 17: the fault of one word by its value and its column, the refusal's number, or 0 where it has none.
+-- 01, "Refusals, by who can cause them", and 02, S-1, for 16, S-3, for 17, and S-5, for 18: the fault of one word by its value and its column, the refusal's number, or 0 where it has none.
 -- Which word of a sheet stands where, and which fault decides, is in DealSheet.antt and Refusals.antt of `judgement`.
 use mathlib.Core.Bool.{Bool, cond, _&&_, _||_}
 use Prim.Native.Nat.{ℕ, _+_}
@@ -24,9 +24,9 @@ yesOrNo w = leb w 1
 abbrev pub codeFault : ℕ → ℕ
 codeFault w = unless 4 (yesOrNo w)
 
--- "4: a fact outside its codes", "12: pool kind 1 or 2."
+-- "pool kind (0 SA, 1 IRB, 2 mixed)", "4: a fact outside its codes"; 02, S-5: "12 no longer occurs"
 abbrev pub poolKindFault : ℕ → ℕ
-poolKindFault w = cond (eqb w 0) 0 (cond (leb w 2) 12 4)
+poolKindFault w = unless 4 (leb w 2)
 
 -- 02, S-1: "A fifth fact says so (0 no, 1 yes)"; "An STC mark on a re-securitisation gets 16 at the fifth fact." The mark is a 1: a word above 1 is none and gets 4.
 abbrev pub stcFault : Bool → ℕ → ℕ
@@ -105,3 +105,23 @@ trancheFault reportingDate i before trancheAmount column w =
     (cond (eqb column 2) (maturityFault reportingDate w)
     (cond (eqb column 3) (unless 8 (heldInLimits trancheAmount w))
     (unless 11 (listed w)))))
+
+-- ---- the IRB section; 02, S-5
+
+-- "share of exposure with an IRB charge (10^6 for kind 1, 0 to 10^6 for kind 2)"
+abbrev pub shareAllowed : ℕ → ℕ → Bool
+shareAllowed kind w = cond (eqb kind 1) (eqb w 1000000) (leb w 1000000)
+
+-- "IRB charge and average loss given default (millionths, to 10^6), effective number of loans (1 to 10^6), retail (0 or 1), share ..., IRB average weight (...; to
+-- 125,000)": the columns of the section's row, from 0, where the pool is of that kind
+abbrev pub irbInLimits : ℕ → ℕ → ℕ → Bool
+irbInLimits kind column w =
+    cond (ltb column 2) (leb w 1000000)
+    (cond (eqb column 2) (within 1 1000000 w)
+    (cond (eqb column 3) (yesOrNo w)
+    (cond (eqb column 4) (shareAllowed kind w)
+    (leb w 125000))))
+
+-- "a value outside these limits 18 at its word"
+abbrev pub irbFault : ℕ → ℕ → ℕ → ℕ
+irbFault kind column w = unless 18 (irbInLimits kind column w)

@@ -1,6 +1,6 @@
 // The fault of one word of a sheet, by its value and its column: the refusal's number in 01 or 02, or 0. Functions of numbers alone, open to all inputs.
 ghost use mathlib.Core.Path.{_≡_};
-ghost use Rattle.faults.specs.WordFaults.{unless, countFault, codeFault, poolKindFault, stcFault, reportingDateFault, factFault, statusAllowed, rowFault, rowIsGood, classInOrder, maturityFault, trancheFault};
+ghost use Rattle.faults.specs.WordFaults.{unless, countFault, codeFault, poolKindFault, stcFault, reportingDateFault, factFault, statusAllowed, rowFault, rowIsGood, classInOrder, maturityFault, trancheFault, shareAllowed, irbInLimits, irbFault};
 use dates::maturity_allowed;
 use dates::maturity_months;
 use dates::names_day;
@@ -14,6 +14,11 @@ const RISK_WEIGHT: u64 = 1250;
 const TRANCHE_AMOUNT: u64 = 10000000000000;
 
 const MONTHS: u64 = 1200;
+
+// The limits of 02's shares, charges and losses, of its numbers of loans and of its average weights.
+const MILLION: u64 = 1000000;
+
+const AVERAGE_WEIGHT: u64 = 125000;
 
 // The number of a fault, unless the word is good.
 fn unless(number: u64, good: bool) -> u64
@@ -40,10 +45,7 @@ fn code_fault(w: u64) -> u64
 fn pool_kind_fault(w: u64) -> u64
     ensures { λ r. ⌜ r ≡ poolKindFault w ⌝ }
 {
-    if w == 0 {
-        return 0;
-    }
-    if w <= 2 { 12 } else { 4 }
+    unless(4, w <= 2)
 }
 
 // The fault of the fifth fact: a re-securitisation has no STC mark.
@@ -183,4 +185,40 @@ pub fn tranche_fault(
         return unless(8, w <= amount);
     }
     unless(11, rating_codes::is_listed(w))
+}
+
+// Whether a pool of this kind may have this share of exposure with an IRB charge: of an IRB pool, kind 1, it is the whole.
+fn share_allowed(kind: u64, w: u64) -> bool
+    ensures { λ r. ⌜ r ≡ shareAllowed kind w ⌝ }
+{
+    if kind == 1 {
+        return w == MILLION;
+    }
+    w <= MILLION
+}
+
+// Whether a word of the IRB section is within its limits, by its column.
+fn irb_in_limits(kind: u64, column: u64, w: u64) -> bool
+    ensures { λ r. ⌜ r ≡ irbInLimits kind column w ⌝ }
+{
+    if column < 2 {
+        return w <= MILLION;
+    }
+    if column == 2 {
+        return within(1, MILLION, w);
+    }
+    if column == 3 {
+        return w <= 1;
+    }
+    if column == 4 {
+        return share_allowed(kind, w);
+    }
+    w <= AVERAGE_WEIGHT
+}
+
+// The fault of a word of the IRB section, by its column.
+pub fn irb_fault(kind: u64, column: u64, w: u64) -> u64
+    ensures { λ r. ⌜ r ≡ irbFault kind column w ⌝ }
+{
+    unless(18, irb_in_limits(kind, column, w))
 }

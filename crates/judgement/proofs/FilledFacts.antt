@@ -13,14 +13,14 @@ use borrow.Author.Tests.{lt-ltb, le-ltb, ne-eqb}
 use Rattle.numbers.proofs.Tests.{within-is, same-ltb, same-eqb}
 use Rattle.faults.proofs.GoodWordsLaw.{fact-good}
 use Rattle.limits.specs.SheetSize.{factsLeast, factsMost}
-use Rattle.judgement.specs.DealSheet.{word, resecuritisation, fact, reportingDate, poolAt, rows, rowAt, tranchesAt, trancheCount, trancheAt, amount, needed}
+use Rattle.judgement.specs.DealSheet.{word, poolKind, resecuritisation, fact, reportingDate, poolAt, rows, rowAt, tranchesAt, trancheCount, trancheAt, amount, irbAt, irbPlace, irbFigures, irbWords, needed}
 use Rattle.judgement.specs.FilledFacts.{CanFill, filled, moved}
 use Rattle.judgement.specs.Refusals.{rowOf, fault, refused, judgeWith, judge, firstOf, judged, wordsFollow, wordsVerdict}
 use Rattle.judgement.specs.declared.Verdict.the-variants.{Sound}
 use Rattle.judgement.proofs.Judgement.{fault-of-fact-count, fault-of-fact}
 use Rattle.judgement.proofs.MovedVerdicts.{atMoved, moved-or-else, moved-cond, judge-with-moved, first-of-moved, first-of-some-more, first-of-shifted}
-use Rattle.judgement.proofs.NeededLaws.{tranches-at-past-rows, tranches-end, pool-count-needed}
-use Rattle.judgement.proofs.SameLayout.{SameFacts, same-fact}
+use Rattle.judgement.proofs.NeededLaws.{tranches-at-past-rows, irb-at-past-tranches, needed-is, pool-count-needed}
+use Rattle.judgement.proofs.SameLayout.{SameFacts, same-fact, same-irb-figures}
 
 -- ---- the words of the filled sheet
 
@@ -124,8 +124,8 @@ module _ (n : ℕ) (s : List ℕ) (c : CanFill n s) where
   unfolding trancheCount
   same-tranche-count = ap (word f) tranches-moved ∙ rest-kept (tranchesAt s) (omega (arith, tranches-at-past-rows s))
 
-  needed-moved : needed f ≡ needed s + d
-  needed-moved = omega (arith, tranches-end f, tranches-end s, tranches-moved, same-tranche-count)
+  irb-moved : irbAt f ≡ irbAt s + d
+  irb-moved = omega (arith, irb-at-past-tranches f, irb-at-past-tranches s, tranches-moved, same-tranche-count)
 
   pub tranche-at-moved : (i : ℕ) → trancheAt f i ≡ trancheAt s i + d
   tranche-at-moved i = omega (arith, tranches-moved)
@@ -139,6 +139,11 @@ module _ (n : ℕ) (s : List ℕ) (c : CanFill n s) where
   same-tranche-word i k =
       let place : trancheAt f i + k ≡ trancheAt s i + k + d = omega (arith, tranches-moved) in
       ap (word f) place ∙ rest-kept (trancheAt s i + k) (omega (arith, tranches-at-past-rows s))
+
+  same-irb-word : (k : ℕ) → word f (irbPlace f k) ≡ word s (irbPlace s k)
+  same-irb-word k =
+      let place : irbPlace f k ≡ irbPlace s k + d = omega (arith, irb-moved) in
+      ap (word f) place ∙ rest-kept (irbPlace s k) (omega (arith, irb-at-past-tranches s, tranches-at-past-rows s))
 
   -- ---- its facts
 
@@ -154,6 +159,7 @@ module _ (n : ℕ) (s : List ℕ) (c : CanFill n s) where
 
   pub filled-same-facts : SameFacts s f
   filled-same-facts = record {
+    same-kind = same-known-fact 1 (omega arith) (omega arith);
     same-resecuritisation = rw (same-known-fact 2 (omega arith) (omega arith));
     same-stc = rw (same-later-fact 5 (omega arith));
     same-diligence = rw (same-known-fact 3 (omega arith) (omega arith));
@@ -162,6 +168,16 @@ module _ (n : ℕ) (s : List ℕ) (c : CanFill n s) where
 
   pub filled-same-date : reportingDate f ≡ reportingDate s
   filled-same-date = same-later-fact 6 (omega arith)
+
+  -- ---- its IRB section
+
+  pub filled-same-irb : irbFigures f ≡ irbFigures s
+  filled-same-irb = same-irb-figures s f (filled-same-facts .same-kind) (λ k column. same-irb-word k)
+
+  needed-moved : needed f ≡ needed s + d
+  needed-moved =
+      let words : irbWords f ≡ irbWords s = rw (filled-same-facts .same-kind) in
+      omega (arith, needed-is f, needed-is s, irb-moved, words)
 
   -- ---- the faults of its words: a count is good, a fact keeps its fault, a zero has none, and a later word keeps its fault where it has moved
 
@@ -183,7 +199,7 @@ module _ (n : ℕ) (s : List ℕ) (c : CanFill n s) where
       let least : 1 ≤ p = omega (arith, pool-after) in
       fault-of-fact f p least (omega (arith, pool-moved)) ∙
       rw (zero-filled p after before)
-      (fact-good (resecuritisation f) p 0 least (record { pool-kind = λ _. refl; code = λ _ _. omega arith; mark = λ _ _. refl; reporting-date = λ _. inl refl }))
+      (fact-good (resecuritisation f) p 0 least (record { pool-kind = λ _. omega arith; code = λ _ _. omega arith; mark = λ _ _. refl; reporting-date = λ _. inl refl }))
 
   -- a word that has moved with its section is as far behind the count as before, so its row and its column are the same
   same-distance : (at p : ℕ) → p + d - (at + d + 1) ≡ p - (at + 1)
@@ -208,6 +224,11 @@ module _ (n : ℕ) (s : List ℕ) (c : CanFill n s) where
         same-eqb d p (poolAt s),
         same-ltb d p (tranchesAt s),
         same-eqb d p (tranchesAt s),
+        irb-moved,
+        same-ltb d p (irbAt s),
+        same-eqb d p (irbAt s),
+        same-distance (irbAt s) p,
+        filled-same-facts .same-kind,
         filled-same-facts .same-resecuritisation,
         filled-same-date,
         same-distance (poolAt s) p,

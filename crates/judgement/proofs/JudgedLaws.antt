@@ -10,9 +10,9 @@ use native.Mathlib.Omega.{arith}
 use lib.Dec.{ltb, eqb}
 use lib.ListN.{length}
 use borrow.Author.Tests.{ltb-true, ltb-false, eqb-false, lt-ltb, le-ltb, eq-eqb, ne-eqb}
-use Rattle.limits.specs.SheetSize.{factsLeast, factsMost, rowsMost, rowSize, tranchesMost, trancheSize, wordLimit}
-use Rattle.faults.proofs.FaultNumbers.{WordNumber, picked, count-number, fact-number, row-number, tranche-number}
-use Rattle.judgement.specs.DealSheet.{word, resecuritisation, reportingDate, poolAt, tranchesAt, amount, class, needed}
+use Rattle.limits.specs.SheetSize.{factsLeast, factsMost, rowsMost, rowSize, tranchesMost, trancheSize, irbRows, irbSize, wordLimit}
+use Rattle.faults.proofs.FaultNumbers.{WordNumber, picked, count-number, fact-number, row-number, tranche-number, irb-number}
+use Rattle.judgement.specs.DealSheet.{word, poolKind, resecuritisation, reportingDate, poolAt, tranchesAt, amount, class, irbAt, needed}
 use Rattle.judgement.specs.Refusals.{rowOf, columnOf, fault, refused, judgeWith, judge, judged, wordsFollow, wordsVerdict}
 use Rattle.judgement.specs.Judged.{GoodWord, GoodBelow, BadHere, bad, missing, FirstBad, WordsGood, WordsRefusal, first-bad, words-follow}
 use Rattle.judgement.specs.declared.Refusal.{Refusal}
@@ -202,8 +202,11 @@ fault-number s p =
     (picked (ltb p (tranchesAt s)) _ _
     (row-number (resecuritisation s) (columnOf rowSize (poolAt s) p) (word s p))
     (picked (eqb p (tranchesAt s)) _ _ (count-number 1 tranchesMost (word s p))
+    (picked (ltb p (irbAt s)) _ _
     (let i = rowOf trancheSize (tranchesAt s) p in
-    tranche-number (reportingDate s) i (class s (i - 1)) (amount s i) (columnOf trancheSize (tranchesAt s) p) (word s p))))))
+    tranche-number (reportingDate s) i (class s (i - 1)) (amount s i) (columnOf trancheSize (tranchesAt s) p) (word s p))
+    (picked (eqb p (irbAt s)) _ _ (count-number irbRows irbRows (word s p))
+    (irb-number (poolKind s) (columnOf irbSize (irbAt s) p) (word s p))))))))
 
 pub words-number : (s : List ℕ) (r : Refusal) → WordsRefusal s r → WordNumber (r .number)
 words-number s r (first-bad b) = at-place (b .here)

@@ -9,15 +9,15 @@ use native.Mathlib.Omega.{arith}
 use lib.Dec.{ltb, eqb}
 use lib.ListN.{length}
 use borrow.Author.Tests.{ltb-true, eqb-true, lt-ltb, le-ltb, eq-eqb, ne-eqb}
-use Rattle.judgement.specs.DealSheet.{word, resecuritisation, reportingDate, poolAt, rows, rowAt, tranchesAt, trancheCount, trancheAt, amount, class}
-use Rattle.limits.specs.SheetSize.{factsLeast, factsMost, rowsMost, tranchesMost}
-use Rattle.faults.specs.WordFaults.{countFault, factFault, rowFault, trancheFault}
+use Rattle.judgement.specs.DealSheet.{word, poolKind, resecuritisation, reportingDate, poolAt, rows, rowAt, tranchesAt, trancheCount, trancheAt, amount, class, irbAt, irbPlace}
+use Rattle.limits.specs.SheetSize.{factsLeast, factsMost, rowsMost, tranchesMost, irbRows}
+use Rattle.faults.specs.WordFaults.{countFault, factFault, rowFault, trancheFault, irbFault}
 use Rattle.judgement.specs.Refusals.{rowOf, columnOf, fault, refused, judgeWith, judge, judged}
 use Rattle.judgement.specs.declared.Refusal.{Refusal}
 use Rattle.judgement.specs.declared.Verdict.{Verdict}
 use Rattle.judgement.specs.declared.Verdict.the-variants.{Sound, Faulty}
 use Rattle.judgement.proofs.FirstFault.{first-of-sound, first-of-next}
-use Rattle.judgement.proofs.NeededLaws.{pool-at-least, tranches-at-past-rows}
+use Rattle.judgement.proofs.NeededLaws.{pool-at-least, tranches-at-past-rows, irb-at-past-tranches}
 
 -- ---- one word
 
@@ -92,11 +92,11 @@ fault-of-tranche-count s =
 
 -- a place past the tranches' count, by its row and column
 fault-in-tranches :
-    (s : List ℕ) (p : ℕ) → tranchesAt s < p →
+    (s : List ℕ) (p : ℕ) → tranchesAt s < p → p < irbAt s →
     let i = rowOf 7 (tranchesAt s) p in
     fault s p ≡ trancheFault (reportingDate s) i (class s (i - 1)) (amount s i) (columnOf 7 (tranchesAt s) p) (word s p)
 unfolding fault
-fault-in-tranches s p after =
+fault-in-tranches s p after before =
     let pool : poolAt s < p = omega (arith, tranches-at-past-rows s) in
     simp (
       ne-eqb p 0 (λ e. omega arith),
@@ -104,18 +104,46 @@ fault-in-tranches s p after =
       ne-eqb p (poolAt s) (λ e. omega arith),
       le-ltb p (tranchesAt s) (omega arith),
       ne-eqb p (tranchesAt s) (λ e. omega arith),
+      lt-ltb p (irbAt s) before,
     )
 
 pub fault-of-tranche :
-    (s : List ℕ) (i c : ℕ) → c < 7 →
+    (s : List ℕ) (i c : ℕ) → i < trancheCount s → c < 7 →
     fault s (trancheAt s i + c) ≡ trancheFault (reportingDate s) i (class s (i - 1)) (amount s i) c (word s (trancheAt s i + c))
-fault-of-tranche s i c column =
+fault-of-tranche s i c among column =
     let p = trancheAt s i + c in
     let row : rowOf 7 (tranchesAt s) (trancheAt s i + c) ≡ i = omega arith in
     let is : columnOf 7 (tranchesAt s) (trancheAt s i + c) ≡ c = omega arith in
-    fault-in-tranches s p (omega arith) ∙
+    fault-in-tranches s p (omega arith) (omega (arith, irb-at-past-tranches s)) ∙
     ap (λ (j : ℕ). trancheFault (reportingDate s) j (class s (j - 1)) (amount s j) (columnOf 7 (tranchesAt s) p) (word s p)) row ∙
     ap (λ (k : ℕ). trancheFault (reportingDate s) i (class s (i - 1)) (amount s i) k (word s p)) is
+
+-- a place past the tranches
+fault-past-tranches :
+    (s : List ℕ) (p : ℕ) → irbAt s ≤ p →
+    fault s p ≡ cond (eqb p (irbAt s)) (countFault irbRows irbRows (word s p)) (irbFault (poolKind s) (columnOf 6 (irbAt s) p) (word s p))
+unfolding fault
+fault-past-tranches s p after =
+    let tranches : tranchesAt s < p = omega (arith, irb-at-past-tranches s) in
+    let pool : poolAt s < p = omega (arith, tranches-at-past-rows s) in
+    simp (
+      ne-eqb p 0 (λ e. omega arith),
+      le-ltb p (poolAt s) (omega arith),
+      ne-eqb p (poolAt s) (λ e. omega arith),
+      le-ltb p (tranchesAt s) (omega arith),
+      ne-eqb p (tranchesAt s) (λ e. omega arith),
+      le-ltb p (irbAt s) after,
+    )
+
+pub fault-of-irb-count : (s : List ℕ) → fault s (irbAt s) ≡ countFault irbRows irbRows (word s (irbAt s))
+fault-of-irb-count s = fault-past-tranches s (irbAt s) (omega arith) ∙ rw (eq-eqb (irbAt s) (irbAt s) refl)
+
+pub fault-of-irb : (s : List ℕ) (c : ℕ) → c < 6 → fault s (irbPlace s c) ≡ irbFault (poolKind s) c (word s (irbPlace s c))
+fault-of-irb s c column =
+    fault-past-tranches s (irbPlace s c) (omega arith) ∙
+    rw (ne-eqb (irbPlace s c) (irbAt s) (λ e. omega arith))
+    (ap (λ (k : ℕ). irbFault (poolKind s) k (word s (irbPlace s c)))
+    (let is : columnOf 6 (irbAt s) (irbPlace s c) ≡ c = omega arith in is))
 
 -- ---- a place in a section of `count` rows of `size` words, whose count is at place `at`, is one of a row's columns
 

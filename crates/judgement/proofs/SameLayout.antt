@@ -1,4 +1,5 @@
--- Two sheets whose counts are the same have their sections at the same places; and two whose words before the pool's count are the same have the same facts. No axioms.
+-- Two sheets whose counts are the same have their sections at the same places; two whose words before the pool's count are the same have the same facts; and two of the same
+-- pool kind whose IRB sections have the same words have the same figures, wherever these words stand. No axioms.
 use mathlib.Core.List.{List}
 use mathlib.Core.Path.{_≡_, sym, ap, _∙_}
 use Prim.Native.Nat.{ℕ, _+_, _≤_, _<_}
@@ -6,8 +7,8 @@ use native.Mathlib.Omega.{arith}
 use borrow.Author.Tests.{leb-true, leb-false, lt-leb}
 use Rattle.numbers.proofs.Tests.{at-cond}
 use Rattle.limits.specs.SheetSize.{factsLeast}
-use Rattle.judgement.specs.DealSheet.{word, resecuritisation, dueDiligence, compositionKnown, hasFact, fact, stc, reportingDate, poolAt, rows, tranchesAt, trancheCount, needed}
-use Rattle.judgement.proofs.NeededLaws.{tranches-end}
+use Rattle.judgement.specs.DealSheet.{word, poolKind, resecuritisation, dueDiligence, compositionKnown, hasFact, fact, stc, reportingDate, poolAt, rows, tranchesAt, trancheCount, irbAt, irbPlace, irbFigures, needed}
+use Rattle.judgement.proofs.NeededLaws.{irb-at-past-tranches, needed-is}
 
 pub record SameCounts (s s′ : List ℕ) : Type 0 where
   pub pool-at : poolAt s′ ≡ poolAt s
@@ -29,12 +30,32 @@ same-counts s s′ facts row-count count =
       tranche-count = ap (word s′) place ∙ count;
     }
 
-pub same-needed : (s s′ : List ℕ) → SameCounts s s′ → needed s′ ≡ needed s
-same-needed s s′ counts = omega (arith, tranches-end s, tranches-end s′, counts .tranches-at, counts .tranche-count)
+pub same-irb-at : (s s′ : List ℕ) → SameCounts s s′ → irbAt s′ ≡ irbAt s
+same-irb-at s s′ counts = omega (arith, irb-at-past-tranches s, irb-at-past-tranches s′, counts .tranches-at, counts .tranche-count)
+
+pub same-needed : (s s′ : List ℕ) → SameCounts s s′ → poolKind s′ ≡ poolKind s → needed s′ ≡ needed s
+same-needed s s′ counts kind = needed-is s′ ∙ rw (same-irb-at s s′ counts, kind) (sym (needed-is s))
+
+-- ---- the figures of the IRB section
+
+pub same-irb-figures :
+    (s s′ : List ℕ) → poolKind s′ ≡ poolKind s → ((c : ℕ) → c < 6 → word s′ (irbPlace s′ c) ≡ word s (irbPlace s c)) → irbFigures s′ ≡ irbFigures s
+unfolding irbFigures
+same-irb-figures s s′ kind alike =
+    rw (
+      kind,
+      alike 0 (omega arith),
+      alike 1 (omega arith),
+      alike 2 (omega arith),
+      alike 3 (omega arith),
+      alike 4 (omega arith),
+      alike 5 (omega arith),
+    )
 
 -- ---- the facts that the terms of a deal read; the reporting date is not among them
 
 pub record SameFacts (s s′ : List ℕ) : Type 0 where
+  pub same-kind : poolKind s′ ≡ poolKind s
   pub same-resecuritisation : resecuritisation s′ ≡ resecuritisation s
   pub same-stc : stc s′ ≡ stc s
   pub same-diligence : dueDiligence s′ ≡ dueDiligence s
@@ -61,6 +82,7 @@ same-listed-fact s s′ n count kept = same-fact s s′ n (omega arith) (λ h. k
 pub same-facts : (s s′ : List ℕ) → ((p : ℕ) → p < 6 → p < poolAt s → word s′ p ≡ word s p) → factsLeast < poolAt s → SameFacts s s′
 same-facts s s′ before facts =
     record {
+      same-kind = before 1 (omega arith) (omega arith);
       same-resecuritisation = rw (before 2 (omega arith) (omega arith));
       same-stc = rw (same-listed-fact s s′ 5 (before 0 (omega arith) (omega arith)) (before 5 (omega arith)));
       same-diligence = rw (before 3 (omega arith) (omega arith));

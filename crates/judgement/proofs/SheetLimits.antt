@@ -9,18 +9,18 @@ use native.Mathlib.Numerals.{add-one}
 use native.Mathlib.Omega.{arith}
 use lib.ListN.{length}
 use borrow.Author.Tests.{leb-true, eqb-true, lt-leb}
-use Rattle.limits.specs.SheetSize.{factsLeast, factsMost, rowsMost, tranchesMost, wordLimit, placeLimit}
-use Rattle.faults.specs.WordFaults.{rowFault, trancheFault}
+use Rattle.limits.specs.SheetSize.{factsLeast, factsMost, rowsMost, tranchesMost, irbRows, wordLimit, placeLimit}
+use Rattle.faults.specs.WordFaults.{rowFault, trancheFault, irbFault}
 use Rattle.faults.specs.GoodWords.{GoodFact, NextClass, GoodClass}
 use Rattle.faults.proofs.FaultLaws.{no-fault-within}
-use Rattle.faults.proofs.GoodWordsLaw.{good-fact, good-row as row-of-words, good-class, good-tranche as tranche-of-words}
-use Rattle.judgement.specs.DealSheet.{word, resecuritisation, hasFact, fact, stc, reportingDate, poolAt, rows, rowAt, exposure, nominal, riskWeight, status, tranchesAt, trancheCount, trancheAt, amount, class, maturity, held, firstRating, secondRating, thirdRating, needed}
+use Rattle.faults.proofs.GoodWordsLaw.{good-fact, good-row as row-of-words, good-class, good-tranche as tranche-of-words, good-irb as irb-of-words}
+use Rattle.judgement.specs.DealSheet.{word, poolKind, resecuritisation, hasFact, fact, stc, reportingDate, poolAt, rows, rowAt, exposure, nominal, riskWeight, status, tranchesAt, trancheCount, trancheAt, amount, class, maturity, held, firstRating, secondRating, thirdRating, hasIrb, irbAt, irbPlace, irbFigures, needed}
 use Rattle.judgement.specs.Refusals.{judge, judged}
-use Rattle.judgement.specs.GoodSheet.{GoodRowOf, GoodTrancheOf}
+use Rattle.judgement.specs.GoodSheet.{GoodRowOf, GoodTrancheOf, GoodIrbOf}
 use Rattle.judgement.specs.declared.Verdict.the-variants.{Sound}
 use Rattle.judgement.proofs.FirstFault.{first-of-prefix}
-use Rattle.judgement.proofs.NeededLaws.{tranches-at-past-rows, tranches-end, tranche-word-needed, tranche-count-needed, row-word-needed, pool-count-needed}
-use Rattle.judgement.proofs.Judgement.{good-word, fault-of-fact-count, fault-of-fact, fault-of-pool-count, fault-of-row, fault-of-tranche-count, fault-of-tranche}
+use Rattle.judgement.proofs.NeededLaws.{tranches-at-past-rows, irb-at-past-tranches, needed-is, irb-words-most, irb-word-needed, irb-count-needed, tranche-word-needed, tranche-count-needed, row-word-needed, pool-count-needed}
+use Rattle.judgement.proofs.Judgement.{good-word, fault-of-fact-count, fault-of-fact, fault-of-pool-count, fault-of-row, fault-of-tranche-count, fault-of-tranche, fault-of-irb-count, fault-of-irb}
 
 -- ---- the counts, and where the sections stand
 
@@ -77,12 +77,17 @@ tranche-at-most s i e h =
     let pool = pool-counted-before s e in
     omega (arith, tranches-at-past-rows s, pool-at-within s (facts-counted-before s pool), rows-within s pool, tranches-within s e)
 
+pub irb-at-most : (s : List ℕ) → judged s (tranchesAt s + 1) ≡ Sound → irbAt s ≤ placeLimit
+irb-at-most s e = omega (arith, irb-at-past-tranches s, tranche-at-most s (trancheCount s) e (omega arith))
+
 -- no sheet with good words needs more than the most words
 pub needed-at-most : (s : List ℕ) → judged s (needed s) ≡ Sound → needed s ≤ wordLimit
 needed-at-most s e =
     omega (
       arith,
-      tranches-end s,
+      needed-is s,
+      irb-words-most s,
+      irb-at-past-tranches s,
       tranches-at-past-rows s,
       pool-at-within s (facts-counted s e),
       rows-within s (pool-counted s e),
@@ -144,7 +149,7 @@ good-in-tranche :
     (s : List ℕ) (i c : ℕ) → judged s (needed s) ≡ Sound → i < trancheCount s → c < 7 →
     trancheFault (reportingDate s) i (class s (i - 1)) (amount s i) c (word s (trancheAt s i + c)) ≡ 0
 good-in-tranche s i c e row column =
-    sym (fault-of-tranche s i c column) ∙ good-word s (needed s) (trancheAt s i + c) e (tranche-word-needed s i c row column) .1
+    sym (fault-of-tranche s i c row column) ∙ good-word s (needed s) (trancheAt s i + c) e (tranche-word-needed s i c row column) .1
 
 pub good-class-of :
     (s : List ℕ) (i : ℕ) → judged s (needed s) ≡ Sound → i < trancheCount s → GoodClass i (class s (i - 1)) (class s i)
@@ -184,6 +189,43 @@ good-tranche s i e row =
     (good-in-tranche s i 4 e row (omega arith))
     (good-in-tranche s i 5 e row (omega arith))
     (good-in-tranche s i 6 e row (omega arith))
+
+-- ---- the IRB section
+
+pub irb-counted : (s : List ℕ) → judged s (needed s) ≡ Sound → hasIrb s ≡ true → word s (irbAt s) ≡ irbRows
+irb-counted s e has =
+    let both =
+    no-fault-within 2 irbRows irbRows (word s (irbAt s)) (omega arith)
+    (sym (fault-of-irb-count s) ∙ good-word s (needed s) (irbAt s) e (irb-count-needed s has) .1) in
+    omega arith
+
+good-in-irb : (s : List ℕ) (c : ℕ) → judged s (needed s) ≡ Sound → hasIrb s ≡ true → c < 6 → irbFault (poolKind s) c (word s (irbPlace s c)) ≡ 0
+good-in-irb s c e has column = sym (fault-of-irb s c column) ∙ good-word s (needed s) (irbPlace s c) e (irb-word-needed s c has column) .1
+
+pub good-irb : (s : List ℕ) → judged s (needed s) ≡ Sound → hasIrb s ≡ true → GoodIrbOf s
+good-irb s e has =
+    irb-of-words (poolKind s) _ _ _ _ _ _
+    (good-in-irb s 0 e has (omega arith))
+    (good-in-irb s 1 e has (omega arith))
+    (good-in-irb s 2 e has (omega arith))
+    (good-in-irb s 3 e has (omega arith))
+    (good-in-irb s 4 e has (omega arith))
+    (good-in-irb s 5 e has (omega arith))
+
+-- the figures that are read of the section: zeros, or its words
+pub irb-figures-within :
+    (s : List ℕ) → judged s (needed s) ≡ Sound →
+    (irbFigures s .share ≤ 1000000) × ((irbFigures s .charge ≤ 1000000) × (irbFigures s .average ≤ 125000))
+unfolding irbFigures
+irb-figures-within s e = by-kind (hasIrb s) refl
+  where
+    by-kind :
+        (has : Bool) → hasIrb s ≡ has →
+        (irbFigures s .share ≤ 1000000) × ((irbFigures s .charge ≤ 1000000) × (irbFigures s .average ≤ 125000))
+    by-kind true has =
+        let g = good-irb s e has in
+        simp has (g .share-most, (g .charge-most, g .average-most))
+    by-kind false none = simp none (omega arith, (omega arith, omega arith))
 
 -- ---- the words that are there to be read
 

@@ -1,12 +1,13 @@
--- 01, "The deal sheet", and 02, S-1, for the fifth fact, and S-3, for the sixth and for maturities: where each word of a sheet stands. Places are counted from 0. A
+-- 01, "The deal sheet", and 02, S-1, for the fifth fact, S-3, for the sixth and for maturities, and S-5, for the fourth section: where each word of a sheet stands. Places are counted from 0. A
 -- count is read as it stands, however wrong: a wrong count is itself the first fault of its sheet (Refusals.antt).
-use mathlib.Core.Bool.{Bool, cond}
+use mathlib.Core.Bool.{Bool, cond, not}
 use mathlib.Core.List.{List}
 use Prim.Native.Nat.{ℕ, _+_, _*_}
 use lib.Dec.{leb, eqb}
 use lib.ListN.{getD}
-use Rattle.limits.specs.SheetSize.{rowSize, trancheSize}
+use Rattle.limits.specs.SheetSize.{rowSize, trancheSize, irbRows, irbSize}
 use Rattle.dates.specs.Maturity.{maturityMonths}
+use Rattle.irba.specs.declared.IrbFigures.{IrbFigures}
 use Rattle.judgement.specs.declared.Layout.{Layout}
 
 -- the word at a place (0 past the end)
@@ -15,6 +16,9 @@ word s p = getD s p 0
 
 -- ---- "Facts, count 4: pool kind (0 SA, 1 IRB, 2 mixed); re-securitisation; due diligence held; pool composition known." The count is at place
 -- 0, the pool kind at place 1. These four every sheet with good words has.
+
+abbrev pub poolKind : List ℕ → ℕ
+poolKind s = word s 1
 
 abbrev pub resecuritisation : List ℕ → Bool
 resecuritisation s = eqb (word s 2) 1
@@ -107,15 +111,50 @@ secondRating s i = word s (trancheAt s i + 5)
 abbrev pub thirdRating : List ℕ → ℕ → ℕ
 thirdRating s i = word s (trancheAt s i + 6)
 
+-- ---- 02, S-5: "Pool kinds 1 and 2 add a fourth section, count 1, with six words: IRB charge and average loss given default ..., effective number of loans ..., retail
+-- ..., share of exposure with an IRB charge ..., IRB average weight ..."
+
+-- whether the sheet has the section
+abbrev pub hasIrb : List ℕ → Bool
+hasIrb s = not (eqb (poolKind s) 0)
+
+-- the place of the section's count, past the last tranche
+unfoldable pub irbAt : List ℕ → ℕ
+irbAt s = trancheAt s (trancheCount s)
+
+-- the place of a word of the section's row, by its column from 0
+abbrev pub irbPlace : List ℕ → ℕ → ℕ
+irbPlace s c = irbAt s + 1 + c
+
+-- the word there, and 0 in a sheet without the section
+abbrev pub irbWord : List ℕ → ℕ → ℕ
+irbWord s c = cond (hasIrb s) (word s (irbPlace s c)) 0
+
+unfoldable pub irbFigures : List ℕ → IrbFigures
+irbFigures s = record {
+  charge = irbWord s 0;
+  loss = irbWord s 1;
+  loans = irbWord s 2;
+  retail = eqb (irbWord s 3) 1;
+  share = irbWord s 4;
+  average = irbWord s 5;
+}
+
 -- ---- how many words the sheet needs by its counts: all up to the end of its last section. Proofs go by the order of the sections in it (NeededLaws.antt).
 
-unfoldable pub needed : List ℕ → ℕ
-needed s = trancheAt s (trancheCount s)
+-- the words of the fourth section with its count
+abbrev pub irbWords : List ℕ → ℕ
+irbWords s = cond (hasIrb s) (1 + irbSize * irbRows) 0
 
--- ---- what is read of a sheet whose words are good: its facts, the places of its first pool row and of its first tranche, and how many there are of each
+unfoldable pub needed : List ℕ → ℕ
+needed s = irbAt s + irbWords s
+
+-- ---- what is read of a sheet whose words are good: its facts, the places of its first pool row and of its first tranche, how many there are of each, and the figures of
+-- its IRB section
 
 unfoldable pub layout : List ℕ → Layout
 layout s = record {
+  kind = poolKind s;
   resecuritisation = resecuritisation s;
   stc = stc s;
   diligence = dueDiligence s;
@@ -125,4 +164,5 @@ layout s = record {
   rows = rows s;
   «first_tranche» = tranchesAt s + 1;
   tranches = trancheCount s;
+  irb = irbFigures s;
 }

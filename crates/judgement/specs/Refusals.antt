@@ -1,13 +1,13 @@
--- 01, "Refusals, by who can cause them", and 02, S-1, for 16, and S-3, for 17: the fault of each word of a sheet, and the order in which they are judged. The fault of a
+-- 01, "Refusals, by who can cause them", and 02, S-1, for 16, S-3, for 17, and S-5, for 18: the fault of each word of a sheet, and the order in which they are judged. The fault of a
 -- word by its value is in WordFaults.antt of `faults`.
 use mathlib.Core.Bool.{cond}
 use mathlib.Core.List.{List}
 use Prim.Native.Nat.{ℕ, zero, suc, _+_, _-_, _/_, _%_}
 use lib.Dec.{ltb, eqb}
 use lib.ListN.{length}
-use Rattle.limits.specs.SheetSize.{factsLeast, factsMost, rowsMost, rowSize, tranchesMost, trancheSize}
-use Rattle.faults.specs.WordFaults.{countFault, factFault, rowFault, trancheFault}
-use Rattle.judgement.specs.DealSheet.{word, resecuritisation, reportingDate, poolAt, tranchesAt, amount, class, needed, layout}
+use Rattle.limits.specs.SheetSize.{factsLeast, factsMost, rowsMost, rowSize, tranchesMost, trancheSize, irbRows, irbSize}
+use Rattle.faults.specs.WordFaults.{countFault, factFault, rowFault, trancheFault, irbFault}
+use Rattle.judgement.specs.DealSheet.{word, poolKind, resecuritisation, reportingDate, poolAt, tranchesAt, amount, class, irbAt, needed, layout}
 use Rattle.judgement.specs.Outcome.{Outcome, found, refusedBy, outcome}
 use Rattle.judgement.specs.declared.Layout.{Layout}
 use Rattle.judgement.specs.declared.Verdict.{Verdict}
@@ -24,7 +24,7 @@ rowOf size at p = (p - (at + 1)) / size
 abbrev pub columnOf : ℕ → ℕ → ℕ → ℕ
 columnOf size at p = (p - (at + 1)) % size
 
--- the fault of the word at place p, by its section
+-- the fault of the word at place p, by its section; 02, S-5: "A wrong count gets 2"
 unfoldable pub fault : List ℕ → ℕ → ℕ
 fault s p =
     cond (eqb p 0) (countFault factsLeast factsMost (word s p))
@@ -32,8 +32,11 @@ fault s p =
     (cond (eqb p (poolAt s)) (countFault 1 rowsMost (word s p))
     (cond (ltb p (tranchesAt s)) (rowFault (resecuritisation s) (columnOf rowSize (poolAt s) p) (word s p))
     (cond (eqb p (tranchesAt s)) (countFault 1 tranchesMost (word s p))
+    (cond (ltb p (irbAt s))
     (let i = rowOf trancheSize (tranchesAt s) p in
-    trancheFault (reportingDate s) i (class s (i - 1)) (amount s i) (columnOf trancheSize (tranchesAt s) p) (word s p))))))
+    trancheFault (reportingDate s) i (class s (i - 1)) (amount s i) (columnOf trancheSize (tranchesAt s) p) (word s p))
+    (cond (eqb p (irbAt s)) (countFault irbRows irbRows (word s p))
+    (irbFault (poolKind s) (columnOf irbSize (irbAt s) p) (word s p))))))))
 
 -- ---- "Words are judged from place 0 upward and the first bad one decides, at its own place."
 

@@ -2,14 +2,17 @@
 ghost use mathlib.Core.Path.{_≡_};
 ghost use Prim.Native.Nat.{_+_, _-_, _<_};
 ghost use lib.ListN.{length};
-ghost use Rattle.judgement.specs.DealSheet.{poolAt, rows, rowAt, tranchesAt, trancheCount, trancheAt, class};
+ghost use mathlib.Core.Bool.{true};
+ghost use Rattle.judgement.specs.DealSheet.{poolAt, rows, rowAt, tranchesAt, trancheCount, trancheAt, class, hasIrb, irbAt, needed};
 ghost use Rattle.judgement.specs.Refusals.{judgeWith, judged, numbersOf, wordsNumbers};
 ghost use Rattle.judgement.specs.Judged.{NumbersMean};
 ghost use Rattle.judgement.specs.declared.Verdict.the-variants.{Sound};
 
 mod sheet;
 
+use crate::sheet::end_of;
 use crate::sheet::fact_at;
+use crate::sheet::irb_at;
 use crate::sheet::layout_of;
 use crate::sheet::pool_at;
 use crate::sheet::row_at;
@@ -20,11 +23,15 @@ use crate::sheet::tranches_at;
 use crate::sheet::word_at;
 use faults::count_fault;
 use faults::fact_fault;
+use faults::irb_fault;
 use faults::row_fault;
 use faults::row_is_good;
 use faults::tranche_fault;
+use irba::IrbFigures;
 use limits::FACTS_LEAST;
 use limits::FACTS_MOST;
+use limits::IRB_ROWS;
+use limits::IRB_SIZE;
 use limits::ROW_SIZE;
 use limits::ROWS_MOST;
 use limits::TRANCHE_SIZE;
@@ -43,8 +50,10 @@ pub enum Verdict {
     Faulty(Refusal),
 }
 
-// What is read of a sheet whose words are good: its facts, the places of its first pool row and of its first tranche, and how many there are of each.
+// What is read of a sheet whose words are good: its facts, the places of its first pool row and of its first tranche, how many there are of each, and the figures of its
+// IRB section, zeros where it has none.
 pub struct Layout {
+    pub kind: u64,
     pub resecuritisation: bool,
     pub stc: bool,
     pub diligence: bool,
@@ -54,6 +63,7 @@ pub struct Layout {
     pub rows: u64,
     pub first_tranche: usize,
     pub tranches: u64,
+    pub irb: IrbFigures,
 }
 
 // What the words of a sheet are found to be: good, with what is read of them; or refused by the first fault.
@@ -241,18 +251,60 @@ fn judge_tranches(s: &[u64]) -> Verdict
     Verdict::Sound
 }
 
+// The six words of the IRB section's row, by the pool's kind.
+fn judge_irb_row(s: &[u64]) -> Verdict
+    requires { ⌜ (judged (now s) (irbAt (now s) + 1) ≡ Sound) × (hasIrb (now s) ≡ true) ⌝ }
+    ensures { λ r. ⌜ r ≡ judged (now (s .entry)) (needed (now (s .entry))) ⌝ }
+{
+    let kind = word_at(s, 1);
+    let at = irb_at(s) + 1;
+    let mut column = 0;
+    while column < IRB_SIZE as u64 {
+        let p = at + column;
+        let verdict = judge_word(s, p, irb_fault(kind, column, word_at(s, p)));
+        let Verdict::Sound = verdict else {
+            return verdict;
+        };
+        column += 1;
+    }
+    Verdict::Sound
+}
+
+// The facts, the pool, the tranches and, where the pool's kind asks for one, the IRB section: every word that the sheet needs.
+fn judge_needed(s: &[u64]) -> Verdict
+    ensures { λ r. ⌜ r ≡ judged (now (s .entry)) (needed (now (s .entry))) ⌝ }
+{
+    let tranches = judge_tranches(s);
+    let Verdict::Sound = tranches else {
+        return tranches;
+    };
+    if word_at(s, 1) == 0 {
+        return Verdict::Sound;
+    }
+    let at = irb_at(s);
+    let count = judge_word(
+        s,
+        at,
+        count_fault(IRB_ROWS as u64, IRB_ROWS as u64, word_at(s, at)),
+    );
+    let Verdict::Sound = count else {
+        return count;
+    };
+    judge_irb_row(s)
+}
+
 // Every word that the sheet needs, and then that none follows: all that the words alone decide. `numbersOf` gives 01's number and place of a refusal, and where
 // there is none what is read of the sheet.
 pub fn judge_words(s: &[u64]) -> Words
     ensures { λ r. ⌜ numbersOf r ≡ wordsNumbers (now (s .entry)) ⌝ }
     ensures { λ r. ⌜ NumbersMean (now (s .entry)) (numbersOf r) ⌝ }
 {
-    let words = judge_tranches(s);
+    let words = judge_needed(s);
     if let Verdict::Faulty(r) = words {
         return Words::Bad(r);
     }
     let layout = layout_of(s);
-    let end = tranche_at(s, layout.tranches);
+    let end = end_of(s);
     if end < s.len() as u64 {
         return Words::Bad(Refusal {
             number: 3,

@@ -1,10 +1,14 @@
 // Where the words of a sheet stand. A place is worked out only once the counts before it are good.
 ghost use mathlib.Core.Path.{_≡_};
-ghost use Prim.Native.Nat.{_+_, _≤_};
-ghost use Rattle.judgement.specs.DealSheet.{word, fact, poolAt, rows, rowAt, tranchesAt, trancheCount, trancheAt, needed, layout};
+ghost use Prim.Native.Nat.{_+_, _≤_, _<_};
+ghost use Rattle.limits.specs.SheetSize.{irbSize};
+ghost use Rattle.judgement.specs.DealSheet.{word, fact, poolAt, rows, rowAt, tranchesAt, trancheCount, trancheAt, irbAt, irbPlace, irbFigures, needed, layout};
 ghost use Rattle.judgement.specs.Refusals.{judged};
 ghost use Rattle.judgement.specs.declared.Verdict.the-variants.{Sound};
 use crate::Layout;
+use irba::IrbFigures;
+use limits::IRB_ROWS;
+use limits::IRB_SIZE;
 use limits::ROW_SIZE;
 use limits::TRANCHE_SIZE;
 
@@ -62,12 +66,65 @@ pub(crate) fn tranche_count(s: &[u64]) -> u64
     word_at(s, tranches_at(s))
 }
 
-// The place of tranche i, from 0; that past the last tranche is the number of words that the sheet needs.
+// The place of tranche i, from 0; that past the last tranche is the place of the IRB section's count.
 pub(crate) fn tranche_at(s: &[u64], i: u64) -> u64
     requires { ⌜ (judged (now s) (tranchesAt (now s) + 1) ≡ Sound) × (i ≤ trancheCount (now s)) ⌝ }
     ensures { λ r. ⌜ r ≡ trancheAt (now (s .entry)) i ⌝ }
 {
     tranches_at(s) + 1 + TRANCHE_SIZE as u64 * i
+}
+
+// The place of the IRB section's count, past the last tranche.
+pub(crate) fn irb_at(s: &[u64]) -> u64
+    requires { ⌜ judged (now s) (tranchesAt (now s) + 1) ≡ Sound ⌝ }
+    ensures { λ r. ⌜ r ≡ irbAt (now (s .entry)) ⌝ }
+{
+    tranche_at(s, tranche_count(s))
+}
+
+// The number of words that the sheet needs: the place past its last section, which for an SA pool is that of the tranches.
+pub(crate) fn end_of(s: &[u64]) -> u64
+    requires { ⌜ judged (now s) (tranchesAt (now s) + 1) ≡ Sound ⌝ }
+    ensures { λ r. ⌜ r ≡ needed (now (s .entry)) ⌝ }
+{
+    let end = irb_at(s);
+    if word_at(s, 1) == 0 {
+        return end;
+    }
+    end + 1 + (IRB_SIZE * IRB_ROWS) as u64
+}
+
+// A word of the IRB section's row, by its column from 0.
+fn irb_word(s: &[u64], column: u64) -> u64
+    requires { ⌜ (judged (now s) (tranchesAt (now s) + 1) ≡ Sound) × (column < irbSize) ⌝ }
+    ensures { λ r. ⌜ r ≡ word (now (s .entry)) (irbPlace (now (s .entry)) column) ⌝ }
+{
+    word_at(s, irb_at(s) + 1 + column)
+}
+
+// The figures of the IRB section; zeros where the sheet has none.
+fn irb_figures(s: &[u64]) -> IrbFigures
+    requires { ⌜ judged (now s) (tranchesAt (now s) + 1) ≡ Sound ⌝ }
+    ensures { λ r. ⌜ r ≡ irbFigures (now (s .entry)) ⌝ }
+{
+    if word_at(s, 1) == 0 {
+        return IrbFigures {
+            charge: 0,
+            loss: 0,
+            loans: 0,
+            retail: false,
+            share: 0,
+            average: 0,
+        };
+    }
+    IrbFigures {
+        charge: irb_word(s, 0),
+        loss: irb_word(s, 1),
+        loans: irb_word(s, 2),
+        retail: irb_word(s, 3) == 1,
+        share: irb_word(s, 4),
+        average: irb_word(s, 5),
+    }
 }
 
 // What is read of a sheet whose words are good. Each word that every sheet has is there, so it is read where it stands.
@@ -79,6 +136,7 @@ pub(crate) fn layout_of(s: &[u64]) -> Layout
     let rows = s[pool];
     let tranches = pool + 1 + ROW_SIZE * rows as usize;
     Layout {
+        kind: s[1],
         resecuritisation: s[2] == 1,
         stc: fact_at(s, 5) == 1,
         diligence: s[3] == 1,
@@ -88,5 +146,6 @@ pub(crate) fn layout_of(s: &[u64]) -> Layout
         rows,
         first_tranche: tranches + 1,
         tranches: s[tranches],
+        irb: irb_figures(s),
     }
 }

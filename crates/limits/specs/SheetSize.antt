@@ -1,5 +1,5 @@
 -- 01, "The deal sheet": how many words a sheet, its rows and its results have, and "Refusals": how long a sheet's file may be; 02, S-1 and S-3, for the fifth and the
--- sixth fact. Every limit that follows from another is worked out here from its parts.
+-- sixth fact, and S-5 for the fourth section. Every limit that follows from another is worked out here from its parts.
 use Prim.Native.Nat.{ℕ, _+_, _*_}
 
 -- ---- "Facts, count 4"; S-1: "A fifth fact says so (0 no, 1 yes); a sheet with four facts counts as 0."; S-3: "A sixth fact is the reporting date, ...; 0 or absent
@@ -29,14 +29,23 @@ tranchesMost = 32
 abbrev pub trancheSize : ℕ
 trancheSize = 7
 
--- ---- "Three sections in this order, each after its count"
+-- ---- 02, S-5: "Pool kinds 1 and 2 add a fourth section, count 1, with six words"
 
--- the words of the longest sheet: three counts, facts, pool rows and tranches; 4,233
+abbrev pub irbRows : ℕ
+irbRows = 1
+
+-- the words of its row
+abbrev pub irbSize : ℕ
+irbSize = 6
+
+-- ---- "Three sections in this order, each after its count", and S-5's fourth
+
+-- the words of the longest sheet: four counts, facts, pool rows, tranches and the IRB section; 4,240
 abbrev pub wordLimit : ℕ
-wordLimit = 3 + factsMost + rowSize * rowsMost + trancheSize * tranchesMost
+wordLimit = 4 + factsMost + rowSize * rowsMost + trancheSize * tranchesMost + irbSize * irbRows
 
 -- "The file form is the same words, eight bytes each"; "15 (reading a file only): length not a multiple of 8 or over ... bytes": the bytes of the longest sheet. "Here and
--- later, each word a sheet may gain raises the byte limit of 15 by 8.": with 01's 33,848 for four facts it is 33,864, `byte-limit-is` (proofs/SheetSizeLaws.antt).
+-- later, each word a sheet may gain raises the byte limit of 15 by 8.": with 01's 33,848 for four facts and three sections it is 33,920, `byte-limit-is` (proofs/SheetSizeLaws.antt).
 abbrev pub byteLimit : ℕ
 byteLimit = 8 * wordLimit
 

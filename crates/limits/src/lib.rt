@@ -16,11 +16,17 @@ pub const TRANCHES_MOST: usize = 32;
 
 pub const TRANCHE_SIZE: usize = 7;
 
+// The rows of the IRB section, and the words of one.
+pub const IRB_ROWS: usize = 1;
+
+pub const IRB_SIZE: usize = 6;
+
 // The words of a tranche's line in the results.
 pub const LINE_SIZE: usize = 6;
 
-// The most words that a sheet has: three counts, facts, pool rows and tranches.
-pub const WORD_LIMIT: usize = 3 + FACTS_MOST + ROW_SIZE * ROWS_MOST + TRANCHE_SIZE * TRANCHES_MOST;
+// The most words that a sheet has: four counts, facts, pool rows, tranches and the IRB section.
+pub const WORD_LIMIT: usize =
+    4 + FACTS_MOST + ROW_SIZE * ROWS_MOST + TRANCHE_SIZE * TRANCHES_MOST + IRB_SIZE * IRB_ROWS;
 
 // The most bytes that a sheet's file has, eight for each word.
 pub const BYTE_LIMIT: usize = 8 * WORD_LIMIT;

@@ -15,7 +15,7 @@ use Rattle.formula.specs.FixedPoint.{fineDecay, decayBelow, decayAbove, meanDec
 use Rattle.series.proofs.EndLaws.{passing-close}
 use Rattle.ratings.specs.RatingTable.{exactWeight, weightByRating, weightByRatings}
 use Rattle.weights.specs.ApproachFloorCap.{formulaRawWeight, tableWeight, weight, thin}
-use Rattle.judgement.specs.DealSheet.{poolAt, rows, tranchesAt, trancheCount, needed, layout}
+use Rattle.judgement.specs.DealSheet.{poolAt, rows, tranchesAt, trancheCount, irbAt, irbFigures, needed, layout}
 use Rattle.numbers.specs.Sum.{sum}
 use Rattle.charge.specs.PoolCharge.{knownCharge, poolCharge}
 use Rattle.pool.specs.PoolSums.{poolSums}
@@ -33,7 +33,7 @@ pub checked-deals : allHold checks ≡ true
 unfolding
     checks
     lowestFirst wordsTo bytesOf fileBytes
-    poolAt rows tranchesAt trancheCount needed layout
+    poolAt rows tranchesAt trancheCount irbAt irbFigures needed layout
     fault judge firstOf wordsVerdict verdict
     sum poolSums knownCharge poolCharge seniorAmount attachmentPoint detachmentPoint
     exactWeight weightByRating weightByRatings

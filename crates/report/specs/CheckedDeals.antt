@@ -175,16 +175,16 @@ checks =
     firstLine cappedSheet (1 ∷ 0 ∷ 1000000 ∷ 1000 ∷ 100 ∷ 8 ∷ []) ∷
     -- "Rows (2, 100%) and (1, 50%): base 66,667, cap 8,334."
     acceptedAt twoRowSheet 66667 ∷
-    eqb (baseCharge (poolSums twoRowSheet)) 66667 ∷
+    eqb (baseCharge (poolSums twoRowSheet .known)) 66667 ∷
     eqb (poolAverage (poolSums twoRowSheet)) 8334 ∷
     firstLine twoRowSheet (1 ∷ 0 ∷ 1000000 ∷ 8334 ∷ 3 ∷ 1 ∷ []) ∷
     -- "Base 80,000, none late, 5% unknown: charge 126,000;
-    eqb (baseCharge (poolSums unknownSheet)) 80000 ∷
+    eqb (baseCharge (poolSums unknownSheet .known)) 80000 ∷
     eqb (lateShare (poolSums unknownSheet)) 0 ∷
     acceptedAt unknownSheet 126000 ∷
     eqb (approach (tranche unknownSheet 0) (terms unknownSheet)) 2 ∷
     -- 5.1%: fallback."
-    eqb (baseCharge (poolSums moreUnknownSheet)) 80000 ∷
+    eqb (baseCharge (poolSums moreUnknownSheet .known)) 80000 ∷
     eqb (lateShare (poolSums moreUnknownSheet)) 0 ∷
     acceptedAt moreUnknownSheet 1000000 ∷
     firstLine moreUnknownSheet (0 ∷ 0 ∷ 1000000 ∷ 125000 ∷ 12500 ∷ 1000 ∷ []) ∷

@@ -36,7 +36,7 @@ fn put_answer(answer: Answer, place: &mut u64, count: &mut u64, charge: &mut u64
 
 // Weighs every tranche of a deal sheet, as deal::weigh does.
 #[no_mangle]
-pub extern "C" fn tranche_weights_weigh_v4(
+pub extern "C" fn tranche_weights_weigh_v5(
     sheet: &[u64],
     results: &mut [u64],
     place: &mut u64,
@@ -53,7 +53,7 @@ pub extern "C" fn tranche_weights_weigh_v4(
 
 // Weighs every tranche of the deal sheet that a file's bytes hold, as deal_file::weigh_file does.
 #[no_mangle]
-pub extern "C" fn tranche_weights_weigh_file_v4(
+pub extern "C" fn tranche_weights_weigh_file_v5(
     file: &[u8],
     results: &mut [u64],
     place: &mut u64,
@@ -71,7 +71,7 @@ pub extern "C" fn tranche_weights_weigh_file_v4(
 // Writes the report's text on a file, as report::report does. The answer is the text's length; it was written where that is at most the room lent, and
 // else nothing was.
 #[no_mangle]
-pub extern "C" fn tranche_weights_report_v4(file: &[u8], text: &mut [u8]) -> u64
+pub extern "C" fn tranche_weights_report_v5(file: &[u8], text: &mut [u8]) -> u64
     ensures { λ r. ⌜ r ≡ length (fileText (now (file .entry))) ⌝ }
     ensures { λ r. ⌜ now (text .exit) ≡ textAfter (fileText (now (file .entry))) (now (text .entry)) ⌝ }
     ensures { λ r. ⌜ r ≤ textRoom ⌝ }

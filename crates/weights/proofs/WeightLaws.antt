@@ -10,12 +10,13 @@ use native.Mathlib.Nat.{eq-zero-or-pos, le-refl}
 use native.Mathlib.Omega.{arith}
 use lib.Dec.{eqb}
 use borrow.Author.Tests.{ltb-false, eqb-true, eq-eqb, ne-eqb}
-use Rattle.numbers.proofs.Tests.{at-cond, cond-le}
+use Rattle.numbers.proofs.Tests.{at-cond, cond-le, either-true}
 use Rattle.formula.specs.Formula.{WithinLimits}
 use Rattle.formula.specs.FixedPoint.{withinLimits, rawWeight}
 use Rattle.formula.proofs.RawWeightLaw.{raw-weight-is}
 use Rattle.formula.proofs.Limits.{limits-of-test}
-use Rattle.ratings.specs.RatingTable.{ordinaryFigures, figuresOf, pick, weightByRatings}
+use Rattle.irba.proofs.ParameterLimits.{parameter-least, parameter-most}
+use Rattle.ratings.specs.RatingTable.{maturityFifths, ordinaryFigures, figuresOf, pick, weightByRatings}
 use Rattle.ratings.proofs.PickLaws.{pick-of-rising}
 use Rattle.ratings.proofs.TableLaws.{figures-at-most, weight-by-ratings-at-most}
 use Rattle.weights.specs.ApproachFloorCap.{approach, formulaApproach, byFormula, parameter, floor, capApplies, afterFloorAndCap, weightOrHighest, formulaRawWeight, tableWeight, weight, WeightByFormula, thin}
@@ -35,8 +36,10 @@ table-weighs t d by = simp by
 -- an approach that weighs by the formula is not the fallback
 not-fallback : (by : ℕ) → formulaApproach by ≡ true → eqb by 0 ≡ false
 not-fallback by e =
-    let sec-sa : by ≡ 2 = eqb-true by 2 e in
-    ne-eqb by 0 (λ zero. omega arith)
+    ⊎-elim
+    (λ two. let sec-sa = eqb-true by 2 two in ne-eqb by 0 (λ zero. omega arith))
+    (λ three. let sec-irba = eqb-true by 3 three in ne-eqb by 0 (λ zero. omega arith))
+    (either-true (eqb by 2) (eqb by 3) e)
 
 pub formula-weight : (t : Tranche) (d : Terms) → byFormula t d ≡ true → weight t d ≡ afterFloorAndCap t d (formulaRawWeight t d)
 unfolding weight
@@ -67,8 +70,8 @@ ratings-not-used t t′ d r same-attachment same-detachment same-senior = (simp 
 -- ---- the STC mark
 
 -- a deal without it has the parameter, the floor and the table weight of 01
-pub unmarked-parameter : (t : Tranche) (d : Terms) → d .stc ≡ false → parameter t d ≡ cond (d .resecuritisation) 1500000 1000000
-unmarked-parameter t d e = simp e
+pub unmarked-parameter : (t : Tranche) (d : Terms) → d .irba ≡ false → d .stc ≡ false → parameter t d ≡ cond (d .resecuritisation) 1500000 1000000
+unmarked-parameter t d not-irba e = simp (not-irba, e)
 
 pub unmarked-floor : (t : Tranche) (d : Terms) → d .stc ≡ false → floor t d ≡ cond (d .resecuritisation) 10000 1500
 unmarked-floor t d e = simp e
@@ -93,9 +96,14 @@ parameter-within t d =
     at-cond (λ p. (300000 ≤ p) × (p < 5000000)) (d .resecuritisation) _ _
     (λ _. (omega arith, omega arith))
     (λ _.
+    at-cond (λ p. (300000 ≤ p) × (p < 5000000)) (d .irba) _ _
+    (λ _.
+    (parameter-least (t .senior) (d .stc) (d .charge) (maturityFifths (t .months)) (d .irb),
+    parameter-most (t .senior) (d .stc) (d .charge) (maturityFifths (t .months)) (d .irb)))
+    (λ _.
     at-cond (λ p. (300000 ≤ p) × (p < 5000000)) (d .stc) _ _
     (λ _. (omega arith, omega arith))
-    (λ _. (omega arith, omega arith)))
+    (λ _. (omega arith, omega arith))))
 
 -- ---- no weight is above 125,000
 

@@ -1,4 +1,4 @@
--- 01, "Which approach, then floor, then cap", and S-1 of 02, "STC deals" (d374 paragraph 31 for due diligence, 42 to 47 for the order of approaches, which
+-- 01, "Which approach, then floor, then cap", and 02, S-1, "STC deals", and S-5, "SEC-IRBA" (d374 paragraph 31 for due diligence, 42 to 47 for the order of approaches, which
 -- CRE40.41 to CRE40.47 give; 85 and 94 for the parameter, 87 and 96 for the floor, 88, 89 and 97 for the cap; CRE42.14 for the floors of STC deals): approach
 -- and weight of a tranche, as functions of the tranche's own inputs and of the deal's terms alone. Weights are counted in hundredths of a percent.
 use mathlib.Core.Bool.{Bool, cond, not, _&&_, _||_}
@@ -9,7 +9,8 @@ use lib.Dec.{ltb, eqb}
 use Rattle.formula.specs.FixedPoint.{rawWeight}
 use Rattle.formula.specs.Formula.{RawWeightNumbers, IsRawWeight}
 use Rattle.rating_codes.specs.RatingCodes.{present}
-use Rattle.ratings.specs.RatingTable.{figuresOf, weightByRatings}
+use Rattle.ratings.specs.RatingTable.{maturityFifths, figuresOf, weightByRatings}
+use Rattle.irba.specs.Parameter.{parameter as irbaParameter}
 use Rattle.weights.specs.declared.Terms.{Terms}
 use Rattle.weights.specs.declared.Tranche.{Tranche}
 
@@ -19,19 +20,22 @@ use Rattle.weights.specs.declared.Tranche.{Tranche}
 abbrev pub rated : Tranche → Bool
 rated t = present (t .first) || present (t .second) || present (t .third)
 
--- 0 fallback, 1 SEC-ERBA, 2 SEC-SA. "In order: no due diligence, fallback. Re-securitisation, SEC-SA. Any of the tranche's three ratings present,
--- SEC-ERBA. Unknown above 5%, fallback. Else SEC-SA."
+-- 0 fallback, 1 SEC-ERBA, 2 SEC-SA, 3 SEC-IRBA. "In order: no due diligence, fallback. Re-securitisation, SEC-SA. Any of the tranche's three ratings present,
+-- SEC-ERBA. Unknown above 5%, fallback. Else SEC-SA." S-5: where SEC-IRBA applies to the deal (`irbaApplies`, IrbPool.antt of `irba`), "approach 3: ... ratings and late payers
+-- play no part"
 abbrev pub approach : Tranche → Terms → ℕ
 approach t d =
     cond (not (d .diligence)) 0
     (cond (d .resecuritisation) 2
+    (cond (d .irba) 3
     (cond (rated t) 1
     (cond (not (d .known)) 0
-    2)))
+    2))))
 
--- the approach that weighs by the formula: SEC-SA
+-- the approaches that weigh by the formula: SEC-SA and SEC-IRBA. S-5: "The raw weight is that of 01's formula with this charge and parameter, and what demand 3 and 01 say of
+-- SEC-SA lines holds for approach 3 lines too."
 abbrev pub formulaApproach : ℕ → Bool
-formulaApproach by = eqb by 2
+formulaApproach by = eqb by 2 || eqb by 3
 
 -- whether the tranche is weighed by the formula
 abbrev pub byFormula : Tranche → Terms → Bool
@@ -40,9 +44,13 @@ byFormula t d = formulaApproach (approach t d)
 -- ---- weight
 
 -- "An ordinary securitisation has supervisory parameter 1 and floor 1,500; a re-securitisation has 1.5 and 10,000." "STC deals use ... parameter 0.5,
--- floor 1,000 for class 1 and 1,500 below." "The exact value is then taken with 0.5.": demand 3 reads this parameter
+-- floor 1,000 for class 1 and 1,500 below." "The exact value is then taken with 0.5.": demand 3 reads this parameter. S-5: under approach 3 it is the one of Parameter.antt of
+-- `irba`, "per charge (the one just worked out)", which is the deal's, "per year of tranche maturity", which is 01's
 abbrev pub parameter : Tranche → Terms → ℕ
-parameter t d = cond (d .resecuritisation) 1500000 (cond (d .stc) 500000 1000000)
+parameter t d =
+    cond (d .resecuritisation) 1500000
+    (cond (d .irba) (irbaParameter (t .senior) (d .stc) (d .charge) (maturityFifths (t .months)) (d .irb))
+    (cond (d .stc) 500000 1000000))
 
 abbrev pub floor : Tranche → Terms → ℕ
 floor t d = cond (d .resecuritisation) 10000 (cond (d .stc) (cond (t .senior) 1000 1500) 1500)
@@ -51,7 +59,8 @@ floor t d = cond (d .resecuritisation) 10000 (cond (d .stc) (cond (t .senior) 10
 abbrev pub capApplies : Tranche → Terms → Bool
 capApplies t d = t .senior && not (d .resecuritisation) && d .composition
 
--- "The weight is raised to the floor, then lowered to the cap, also below the floor."
+-- "The weight is raised to the floor, then lowered to the cap, also below the floor." The cap is the terms' average: S-5: under approach 3 "the IRB average takes the place of the
+-- pool average in the cap"
 abbrev pub afterFloorAndCap : Tranche → Terms → ℕ → ℕ
 afterFloorAndCap t d w =
     let raised = max w (floor t d) in
@@ -61,7 +70,7 @@ afterFloorAndCap t d w =
 abbrev pub weightOrHighest : RawWeightNumbers → ℕ
 weightOrHighest n = Option·getD (n .weight) 125000
 
--- "A SEC-SA line's weight is its tranche's raw weight after floor and cap."
+-- "A SEC-SA line's weight is its tranche's raw weight after floor and cap.", and so is that of an approach 3 line
 unfoldable pub formulaRawWeight : Tranche → Terms → ℕ
 formulaRawWeight t d = weightOrHighest (rawWeight (t .attachment) (t .detachment) (d .charge) (parameter t d))
 
@@ -85,7 +94,7 @@ pub record WeightByFormula (t : Tranche) (d : Terms) (w : ℕ) : Type 0 where
   pub is-raw : IsRawWeight (t .attachment) (t .detachment) (d .charge) (parameter t d) raw
   pub weight-is : w ≡ afterFloorAndCap t d (weightOrHighest raw)
 
--- ---- "13: SEC-SA applies, A equals D, and D is above the pool charge"
+-- ---- "13: SEC-SA applies, A equals D, and D is above the pool charge"; S-5: "the thin-tranche refusal covers approach 3 tranches, and it ... read[s] this charge"
 
 unfoldable pub thin : Tranche → Terms → Bool
 thin t d = byFormula t d && eqb (t .attachment) (t .detachment) && ltb (d .charge) (t .detachment)

@@ -3,21 +3,24 @@ ghost use mathlib.Core.Bool.{true};
 ghost use mathlib.Core.Path.{_≡_};
 ghost use Rattle.weights.specs.ApproachFloorCap.{rated, approach, formulaApproach, byFormula, parameter, floor, capApplies, afterFloorAndCap, formulaRawWeight, tableWeight, weight, WeightByFormula, thin};
 use formula::RawWeight;
+use irba::IrbFigures;
 use numbers::excess;
 use numbers::larger;
 use numbers::smaller;
 
 // What the tranches of a deal share: whether due diligence is held, whether it is a re-securitisation, whether it is simple, transparent and
-// comparable (STC), whether the pool's composition is known, whether the status of its rows is known but for up to 5% of exposure, its charge in
-// millionths, and its average risk weight.
+// comparable (STC), whether the pool's composition is known, whether SEC-IRBA applies, whether the status of the pool's rows is known but for up to 5% of exposure, its charge
+// in millionths, its average risk weight, and the figures of its IRB section.
 pub struct Terms {
     pub diligence: bool,
     pub resecuritisation: bool,
     pub stc: bool,
     pub composition: bool,
+    pub irba: bool,
     pub known: bool,
     pub charge: u64,
     pub average: u64,
+    pub irb: IrbFigures,
 }
 
 // What is a tranche's own: its points, whether it is of the senior class, its months to maturity, the amount held and its three ratings.
@@ -75,7 +78,7 @@ fn rated(t: Tranche) -> bool
     rating_codes::is_present(t.third)
 }
 
-// The approach: 0 fallback, 1 SEC-ERBA, 2 SEC-SA.
+// The approach: 0 fallback, 1 SEC-ERBA, 2 SEC-SA, 3 SEC-IRBA.
 pub fn approach(t: Tranche, d: Terms) -> u64
     ensures { λ r. ⌜ r ≡ approach t d ⌝ }
 {
@@ -84,6 +87,9 @@ pub fn approach(t: Tranche, d: Terms) -> u64
     }
     if d.resecuritisation {
         return 2;
+    }
+    if d.irba {
+        return 3;
     }
     if rated(t) {
         return 1;
@@ -94,19 +100,31 @@ pub fn approach(t: Tranche, d: Terms) -> u64
     2
 }
 
-// Whether an approach weighs by the formula: SEC-SA does.
+// Whether an approach weighs by the formula: SEC-SA and SEC-IRBA do.
 fn formula_approach(by: u64) -> bool
     ensures { λ r. ⌜ r ≡ formulaApproach by ⌝ }
 {
-    by == 2
+    if by == 2 {
+        return true;
+    }
+    by == 3
 }
 
-// The supervisory parameter, by the deal's kind.
+// The supervisory parameter: under SEC-IRBA worked out for the tranche, else by the deal's kind.
 fn parameter(t: Tranche, d: Terms) -> u64
     ensures { λ r. ⌜ r ≡ parameter t d ⌝ }
 {
     if d.resecuritisation {
         return Resecuritisation::PARAMETER;
+    }
+    if d.irba {
+        return irba::parameter(
+            t.senior,
+            d.stc,
+            d.charge,
+            ratings::maturity_fifths(t.months),
+            d.irb,
+        );
     }
     if d.stc {
         return Stc::PARAMETER;

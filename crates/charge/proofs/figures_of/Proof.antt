@@ -20,11 +20,14 @@ limits c = limits-of-test (c .before .before .args .q) (passed c)
 sums-within-requires : tie.Need-sums-within-requires
 sums-within-requires c κs = search needs
 
+highest-figures-requires : tie.Need-highest-figures-requires
+highest-figures-requires c κs = search needs
+
 returns : tie.Need-returns
 unfolding figures
 returns c =
-    let asked = c .before .sums-within in
-    simp (sym (asked .ensures) ∙ not-true (asked .result) (c .if1 .taken))
+    let asked = c .before .before .sums-within in
+    simp (sym (asked .ensures) ∙ not-true (asked .result) (c .before .if1 .taken), c .highest-figures .ensures)
 
 mostly-known-requires : tie.Need-mostly-known-requires
 mostly-known-requires c κs = limits c
@@ -50,6 +53,7 @@ figures-of-spec =
     tie.close
     (tie.spec
     sums-within-requires
+    highest-figures-requires
     returns
     mostly-known-requires
     pool-charge-requires

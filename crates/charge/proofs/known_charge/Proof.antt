@@ -4,18 +4,18 @@ use native.Mathlib.Nat.{mul-le-mul-left}
 use native.Mathlib.Omega.{arith}
 use borrow.Author.Needs.{needs}
 use Rattle.charge.specs.PoolCharge.{knownCharge}
-use Rattle.charge.proofs.PoolLaws.{base-at-most-million, late-at-most-million}
+use Rattle.charge.proofs.PoolLaws.{known-limits, base-at-most-million, late-at-most-million}
 use Rattle.charge.proofs.known_charge.Statement.{statement}
 use Rattle.charge.proofs.known_charge.Tie as tie
 
 base-most : (c : tie.After-base-charge) → c .base-charge .result ≤ 1000000
-base-most c = simp (c .base-charge .ensures) (base-at-most-million (c .before .args .q) (c .before .pre))
+base-most c = simp (c .base-charge .ensures) (base-at-most-million (c .before .args .q .known) (known-limits (c .before .args .q) (c .before .pre)))
 
 late-most : (c : tie.After-late-share) → c .late-share .result ≤ 1000000
 late-most c = simp (c .late-share .ensures) (late-at-most-million (c .before .before .args .q) (c .before .before .pre))
 
 base-charge-requires : tie.Need-base-charge-requires
-base-charge-requires c κs = search needs
+base-charge-requires c κs = known-limits (c .args .q) (c .pre)
 
 late-share-requires : tie.Need-late-share-requires
 late-share-requires c κs = search needs

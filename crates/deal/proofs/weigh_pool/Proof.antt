@@ -3,15 +3,16 @@ use mathlib.Core.Path.{_≡_, _∙_, sym, ap}
 use Prim.Native.Nat.{_≤_}
 use native.Mathlib.Omega.{arith}
 use borrow.Author.Needs.{needs}
-use Rattle.charge.specs.SumLimits.{SumLimits}
+use Rattle.charge.specs.SumLimits.{SumLimits, IrbLimits}
 use Rattle.charge.specs.declared.Sums.{Sums}
-use Rattle.judgement.specs.DealSheet.{trancheCount}
+use Rattle.judgement.specs.DealSheet.{trancheCount, layout}
 use Rattle.judgement.specs.LaidOut.{LaidOut}
 use Rattle.judgement.proofs.LayoutLaws.{tranches-is}
 use Rattle.judgement.proofs.SheetLimits.{tranches-counted, tranches-within}
 use Rattle.pool.proofs.PoolLaws.{sum-limits}
 use Rattle.weights.specs.declared.Terms.{Terms}
 use Rattle.deal.specs.Lines.{terms}
+use Rattle.deal.proofs.TermsLaws.{irb-limits}
 use Rattle.deal.proofs.WeighSteps.{open-laid-out, open-terms, refused-for-room, decided-by-thickness, refused-answer, weighed-answer}
 use Rattle.deal.proofs.weigh_pool.Statement.{statement}
 use Rattle.deal.proofs.weigh_pool.Tie as tie
@@ -23,6 +24,10 @@ laid c = open-laid-out _ _ _ (c .pre)
 
 limits : (c : tie.Start) → SumLimits (c .args .sums)
 limits c = rw (c .pre .are-sums) (sum-limits (c .args .sheet .now) (laid c .good))
+
+irb : (c : tie.Start) → IrbLimits (c .args .l .irb)
+unfolding layout
+irb c = rw (c .pre .is-layout) (irb-limits (c .args .sheet .now) (laid c .good))
 
 -- the layout's number of tranches is the sheet's, and small
 counted : (c : tie.Start) → c .args .l .tranches ≡ trancheCount (c .args .sheet .now)
@@ -40,7 +45,7 @@ returns c =
     refused-answer _ _ (refused-for-room _ _ (start .pre .sound) (omega (arith, counted start)))
 
 terms-of-requires : tie.Need-terms-of-requires
-terms-of-requires c κs = limits (c .before .before .before)
+terms-of-requires c κs = let start = c .before .before .before in (limits start, irb start)
 
 class-points-requires : tie.Need-class-points-requires
 class-points-requires c κs =

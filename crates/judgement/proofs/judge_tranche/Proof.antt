@@ -59,7 +59,7 @@ column-judged c =
     let start = l .before .before .before .before .before .before in
     let s = start .args .s .now in
     let i = start .args .i in
-    word-judged s (trancheAt s i + l .loop .column) (l .loop .inv .1) (fault-of-tranche s i (l .loop .column) (omega arith))
+    word-judged s (trancheAt s i + l .loop .column) (l .loop .inv .1) (fault-of-tranche s i (l .loop .column) (omega arith) (omega arith))
     (c .judge-word .ensures ∙
     simp (
       c .before .tranche-fault .ensures,

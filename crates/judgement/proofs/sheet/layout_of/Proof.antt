@@ -9,7 +9,7 @@ use Rattle.limits.specs.SheetSize.{factsLeast, factsMost, rowsMost}
 use Rattle.judgement.specs.DealSheet.{poolAt, rows, tranchesAt, trancheCount, needed, layout}
 use Rattle.judgement.specs.Refusals.{judged}
 use Rattle.judgement.specs.declared.Verdict.the-variants.{Sound}
-use Rattle.judgement.proofs.SheetLimits.{facts-within, pool-at-within, facts-counted, pool-counted, rows-within, fact-there, tranche-count-there}
+use Rattle.judgement.proofs.SheetLimits.{facts-within, pool-at-within, facts-counted, pool-counted, tranches-counted, rows-within, fact-there, tranche-count-there}
 use Rattle.judgement.proofs.sheet.layout_of.Statement.{statement}
 use Rattle.judgement.proofs.sheet.layout_of.Tie as tie
 
@@ -57,37 +57,44 @@ add-tranches-2 c = omega (arith, facts _ (c .before .before .before .pre), rows-
 shared-slice-read-t7 : tie.Need-shared-slice-read-t7
 shared-slice-read-t7 c = known-fact-there _ (c .before .before .before .before .pre) _ (omega arith)
 
+shared-slice-read-t6 : tie.Need-shared-slice-read-t6
+shared-slice-read-t6 c = known-fact-there _ (c .before .before .before .before .before .pre) _ (omega arith)
+
 fact-at-requires : tie.Need-fact-at-requires
 fact-at-requires c κs = search needs
 
-shared-slice-read-t16 : tie.Need-shared-slice-read-t16
-shared-slice-read-t16 c = known-fact-there _ (c .before .before .before .before .before .before .pre) _ (omega arith)
+shared-slice-read-t18 : tie.Need-shared-slice-read-t18
+shared-slice-read-t18 c = known-fact-there _ (c .before .before .before .before .before .before .before .pre) _ (omega arith)
 
-shared-slice-read-t19 : tie.Need-shared-slice-read-t19
-shared-slice-read-t19 c = known-fact-there _ (c .before .before .before .before .before .before .before .pre) _ (omega arith)
+shared-slice-read-t21 : tie.Need-shared-slice-read-t21
+shared-slice-read-t21 c = known-fact-there _ (c .before .before .before .before .before .before .before .before .pre) _ (omega arith)
 
 fact-at-requires-2 : tie.Need-fact-at-requires-2
 fact-at-requires-2 c κs = search needs
 
 add-t11 : tie.Need-add-t11
-add-t11 c = omega (arith, facts _ (c .before .before .before .before .before .before .before .before .pre))
+add-t11 c = omega (arith, facts _ (c .before .before .before .before .before .before .before .before .before .pre))
 
 add-t8 : tie.Need-add-t8
 add-t8 c =
-    let start = c .before .before .before .before .before .before .before .before in
+    let start = c .before .before .before .before .before .before .before .before .before in
     omega (arith, facts _ (start .pre), rows-few _ (start .pre))
 
 mul-t10 : tie.Need-mul-t10
 mul-t10 c =
-    let start = c .before .before .before .before .before .before .before .before in
+    let start = c .before .before .before .before .before .before .before .before .before in
     omega (arith, facts _ (start .pre), rows-few _ (start .pre))
 
-shared-slice-read-t23 : tie.Need-shared-slice-read-t23
-shared-slice-read-t23 c = count-there _ (c .before .before .before .before .before .before .before .before .before .pre)
+shared-slice-read-t25 : tie.Need-shared-slice-read-t25
+shared-slice-read-t25 c = count-there _ (c .before .before .before .before .before .before .before .before .before .before .pre)
+
+irb-figures-requires : tie.Need-irb-figures-requires
+irb-figures-requires c κs =
+    tranches-counted _ (c .before .before .before .before .before .before .before .before .before .before .pre)
 
 returns : tie.Need-returns
 unfolding layout trancheCount tranchesAt rows poolAt
-returns c = simp (c .before .fact-at2 .ensures, c .before .before .before .before .fact-at .ensures)
+returns c = simp (c .irb-figures .ensures, c .before .before .fact-at2 .ensures, c .before .before .before .before .before .fact-at .ensures)
 
 pub layout-of-spec : {M : Type 1} → statement M
 layout-of-spec =
@@ -101,12 +108,14 @@ layout-of-spec =
     mul-tranches
     add-tranches-2
     shared-slice-read-t7
+    shared-slice-read-t6
     fact-at-requires
-    shared-slice-read-t16
-    shared-slice-read-t19
+    shared-slice-read-t18
+    shared-slice-read-t21
     fact-at-requires-2
     add-t11
     add-t8
     mul-t10
-    shared-slice-read-t23
+    shared-slice-read-t25
+    irb-figures-requires
     returns)

@@ -1,0 +1,4 @@
+pub mod SignedLaws
+pub mod ParameterLimits
+pub mod ParameterMeansLaw
+pub mod CheckedParameters

@@ -1,0 +1,4 @@
+pub mod IrbPool
+pub mod Parameter
+pub mod ParameterMeans
+pub mod SmallCoefficients
