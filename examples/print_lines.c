@@ -34,6 +34,8 @@ static const char *name_of(uint64_t approach)
         return "SEC-ERBA";
     case TRANCHE_WEIGHTS_BY_SEC_SA:
         return "SEC-SA";
+    case TRANCHE_WEIGHTS_BY_SEC_IRBA:
+        return "SEC-IRBA";
     default:
         return "an approach without a name here";
     }

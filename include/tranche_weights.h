@@ -34,13 +34,19 @@ extern "C" {
 #endif
 
 /* The version of the interface. */
-#define TRANCHE_WEIGHTS_INTERFACE 4
+#define TRANCHE_WEIGHTS_INTERFACE 5
 
 /*
- * The parts of a sheet: the fewest and the most facts, of one word each; the most pool rows and the words of one; the most tranches and the words of one. The facts in
- * their order: pool kind, re-securitisation, due diligence held, pool composition known, STC mark (a simple, transparent and comparable deal), reporting date. A fact
- * that the sheet leaves out at the end of its list counts as 0. Where the reporting date is 0, a tranche's maturity is a number of months; else both are dates, written
- * year * 10000 + month * 100 + day, and the maturity is the later one. The README says what each word of a sheet may be.
+ * The parts of a sheet: the fewest and the most facts, of one word each; the most pool rows and the words of one; the most tranches and the words of one; the words of
+ * the IRB section. The facts in their order: pool kind, re-securitisation, due diligence held, pool composition known, STC mark (a simple, transparent and comparable
+ * deal), reporting date. A fact that the sheet leaves out at the end of its list counts as 0. Where the reporting date is 0, a tranche's maturity is a number of
+ * months; else both are dates, written year * 10000 + month * 100 + day, and the maturity is the later one.
+ *
+ * The pool kind is 0 where all loans are under the standardised approach (SA), 1 where all have a charge under the internal ratings-based approach (IRB), and 2 where
+ * the pool is mixed. With 1 and 2, and only there, the IRB section follows the tranches; its count is always 1. Its words in their order: IRB charge and average loss
+ * given default, in millionths; effective number of loans; retail (0 no, 1 yes); share of exposure with an IRB charge, in millionths, 1000000 with pool kind 1; IRB
+ * average weight, with SA loans at their SA weights, always in hundredths of a percent. SEC-IRBA applies with due diligence held to a deal that is no
+ * re-securitisation, where the share is at least 950000; any other deal is weighed as with pool kind 0. The README says what each word of a sheet may be.
  */
 #define TRANCHE_WEIGHTS_FEWEST_FACTS 4
 #define TRANCHE_WEIGHTS_MOST_FACTS 6
@@ -48,11 +54,12 @@ extern "C" {
 #define TRANCHE_WEIGHTS_ROW_WORDS 4
 #define TRANCHE_WEIGHTS_MOST_TRANCHES 32
 #define TRANCHE_WEIGHTS_TRANCHE_WORDS 7
+#define TRANCHE_WEIGHTS_IRB_WORDS 6
 
-/* The most words that a sheet can need, with each of the three sections after its count; the bytes of a word in its file, and the most bytes of the file. */
+/* The most words that a sheet can need, with each of the four sections after its count; the bytes of a word in its file, and the most bytes of the file. */
 #define TRANCHE_WEIGHTS_SHEET_WORDS                                                                                                                      \
     (1 + TRANCHE_WEIGHTS_MOST_FACTS + 1 + TRANCHE_WEIGHTS_MOST_ROWS * TRANCHE_WEIGHTS_ROW_WORDS + 1 +                                                    \
-     TRANCHE_WEIGHTS_MOST_TRANCHES * TRANCHE_WEIGHTS_TRANCHE_WORDS)
+     TRANCHE_WEIGHTS_MOST_TRANCHES * TRANCHE_WEIGHTS_TRANCHE_WORDS + 1 + TRANCHE_WEIGHTS_IRB_WORDS)
 #define TRANCHE_WEIGHTS_BYTES_PER_WORD 8
 #define TRANCHE_WEIGHTS_FILE_BYTES (TRANCHE_WEIGHTS_BYTES_PER_WORD * TRANCHE_WEIGHTS_SHEET_WORDS)
 
@@ -82,10 +89,11 @@ enum {
 enum {
     TRANCHE_WEIGHTS_BY_FALLBACK = 0, /* the fallback of 1250% */
     TRANCHE_WEIGHTS_BY_SEC_ERBA = 1, /* the deal's rating table: of two ratings the higher weight, of three the middle one */
-    TRANCHE_WEIGHTS_BY_SEC_SA = 2    /* the formula */
+    TRANCHE_WEIGHTS_BY_SEC_SA = 2,   /* the formula, by the standardised approach */
+    TRANCHE_WEIGHTS_BY_SEC_IRBA = 3  /* the formula, by the IRB section */
 };
 
-/* The numbers that a call returns. The README says of each refusal what to do. */
+/* The numbers that a call returns; 12 is no longer given. The README says of each refusal what to do. */
 enum {
     TRANCHE_WEIGHTS_ACCEPTED = 0,
     TRANCHE_WEIGHTS_REFUSED_MISSING_WORD = 1,   /* the sheet ends too early; the place is its length */
@@ -99,20 +107,20 @@ enum {
     TRANCHE_WEIGHTS_REFUSED_CLASS = 9,          /* a class out of order */
     TRANCHE_WEIGHTS_REFUSED_MATURITY = 10,      /* a maturity outside 1 to 1200 months */
     TRANCHE_WEIGHTS_REFUSED_RATING = 11,        /* a rating that is not listed */
-    TRANCHE_WEIGHTS_REFUSED_POOL_KIND = 12,     /* an IRB or mixed pool */
     TRANCHE_WEIGHTS_REFUSED_THIN_TRANCHE = 13,  /* a tranche too thin for the formula; the place of its amount */
     TRANCHE_WEIGHTS_REFUSED_ROOM = 14,          /* too few result words; place 0 */
     TRANCHE_WEIGHTS_REFUSED_FILE_LENGTH = 15,   /* a file's length is no multiple of TRANCHE_WEIGHTS_BYTES_PER_WORD or above TRANCHE_WEIGHTS_FILE_BYTES; place 0 */
     TRANCHE_WEIGHTS_REFUSED_STC_MARK = 16,      /* an STC mark on a re-securitisation */
-    TRANCHE_WEIGHTS_REFUSED_DATE = 17           /* with a reporting date: no day of the years 2000 to 2199, or a maturity not after the reporting date */
+    TRANCHE_WEIGHTS_REFUSED_DATE = 17,          /* with a reporting date: no day of the years 2000 to 2199, or a maturity not after the reporting date */
+    TRANCHE_WEIGHTS_REFUSED_IRB_FIGURE = 18     /* a figure of the IRB section is outside its limits */
 };
 
 /* The functions as the archive names them. They take what the functions below take, and no null pointer. */
-uint64_t tranche_weights_weigh_v4(const uint64_t *sheet, size_t words, uint64_t *results, size_t room, uint64_t *place, uint64_t *count,
+uint64_t tranche_weights_weigh_v5(const uint64_t *sheet, size_t words, uint64_t *results, size_t room, uint64_t *place, uint64_t *count,
                                   uint64_t *charge);
-uint64_t tranche_weights_weigh_file_v4(const uint8_t *file, size_t size, uint64_t *results, size_t room, uint64_t *place, uint64_t *count,
+uint64_t tranche_weights_weigh_file_v5(const uint8_t *file, size_t size, uint64_t *results, size_t room, uint64_t *place, uint64_t *count,
                                        uint64_t *charge);
-uint64_t tranche_weights_report_v4(const uint8_t *file, size_t size, uint8_t *text, size_t room);
+uint64_t tranche_weights_report_v5(const uint8_t *file, size_t size, uint8_t *text, size_t room);
 
 /*
  * Weighs every tranche of a deal sheet.
@@ -122,7 +130,7 @@ uint64_t tranche_weights_report_v4(const uint8_t *file, size_t size, uint8_t *te
  * place, count, charge   one word each, written in every case
  *
  * Returns TRANCHE_WEIGHTS_ACCEPTED where the sheet is accepted: *count tranches, their lines at the start of results in the sheet's order, TRANCHE_WEIGHTS_LINE_WORDS
- * words each, later words as they were; *charge is the pool charge in millionths, *place is 0.
+ * words each, later words as they were; *charge is the pool charge in millionths, under SEC-IRBA the mixed one; *place is 0.
  * Returns the refusal's number, any but TRANCHE_WEIGHTS_REFUSED_FILE_LENGTH, where it is refused: *place is the place of the faulty word, counted from 0 (0 for
  * TRANCHE_WEIGHTS_REFUSED_ROOM), *count and *charge are 0, and every word of results is as it was.
  */
@@ -130,7 +138,7 @@ static inline uint64_t tranche_weights_weigh(const uint64_t *sheet, size_t words
                                              uint64_t *count, uint64_t *charge)
 {
     uint64_t nothing = 0;
-    return tranche_weights_weigh_v4(words ? sheet : &nothing, words, room ? results : &nothing, room, place, count, charge);
+    return tranche_weights_weigh_v5(words ? sheet : &nothing, words, room ? results : &nothing, room, place, count, charge);
 }
 
 /*
@@ -146,7 +154,7 @@ static inline uint64_t tranche_weights_weigh_file(const uint8_t *file, size_t si
 {
     uint8_t no_byte = 0;
     uint64_t nothing = 0;
-    return tranche_weights_weigh_file_v4(size ? file : &no_byte, size, room ? results : &nothing, room, place, count, charge);
+    return tranche_weights_weigh_file_v5(size ? file : &no_byte, size, room ? results : &nothing, room, place, count, charge);
 }
 
 /*
@@ -161,7 +169,7 @@ static inline uint64_t tranche_weights_weigh_file(const uint8_t *file, size_t si
 static inline uint64_t tranche_weights_report(const uint8_t *file, size_t size, uint8_t *text, size_t room)
 {
     uint8_t nothing = 0;
-    return tranche_weights_report_v4(size ? file : &nothing, size, room ? text : &nothing, room);
+    return tranche_weights_report_v5(size ? file : &nothing, size, room ? text : &nothing, room);
 }
 
 #ifdef __cplusplus

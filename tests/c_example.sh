@@ -26,7 +26,8 @@ held() {
     echo "$1: ok"
 }
 
-for name in ordinary stc dated resecuritisation refused; do
+examples="ordinary stc irba dated resecuritisation refused"
+for name in $examples; do
     target/bin/sheet_words "examples/$name.txt" > "$room/$name"
 done
 cp crates/tranche_report/data/deal "$room/checked"
@@ -39,6 +40,12 @@ held "01's checked deal" "$room/checked" 0 "tranche 1: SEC-ERBA from 20.0000%% t
 tranche 2: SEC-ERBA from 5.0000%% to 20.0000%%, weight 263.50%%, risk-weighted amount 264, capital 22
 tranche 3: SEC-SA from 0.0000%% to 5.0000%%, weight 1250.00%%, risk-weighted amount 625, capital 50
 pool charge 10.1000%%\n" ""
+held "mixed pool" "$room/irba" 0 "tranche 1: SEC-IRBA from 11.1776%% to 100.0000%%, weight 15.00%%, risk-weighted amount 30000000, capital 2400000
+tranche 2: SEC-IRBA from 11.1776%% to 100.0000%%, weight 35.66%%, risk-weighted amount 35660000, capital 2852800
+tranche 3: SEC-IRBA from 6.1876%% to 11.1776%%, weight 708.73%%, risk-weighted amount 141746000, capital 11339680
+tranche 4: SEC-IRBA from 2.1956%% to 6.1876%%, weight 1246.43%%, risk-weighted amount 124643000, capital 9971440
+tranche 5: SEC-IRBA from 0.1996%% to 2.1956%%, weight 1250.00%%, risk-weighted amount 125000000, capital 10000000
+pool charge 5.8160%%\n" ""
 held "refused sheet" "$room/refused" 1 "$(target/bin/tranche_report "$room/refused")\n" ""
 held "cut within a word" "$room/half" 1 "refused 15 at 0\n" ""
 held "longest file" "$room/longest" 1 "refused 2 at 0\n" ""
@@ -46,7 +53,7 @@ held "file too long" "$room/longer" 1 "refused 15 at 0\n" ""
 held "no such file" "$room/none" 2 "" "print_lines: $room/none can't be read\n"
 
 # The report by way of C is that of the program.
-for name in ordinary stc dated resecuritisation refused checked half longest longer; do
+for name in $examples checked half longest longer; do
     "$room/calls" "$room/$name" > "$room/out"
     target/bin/tranche_report "$room/$name" > "$room/due.out"
     cmp "$room/due.out" "$room/out"

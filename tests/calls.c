@@ -1,7 +1,8 @@
 /*
  * Calls the functions of the header as a program in C does, on threads with small stacks, and prints the report on a file's bytes. Held here: lent memory that must
  * be as it was, the answer where the room is one byte short and where it is just enough, the four numbers of an accepted and of a refused sheet and file, the STC mark,
- * the reporting date, and a null pointer for every list of length 0. Stops with status 1 and one line where something is not what is due. tests/c_example.sh runs it.
+ * the reporting date, the IRB section, and a null pointer for every list of length 0. Stops with status 1 and one line where something is not what is due.
+ * tests/c_example.sh runs it.
  */
 #include <pthread.h>
 #include <stdio.h>
@@ -41,6 +42,19 @@ static const uint64_t stc_resecuritisation[] = {5, 0, 1, 1, 1, 1};
 static const uint64_t dated_sheet[WORDS + 2] = {6, 0, 0, 1, 1, 0, 20240228, 1, 100, 100, 100, 0, 1, 80, 1, 20290131, 80, 1, 0, 0};
 #define REPORTING_DATE_PLACE 6
 #define MATURITY_PLACE 15
+
+/*
+ * The same sheet as a mixed pool, with the IRB section after it; the places of its count, its number of loans and its share. The charge is 95% of 15% and 5% of 8%.
+ * The parameter, 3.56 / 25 - 1.85 * 0.1465 + 0.55 * 0.45 + 0.07 * 4.2, is 0.412875, and the formula gives 39.025%, rounded up.
+ */
+static const uint64_t irb_sheet[WORDS + 1 + TRANCHE_WEIGHTS_IRB_WORDS] = {4, 2, 0, 1, 1, 1, 100, 100, 100, 0, 1, 80, 1, 60, 80, 1, 0, 0,
+                                                                          1, 150000, 450000, 25, 0, 950000, 12000};
+#define IRB_SHEET_WORDS (sizeof irb_sheet / sizeof *irb_sheet)
+#define IRB_COUNT_PLACE WORDS
+#define LOANS_PLACE (WORDS + 3)
+#define SHARE_PLACE (WORDS + 5)
+#define IRB_CHARGE 146500
+#define IRB_WEIGHT 3903
 
 static unsigned char file[TRANCHE_WEIGHTS_FILE_BYTES + 1];
 static size_t size;
@@ -140,13 +154,19 @@ static void *try_stc(void *unused)
     return unused;
 }
 
-/* One call on the sheet with a reporting date, with the word at a place replaced. */
+/* One call on a sheet of so many words, no more than the sheet with the IRB section has, with the word at a place replaced. */
+static struct given weigh_with(const uint64_t *from, size_t count, size_t at, uint64_t word)
+{
+    uint64_t words[IRB_SHEET_WORDS];
+    memcpy(words, from, count * sizeof *words);
+    words[at] = word;
+    return weigh(words, count, TRANCHE_WEIGHTS_LINE_WORDS);
+}
+
+/* The same on the sheet with a reporting date. */
 static struct given weigh_dated(size_t at, uint64_t word)
 {
-    uint64_t words[WORDS + 2];
-    memcpy(words, dated_sheet, sizeof words);
-    words[at] = word;
-    return weigh(words, WORDS + 2, TRANCHE_WEIGHTS_LINE_WORDS);
+    return weigh_with(dated_sheet, WORDS + 2, at, word);
 }
 
 /* The reporting date: the line is that of the months; a date that does not exist, months, a maturity on the reporting date, and one too many months on. */
@@ -157,6 +177,21 @@ static void *try_dates(void *unused)
     refused(weigh_dated(MATURITY_PLACE, 60), TRANCHE_WEIGHTS_REFUSED_DATE, MATURITY_PLACE, "months with a reporting date");
     refused(weigh_dated(MATURITY_PLACE, dated_sheet[REPORTING_DATE_PLACE]), TRANCHE_WEIGHTS_REFUSED_DATE, MATURITY_PLACE, "a maturity on the reporting date");
     refused(weigh_dated(MATURITY_PLACE, 21991231), TRANCHE_WEIGHTS_REFUSED_MATURITY, MATURITY_PLACE, "a maturity too many months on");
+    return unused;
+}
+
+/* The IRB section: the line is that of SEC-IRBA, with a share below 95% that of the SA pool; a wrong count, figures outside their limits, a section too many, none. */
+static void *try_irb(void *unused)
+{
+    struct given g = weigh(irb_sheet, IRB_SHEET_WORDS, TRANCHE_WEIGHTS_LINE_WORDS);
+    due(g.number == TRANCHE_WEIGHTS_ACCEPTED && g.charge == IRB_CHARGE, "the charge of a mixed pool");
+    due(g.results[TRANCHE_WEIGHTS_WORD_APPROACH] == TRANCHE_WEIGHTS_BY_SEC_IRBA && g.results[TRANCHE_WEIGHTS_WORD_WEIGHT] == IRB_WEIGHT, "a SEC-IRBA line");
+    accepted(weigh_with(irb_sheet, IRB_SHEET_WORDS, SHARE_PLACE, 949999), "a mixed pool with a share below 95%");
+    refused(weigh_with(irb_sheet, IRB_SHEET_WORDS, IRB_COUNT_PLACE, 0), TRANCHE_WEIGHTS_REFUSED_COUNT, IRB_COUNT_PLACE, "a count of no IRB section");
+    refused(weigh_with(irb_sheet, IRB_SHEET_WORDS, LOANS_PLACE, 0), TRANCHE_WEIGHTS_REFUSED_IRB_FIGURE, LOANS_PLACE, "no loans");
+    refused(weigh_with(irb_sheet, IRB_SHEET_WORDS, 1, 1), TRANCHE_WEIGHTS_REFUSED_IRB_FIGURE, SHARE_PLACE, "a share below 1 in an IRB pool");
+    refused(weigh_with(irb_sheet, IRB_SHEET_WORDS, 1, 0), TRANCHE_WEIGHTS_REFUSED_WORDS_FOLLOW, IRB_COUNT_PLACE, "an IRB section in an SA pool");
+    refused(weigh(irb_sheet, WORDS, TRANCHE_WEIGHTS_LINE_WORDS), TRANCHE_WEIGHTS_REFUSED_MISSING_WORD, WORDS, "a mixed pool without its section");
     return unused;
 }
 
@@ -213,6 +248,7 @@ int main(int argc, char **argv)
     on_stack(WEIGH_STACK, try_weigh);
     on_stack(WEIGH_STACK, try_stc);
     on_stack(WEIGH_STACK, try_dates);
+    on_stack(WEIGH_STACK, try_irb);
     on_stack(FILE_STACK, try_weigh_file);
     on_stack(FILE_STACK, try_null);
     on_stack(FILE_STACK, try_report);

@@ -246,3 +246,23 @@ cp out months.sheet
 cmp -s dated.sheet months.sheet && { echo 'the example in months is the example with dates'; exit 1; }
 run tranche_report months.sheet
 held 'tranche_report: the same deal in months'
+
+# ---- both programs on the example of a mixed pool, and on the same deal with ratings and statuses that play no part
+
+due 'charge 58160 tranches 5
+1 3 111776 1000000 1500 30000000 2400000
+2 3 111776 1000000 3566 35660000 2852800
+3 3 61876 111776 70873 141746000 11339680
+4 3 21956 61876 124643 124643000 9971440
+5 3 1996 21956 125000 125000000 10000000
+total 457049000 36563920\n' ''
+run sheet_words "$root/examples/irba.txt"
+cp out irba.sheet
+run tranche_report irba.sheet
+held 'tranche_report: the example of a mixed pool'
+sed 's/^345000000 1 48 200000000 1 0 0/345000000 1 48 200000000 0 18 24/; s/^300000000 300000000  75 0/300000000 300000000  75 1/' "$root/examples/irba.txt" > text
+run sheet_words text
+cp out other.sheet
+cmp -s irba.sheet other.sheet && { echo 'the example with other ratings and statuses is the example'; exit 1; }
+run tranche_report other.sheet
+held 'tranche_report: the same deal with other ratings and a larger row late'

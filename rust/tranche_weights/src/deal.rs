@@ -8,7 +8,8 @@ use crate::limits::LINE_WORDS;
 #[derive(Debug, Clone, PartialEq, Eq, Hash)]
 #[non_exhaustive]
 pub struct Deal {
-    /// The pool charge, in millionths: 80,000 is 8%.
+    /// The pool charge, in millionths: 80,000 is 8%. Under SEC-IRBA it is the mixed one: the IRB charge and the base
+    /// charge of the pool, by their shares of the exposure.
     pub charge: u64,
     /// A line for each tranche, in the sheet's order.
     pub lines: Vec<Line>,
@@ -49,8 +50,8 @@ pub struct Line {
     pub detachment: u64,
     /// The risk weight after floor and cap, in hundredths of a percent: 125,000 is 1250%.
     ///
-    /// Under the formula (SEC-SA), the weight before floor and cap is no lower than the formula's exact value and less
-    /// than 2 above it.
+    /// Under the formula (SEC-SA or SEC-IRBA), the weight before floor and cap is no lower than the formula's exact
+    /// value and less than 2 above it.
     pub weight: u64,
     /// The risk-weighted amount of what is held, in whole currency units, rounded up.
     pub risk_weighted_amount: u64,
@@ -81,8 +82,10 @@ pub enum Approach {
     Fallback,
     /// 1: SEC-ERBA, the deal's rating table. Of two ratings the higher weight counts, of three the middle one.
     SecErba,
-    /// 2: SEC-SA, the formula.
+    /// 2: SEC-SA, the formula by the standardised approach.
     SecSa,
+    /// 3: SEC-IRBA, the formula by the figures of an IRB or mixed pool ([`PoolKind`](crate::PoolKind)).
+    SecIrba,
     /// A word that is not listed. The library never gives one; one would mean that another archive was linked in its
     /// place. The word is kept here, so that nothing false is said of it.
     Unlisted(u64),
@@ -95,6 +98,7 @@ impl Approach {
             Approach::Fallback => 0,
             Approach::SecErba => 1,
             Approach::SecSa => 2,
+            Approach::SecIrba => 3,
             Approach::Unlisted(word) => word,
         }
     }
@@ -105,6 +109,7 @@ const LISTED: &[(Approach, &str)] = &[
     (Approach::Fallback, "fallback"),
     (Approach::SecErba, "SEC-ERBA"),
     (Approach::SecSa, "SEC-SA"),
+    (Approach::SecIrba, "SEC-IRBA"),
 ];
 
 impl From<u64> for Approach {

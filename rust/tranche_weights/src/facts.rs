@@ -1,11 +1,12 @@
-//! The facts of a deal (document 01, "The deal sheet"; document 02, S-3).
+//! The facts of a deal (document 01, "The deal sheet"; document 02, S-3 and S-5).
 
 use crate::date::Date;
+use crate::pool_kind::PoolKind;
 
 /// What is said of the deal as a whole: nothing at first, and then what each `with_…` says.
 ///
-/// Every pool is one under the standardised approach, the one kind that the calculator covers. That a deal is STC or a
-/// re-securitisation is said where its sheet is started, by [`SheetBuilder`](crate::SheetBuilder).
+/// That a deal is STC or a re-securitisation is said where its sheet is started, by
+/// [`SheetBuilder`](crate::SheetBuilder).
 ///
 /// ```
 /// use tranche_weights::Facts;
@@ -16,22 +17,35 @@ use crate::date::Date;
 #[derive(Debug, Clone, Copy, Default, PartialEq, Eq, Hash)]
 #[non_exhaustive]
 pub struct Facts {
+    /// The pool kind, with the figures of the IRB section where it has one.
+    pub pool_kind: PoolKind,
     /// Due diligence is held. Without it every tranche gets the fallback of 1250%.
     pub due_diligence_held: bool,
     /// The pool's composition is known. Without it no tranche gets the cap of the senior class, the average risk weight
-    /// of the pool.
+    /// of the pool or, under SEC-IRBA, its IRB average weight.
     pub pool_composition_known: bool,
     /// The reporting date. With it the maturity of every tranche is a date, and without it a number of months.
     pub reporting_date: Option<Date>,
 }
 
 impl Facts {
-    /// No due diligence is held, the pool's composition is not known, and there is no reporting date.
+    /// The pool is under the standardised approach, no due diligence is held, the pool's composition is not known, and
+    /// there is no reporting date.
     pub const fn new() -> Facts {
         Facts {
+            pool_kind: PoolKind::Sa,
             due_diligence_held: false,
             pool_composition_known: false,
             reporting_date: None,
+        }
+    }
+
+    /// The same facts, with this pool kind.
+    #[must_use]
+    pub const fn with_pool_kind(self, kind: PoolKind) -> Facts {
+        Facts {
+            pool_kind: kind,
+            ..self
         }
     }
 

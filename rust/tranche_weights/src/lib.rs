@@ -52,23 +52,28 @@
 //! }
 //! ```
 //!
-//! In a deal with a reporting date the maturities are dates: [`Tranche::maturing_on`] has an example.
+//! In a deal with a reporting date the maturities are dates: [`Tranche::maturing_on`] has an example. [`PoolKind`] has
+//! one of a mixed pool, weighed by SEC-IRBA.
 //!
 //! # The words of a sheet
 //!
 //! A word is an unsigned number of 64 bits; its place is its position in the sheet, counted from 0. In this order:
 //!
 //! - the number of facts, [`FEWEST_FACTS`] to [`MOST_FACTS`], then the facts: the pool kind (0, a pool under the
-//!   standardised approach; 1 and 2, a pool under the IRB approach in whole or in part, are refused), then
-//!   re-securitisation, due diligence held, pool composition known, and the STC mark, that the deal is simple,
-//!   transparent and comparable, which no re-securitisation is; each 0 for no and 1 for yes; then the reporting date
-//!   (0 for none, else [`Date::word`]). A fact that is left out at the end counts as 0;
+//!   standardised approach; 1, one under the IRB approach; 2, a mixed one), then re-securitisation, due diligence held,
+//!   pool composition known, and the STC mark, that the deal is simple, transparent and comparable, which no
+//!   re-securitisation is; each 0 for no and 1 for yes; then the reporting date (0 for none, else [`Date::word`]). A
+//!   fact that is left out at the end counts as 0;
 //! - the number of pool rows, 1 to [`MOST_ROWS`], then for each: exposure amount and nominal amount (1 to 10^10), risk
 //!   weight in percent (0 to 1250), status (0 paying, 1 delinquent, 2 not known; 3, a securitisation tranche, in a
 //!   re-securitisation and only there);
 //! - the number of tranches, 1 to [`MOST_TRANCHES`], then for each: amount (1 to 10^13), class, final legal maturity (1 to
 //!   1200 months; in a deal with a reporting date, a date that is so many months after it by [`Date::months_to`]), amount
-//!   held (0 to the amount), [`MOST_RATINGS`] rating codes (0 for none, else [`Rating::code`]), in any order.
+//!   held (0 to the amount), [`MOST_RATINGS`] rating codes (0 for none, else [`Rating::code`]), in any order;
+//! - with pool kind 1 or 2 the IRB section: 1, its count, then IRB charge and average loss given default (0 to 10^6
+//!   millionths), effective number of loans (1 to 10^6), retail (0 for no and 1 for yes), share of exposure with an IRB
+//!   charge (10^6 millionths with pool kind 1, 0 to 10^6 with 2), IRB average weight (0 to 125,000, always hundredths
+//!   of a percent).
 //!
 //! The class is the rank: class 1 is the senior class, which bears losses last. Tranches stand from senior to junior:
 //! the first has class 1, each next the class of the one before it, with which it ranks pari passu, or one more.
@@ -80,8 +85,8 @@
 //! `TRANCHE_WEIGHTS_LIB` names another folder; a relative one counts from the crate's folder. Without the archive,
 //! checking and documenting work, with a warning; building does not.
 //!
-//! The crate calls version 4 of the library's interface. Every symbol of the archive carries its version, as in
-//! `tranche_weights_weigh_v4`, so that an archive of another version fails to link.
+//! The crate calls version 5 of the library's interface. Every symbol of the archive carries its version, as in
+//! `tranche_weights_weigh_v5`, so that an archive of another version fails to link.
 //!
 //! The library keeps no state, so threads can call it at the same time. Of the calling thread's stack 64 KB are enough.
 //!
@@ -102,6 +107,7 @@ mod library;
 mod limits;
 mod numbers;
 mod pool;
+mod pool_kind;
 mod rating;
 mod refusal;
 mod reply;
@@ -115,11 +121,12 @@ pub use date::Date;
 pub use deal::{Approach, Deal, Line};
 pub use facts::Facts;
 pub use limits::{
-    BYTES_PER_WORD, FEWEST_FACTS, FILE_BYTES, LINE_WORDS, MOST_FACTS, MOST_RATINGS, MOST_ROWS, MOST_TRANCHES,
-    NUMBER_DIGITS, RESULT_WORDS, ROW_WORDS, SHEET_WORDS, TEXT_ROOM, TRANCHE_WORDS,
+    BYTES_PER_WORD, FEWEST_FACTS, FILE_BYTES, IRB_WORDS, LINE_WORDS, MOST_FACTS, MOST_RATINGS, MOST_ROWS,
+    MOST_TRANCHES, NUMBER_DIGITS, RESULT_WORDS, ROW_WORDS, SHEET_WORDS, TEXT_ROOM, TRANCHE_WORDS,
 };
-pub use numbers::{Months, PoolAmount, RiskWeight, TrancheAmount};
+pub use numbers::{AverageWeight, Loans, Months, PoolAmount, RiskWeight, Share, TrancheAmount};
 pub use pool::{Row, Status};
+pub use pool_kind::{IrbFigures, PoolKind};
 pub use rating::{LongTerm, Rating, ShortTerm};
 pub use refusal::{Reason, Refusal};
 pub use reply::{Reply, Weighed};

@@ -1,5 +1,5 @@
 //! The parts of a sheet, of a line and of a report, with the sizes that follow from them, and the limits of a sheet's
-//! numbers (document 01, "The deal sheet" and "Checked deals"; document 02, S-1 and S-3).
+//! numbers (document 01, "The deal sheet" and "Checked deals"; document 02, S-1, S-3 and S-5).
 //!
 //! A size that has parts is worked out from them, so that each number stands here once.
 
@@ -24,9 +24,15 @@ pub const MOST_RATINGS: usize = 3;
 /// The words of a tranche: amount, class, maturity, amount held, then its ratings.
 pub const TRANCHE_WORDS: usize = 4 + MOST_RATINGS;
 
-/// The most words of a sheet: three sections, each after the word that counts its rows.
-pub const SHEET_WORDS: usize =
-    section_words(MOST_FACTS, 1) + section_words(MOST_ROWS, ROW_WORDS) + section_words(MOST_TRANCHES, TRANCHE_WORDS);
+/// The words of the IRB section: IRB charge, average loss given default, effective number of loans, retail, share of
+/// exposure with an IRB charge, IRB average weight.
+pub const IRB_WORDS: usize = 6;
+
+/// The most words of a sheet: four sections, each after the word that counts its rows. The IRB section has one row.
+pub const SHEET_WORDS: usize = section_words(MOST_FACTS, 1)
+    + section_words(MOST_ROWS, ROW_WORDS)
+    + section_words(MOST_TRANCHES, TRANCHE_WORDS)
+    + section_words(1, IRB_WORDS);
 
 /// The words of a section with so many rows of so many words each.
 const fn section_words(rows: usize, row_words: usize) -> usize {
@@ -72,6 +78,15 @@ pub(crate) const TRANCHE_AMOUNT: (u64, u64) = (1, 10_000_000_000_000);
 
 /// The lowest and the highest maturity of a tranche, in months.
 pub(crate) const MONTHS: (u64, u64) = (1, 1200);
+
+/// The lowest and the highest share, in millionths.
+pub(crate) const SHARE: (u64, u64) = (0, 1_000_000);
+
+/// The lowest and the highest effective number of loans.
+pub(crate) const LOANS: (u64, u64) = (1, 1_000_000);
+
+/// The lowest and the highest average weight, in hundredths of a percent.
+pub(crate) const AVERAGE_WEIGHT: (u64, u64) = (0, 125_000);
 
 /// The first and the last year of a date.
 pub(crate) const YEARS: (u64, u64) = (2000, 2199);

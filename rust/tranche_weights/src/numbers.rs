@@ -1,4 +1,4 @@
-//! Numbers that hold only what document 01 admits under "The deal sheet".
+//! Numbers that hold only what document 01 admits under "The deal sheet", and document 02 in S-5.
 
 use std::fmt;
 
@@ -79,4 +79,19 @@ limited! {
 limited! {
     /// Final legal maturity of a tranche, in months: 1 to 1200.
     Months, limits::MONTHS
+}
+
+limited! {
+    /// A share in millionths, 0 to 10^6: 10^6 is all, 80,000 is 8%.
+    Share, limits::SHARE
+}
+
+limited! {
+    /// Effective number of loans in a pool: 1 to 10^6.
+    Loans, limits::LOANS
+}
+
+limited! {
+    /// Average weight of a pool, in hundredths of a percent: 0 to 125,000, which is 1250%.
+    AverageWeight, limits::AVERAGE_WEIGHT
 }

@@ -1,9 +1,9 @@
-//! Refusals (document 01, "Refusals, by who can cause them"; document 02, S-1 and S-3).
+//! Refusals (document 01, "Refusals, by who can cause them"; document 02, S-1, S-3 and S-5).
 
 use std::error::Error;
 use std::fmt;
 
-/// Why a sheet is refused: one case for each refusal number.
+/// Why a sheet is refused: one case for each refusal number; 12 is no longer given.
 #[derive(Debug, Clone, Copy, PartialEq, Eq, Hash)]
 #[non_exhaustive]
 pub enum Reason {
@@ -11,7 +11,7 @@ pub enum Reason {
     MissingWord,
     /// 2: a count is outside its limits.
     Count,
-    /// 3: words follow the last tranche; the place of the first.
+    /// 3: words follow the last section; the place of the first.
     WordsFollow,
     /// 4: a fact is none of its codes.
     Fact,
@@ -29,10 +29,8 @@ pub enum Reason {
     Maturity,
     /// 11: a rating code that is not listed.
     Rating,
-    /// 12: a pool under the internal ratings-based approach (IRB), in whole or in part.
-    PoolKind,
-    /// 13: a tranche under the formula (SEC-SA) whose attachment and detachment points are equal, above the pool
-    /// charge; the place of its amount.
+    /// 13: a tranche under the formula (SEC-SA or SEC-IRBA) whose attachment and detachment points are equal, above the
+    /// pool charge; the place of its amount.
     ThinTranche,
     /// 14: fewer result words lent than the tranches' lines take; place 0.
     Room,
@@ -44,6 +42,8 @@ pub enum Reason {
     /// 17: with a reporting date: a date that does not exist or lies outside the years 2000 to 2199, or a maturity not
     /// after the reporting date.
     Date,
+    /// 18: a figure of the IRB section is outside its limits.
+    IrbFigure,
     /// A number that is not listed. The library never gives one; one would mean that another archive was linked in its
     /// place. The number is kept here, so that nothing false is said of it.
     Unlisted(u64),
@@ -64,12 +64,12 @@ impl Reason {
             Reason::Class => 9,
             Reason::Maturity => 10,
             Reason::Rating => 11,
-            Reason::PoolKind => 12,
             Reason::ThinTranche => 13,
             Reason::Room => 14,
             Reason::FileLength => 15,
             Reason::StcMark => 16,
             Reason::Date => 17,
+            Reason::IrbFigure => 18,
             Reason::Unlisted(number) => number,
         }
     }
@@ -83,16 +83,17 @@ impl fmt::Display for Reason {
     }
 }
 
-/// Every listed reason with what is wrong, in the words of the repository's README ("Refusals"), by number from 1.
+/// Every listed reason with what is wrong, in the words of the repository's README ("Refusals"), by number.
 const LISTED: &[(Reason, &str)] = &[
     (Reason::MissingWord, "the sheet ends too early; the place is its length"),
     (
         Reason::Count,
-        "a count is outside its limits: 4 to 6 facts, 1 to 1,000 pool rows, 1 to 32 tranches",
+        "a count is outside its limits: 4 to 6 facts, 1 to 1,000 pool rows, 1 to 32 tranches, \
+         1 for the IRB section",
     ),
     (
         Reason::WordsFollow,
-        "words follow the last tranche; the place of the first",
+        "words follow the last section; the place of the first",
     ),
     (Reason::Fact, "a fact is none of its codes"),
     (Reason::PoolAmount, "an exposure or nominal amount is 0 or above 10^10"),
@@ -105,16 +106,15 @@ const LISTED: &[(Reason, &str)] = &[
     (Reason::Class, "a class out of order"),
     (Reason::Maturity, "a maturity outside 1 to 1200 months"),
     (Reason::Rating, "a rating that is not in the list"),
-    (Reason::PoolKind, "an IRB or mixed pool"),
     (
         Reason::ThinTranche,
-        "a tranche under the formula (unrated, or any in a re-securitisation) whose class is so thin that its \
+        "a tranche under the formula (SEC-SA or SEC-IRBA) whose class is so thin that its \
          attachment and detachment points are equal, above the pool charge; the place of its amount",
     ),
     (Reason::Room, "the calling program lent too few result words; place 0"),
     (
         Reason::FileLength,
-        "the file's length is no multiple of 8, or above 33,864 bytes; place 0",
+        "the file's length is no multiple of 8, or above 33,920 bytes; place 0",
     ),
     (Reason::StcMark, "an STC mark on a re-securitisation"),
     (
@@ -122,6 +122,7 @@ const LISTED: &[(Reason, &str)] = &[
         "with a reporting date: a date that does not exist or lies outside the years 2000 to 2199, or a maturity not \
          after the reporting date",
     ),
+    (Reason::IrbFigure, "a figure of the IRB section is outside its limits"),
 ];
 
 /// What is wrong where the number is not listed.
@@ -219,7 +220,7 @@ mod tests {
         let ((shortest, longest), (first, last)) = (MONTHS, YEARS);
         let (rows, bytes) = (grouped(MOST_ROWS), grouped(FILE_BYTES));
         let facts = format!("{FEWEST_FACTS} to {MOST_FACTS} facts");
-        let counts = format!("{facts}, 1 to {rows} pool rows, 1 to {MOST_TRANCHES} tranches");
+        let counts = format!("{facts}, 1 to {rows} pool rows, 1 to {MOST_TRANCHES} tranches, 1 for the IRB section");
         let parts = [
             (Reason::Count, counts),
             (Reason::PoolAmount, format!("above {pool}")),
@@ -237,10 +238,14 @@ mod tests {
         }
     }
 
-    /// The list has the numbers from 1 on in order, and each gives its own reason.
+    /// The refusal number that is no longer given.
+    const GONE: u64 = 12;
+
+    /// The list has the numbers from 1 on in order, but the one that is gone, and each gives its own reason.
     #[test]
     fn the_list_has_each_number_once() {
-        for ((reason, wrong), number) in LISTED.iter().zip(1..) {
+        let numbers = (1..).filter(|number| *number != GONE);
+        for ((reason, wrong), number) in LISTED.iter().zip(numbers) {
             assert_eq!(reason.number(), number);
             assert_eq!(Refusal::new(number, 0).reason(), *reason);
             assert_eq!(reason.to_string(), *wrong);
@@ -250,7 +255,8 @@ mod tests {
     /// A number that is not listed is kept and said to be none that is.
     #[test]
     fn an_unlisted_number_is_kept() {
-        for number in [0, LISTED.len() as u64 + 1, u64::MAX] {
+        let highest = LISTED.iter().map(|(reason, _)| reason.number()).fold(0, u64::max);
+        for number in [0, GONE, highest + 1, u64::MAX] {
             let refusal = Refusal::new(number, 3);
             assert_eq!(refusal.reason(), Reason::Unlisted(number));
             assert_eq!(refusal.reason().number(), number);

@@ -1,4 +1,4 @@
-//! The sheet of a deal and its builder (document 01, "The deal sheet"; document 02, S-1 and S-3).
+//! The sheet of a deal and its builder (document 01, "The deal sheet"; document 02, S-1, S-3 and S-5).
 
 use std::marker::PhantomData;
 
@@ -6,7 +6,7 @@ use crate::calls::weigh_sheet;
 use crate::date::Date;
 use crate::deal::Deal;
 use crate::facts::Facts;
-use crate::limits::{FEWEST_FACTS, MOST_FACTS, MOST_ROWS, MOST_TRANCHES, ROW_WORDS, TRANCHE_WORDS};
+use crate::limits::{FEWEST_FACTS, IRB_WORDS, MOST_FACTS, MOST_ROWS, MOST_TRANCHES, ROW_WORDS, TRANCHE_WORDS};
 use crate::pool::{Row, Status};
 use crate::refusal::Refusal;
 use crate::sheet_error::SheetError;
@@ -28,9 +28,6 @@ enum DealKind {
     Resecuritisation,
 }
 
-/// The pool kind of every deal: a pool under the standardised approach, SA.
-const SA: u64 = 0;
-
 /// The status word of every row in a re-securitisation: a securitisation tranche.
 const SECURITISATION_TRANCHE: u64 = 3;
 
@@ -39,6 +36,8 @@ const SECURITISATION_TRANCHE: u64 = 3;
 /// The sheet states no fact that it can leave out: [`FEWEST_FACTS`] in a deal with neither STC mark nor reporting date,
 /// and after them the mark where the deal is STC, or mark and date where it has a reporting date. So a deal keeps its
 /// words, and each word its place, when later versions have further facts.
+///
+/// Where the pool kind has an IRB section, it follows the tranches.
 ///
 /// In a deal with a reporting date each tranche's maturity is a date, and in any other a number of months.
 ///
@@ -49,6 +48,8 @@ pub struct SheetBuilder<Kind> {
     facts: [[u64; 1]; MOST_FACTS],
     rows: Vec<[u64; ROW_WORDS]>,
     tranches: Vec<[u64; TRANCHE_WORDS]>,
+    /// The IRB section, where the pool kind has one.
+    irb: Option<[u64; IRB_WORDS]>,
     reporting_date: Option<Date>,
     /// The class of the last tranche placed; 0 before the first.
     class: u64,
@@ -63,9 +64,9 @@ impl SheetBuilder<Ordinary> {
 
     /// Starts an STC deal, one that is simple, transparent and comparable, without rows and tranches.
     ///
-    /// It is an ordinary deal with half the supervisory parameter in the formula, a floor of 10% for class 1 (15% below,
-    /// as in other deals), and rating tables of its own, by which a non-senior weight is not raised to the senior one. No
-    /// re-securitisation is STC, and none can be started so.
+    /// It is an ordinary deal with half the supervisory parameter in the formula (under SEC-IRBA no less than 0.3, as in
+    /// other deals), a floor of 10% for class 1 (15% below, as in other deals), and rating tables of its own, by which a
+    /// non-senior weight is not raised to the senior one. No re-securitisation is STC, and none can be started so.
     ///
     /// ```
     /// use tranche_weights::{
@@ -123,7 +124,7 @@ impl<Kind> SheetBuilder<Kind> {
     /// Starts a deal of any kind, with the facts in the sheet's order.
     fn start(kind: DealKind, facts: Facts) -> Self {
         let words = [
-            SA,
+            facts.pool_kind.word(),
             u64::from(kind == DealKind::Resecuritisation),
             u64::from(facts.due_diligence_held),
             u64::from(facts.pool_composition_known),
@@ -134,6 +135,7 @@ impl<Kind> SheetBuilder<Kind> {
             facts: words.map(|word| [word]),
             rows: Vec::new(),
             tranches: Vec::new(),
+            irb: facts.pool_kind.irb_words(),
             reporting_date: facts.reporting_date,
             class: 0,
             kind: PhantomData,
@@ -201,6 +203,7 @@ impl<Kind> SheetBuilder<Kind> {
                 section(needed(&self.facts)),
                 section(&self.rows),
                 section(&self.tranches),
+                self.irb.map_or_else(Vec::new, |words| section(&[words])),
             ]
             .concat(),
         })

@@ -55,6 +55,12 @@ pub enum SheetError {
     MonthsWithReportingDate(Months),
     /// A maturity as a date in a deal without a reporting date: the date given (refusal 10).
     DateWithoutReportingDate(Date),
+    /// A share above 10^6 millionths: the share given (refusal 18).
+    Share(u64),
+    /// An effective number of loans outside 1 to 10^6: the number given (refusal 18).
+    Loans(u64),
+    /// An average weight above 125,000 hundredths of a percent: the weight given (refusal 18).
+    AverageWeight(u64),
     /// A rating code outside 1 to 18 and 21 to 24: the code given (refusal 11).
     Rating(u64),
     /// A first tranche placed in the same class as the one before it: there is none (refusal 9).
@@ -106,6 +112,14 @@ impl fmt::Display for SheetError {
                     "a maturity is in months in a deal without a reporting date, not {given}"
                 )
             }
+            SheetError::Share(given) => outside(f, "a share in millionths", given, limits::SHARE),
+            SheetError::Loans(given) => outside(f, "an effective number of loans", given, limits::LOANS),
+            SheetError::AverageWeight(given) => outside(
+                f,
+                "an average weight in hundredths of a percent",
+                given,
+                limits::AVERAGE_WEIGHT,
+            ),
             SheetError::Rating(given) => write!(f, "a rating code is 1 to 18 or 21 to 24, not {given}"),
             SheetError::NoTrancheBefore => {
                 write!(f, "the first tranche has no tranche before it to share a class with")

@@ -102,7 +102,7 @@ impl Tranche {
     ///
     /// With one rating its weight counts, with two the higher weight. With three the two lowest weights are picked and the
     /// higher of these counts: the middle one. Equal ratings count separately, and the order of the ratings does not
-    /// matter. In a re-securitisation they stand in the sheet and are not used.
+    /// matter. In a re-securitisation and under SEC-IRBA they stand in the sheet and are not used.
     #[must_use]
     pub const fn with_ratings(self, ratings: [Option<Rating>; MOST_RATINGS]) -> Tranche {
         Tranche { ratings, ..self }

@@ -297,6 +297,18 @@ fn errors_say_what_is_admitted() {
             "an amount held is 0 to 800, not 801",
         ),
         (SheetError::Months(1201), "a maturity in months is 1 to 1200, not 1201"),
+        (
+            SheetError::Share(1_000_001),
+            "a share in millionths is 0 to 1000000, not 1000001",
+        ),
+        (
+            SheetError::Loans(0),
+            "an effective number of loans is 1 to 1000000, not 0",
+        ),
+        (
+            SheetError::AverageWeight(125_001),
+            "an average weight in hundredths of a percent is 0 to 125000, not 125001",
+        ),
         (SheetError::Rating(19), "a rating code is 1 to 18 or 21 to 24, not 19"),
         (
             SheetError::NoTrancheBefore,

@@ -1,5 +1,6 @@
 //! The first of document 01's "Checked deals": its words, its text and its making by the builder.
 
+use crate::places::{statuses, RESECURITISATION};
 use tranche_weights::{
     Facts, LongTerm, Months, Ordinary, PoolAmount, RiskWeight, Row, Sheet, SheetBuilder, SheetError, Status, Tranche,
     TrancheAmount, LINE_WORDS,
@@ -24,6 +25,14 @@ total 1049 85
 pub const RESULTS: [u64; 3 * LINE_WORDS] = [
     1, 200_000, 1_000_000, 2_000, 160, 13, 1, 50_000, 200_000, 26_350, 264, 22, 2, 0, 50_000, 125_000, 625, 50,
 ];
+
+/// The sheet as a re-securitisation, each of whose rows is a securitisation tranche.
+pub fn resecuritised() -> [u64; WORDS.len()] {
+    let mut words = WORDS;
+    words[RESECURITISATION] = 1;
+    statuses(&WORDS).for_each(|place| words[place] = 3);
+    words
+}
 
 /// Words as a file: eight bytes each, lowest byte first.
 pub fn file_of(words: &[u64]) -> Vec<u8> {

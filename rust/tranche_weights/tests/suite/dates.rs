@@ -2,9 +2,8 @@
 
 use crate::checked_deal::{both_facts, file_of, tranche, with_rows_and_tranches, RESULTS, TEXT, WORDS};
 use crate::places::{maturities, with_facts};
-use tranche_weights::{
-    reply_to_words, report, Date, Months, Reply, SheetBuilder, SheetError, Tranche, TrancheAmount, RESULT_WORDS,
-};
+use crate::results::weighed;
+use tranche_weights::{report, Date, Months, Reply, SheetBuilder, SheetError, Tranche, TrancheAmount};
 
 /// The reporting date of the deals here.
 pub const REPORTING_DATE: u64 = 20_261_116;
@@ -136,12 +135,6 @@ fn months_are_counted_by_the_day_of_the_month() -> Result<(), SheetError> {
         assert_eq!(months_between(20_261_116, maturity), Err(error));
     }
     Ok(())
-}
-
-/// The reply to a sheet and its results.
-fn weighed(words: &[u64]) -> (Reply, [u64; RESULT_WORDS]) {
-    let mut results = [0; RESULT_WORDS];
-    (reply_to_words(words, &mut results), results)
 }
 
 /// The library counts the same months: with a maturity on any day of the next six years the checked deal's answer is that

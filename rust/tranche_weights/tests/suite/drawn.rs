@@ -2,13 +2,14 @@
 
 use crate::checked_deal::file_of;
 use crate::places::{
-    affirmed, affirmed_on, affirms, fact, first_row, first_tranche, tranche_count, COMPOSITION, DUE_DILIGENCE,
-    REPORTING_DATE, RESECURITISATION, STC,
+    affirmed, affirmed_on, affirms, fact, first_row, first_tranche, irb_count, tranche_count, COMPOSITION,
+    DUE_DILIGENCE, POOL_KIND, REPORTING_DATE, RESECURITISATION, STC,
 };
 use crate::texts::text_of;
 use tranche_weights::{
-    report, weigh_file, Date, Facts, Months, PoolAmount, Rating, Reason, RiskWeight, Row, Sheet, SheetBuilder,
-    SheetError, Status, Tranche, TrancheAmount, MOST_ROWS, MOST_TRANCHES, ROW_WORDS, TRANCHE_WORDS,
+    report, weigh_file, AverageWeight, Date, Facts, IrbFigures, Loans, Months, PoolAmount, PoolKind, Rating, Reason,
+    RiskWeight, Row, Share, Sheet, SheetBuilder, SheetError, Status, Tranche, TrancheAmount, MOST_ROWS, MOST_TRANCHES,
+    ROW_WORDS, TRANCHE_WORDS,
 };
 
 /// The statuses of an ordinary pool, by status word.
@@ -16,6 +17,9 @@ const STATUSES: [Status; 3] = [Status::Paying, Status::Delinquent, Status::NotKn
 
 /// The kinds of deals, each by the fact that makes it so: ordinary, STC, re-securitisation.
 const KINDS: [&[usize]; 3] = [&[], &[STC], &[RESECURITISATION]];
+
+/// The number of pool kinds, whose words are those below it.
+const POOL_KINDS: u64 = 3;
 
 /// An xorshift generator of 64 bits. The seed is not 0.
 struct Generator(u64);
@@ -46,16 +50,18 @@ impl Generator {
         }
     }
 
-    /// The words of a sheet that documents 01 and 02 admit, of an SA pool, and that states no fact it can leave out. Half
-    /// of the sheets have a reporting date.
+    /// The words of a sheet that documents 01 and 02 admit and that states no fact it can leave out. Half of the sheets
+    /// have a reporting date.
     fn words(&mut self) -> Vec<u64> {
         let kind = KINDS[self.below(3) as usize];
         let reporting_date = (self.below(2) == 0).then(|| self.reporting_date());
         let mut words = reporting_date.map_or_else(|| affirmed(kind), |date| affirmed_on(date, kind));
+        words[POOL_KIND] = self.below(POOL_KINDS);
         words[DUE_DILIGENCE] = u64::from(self.below(8) > 0);
         words[COMPOSITION] = self.below(2);
         self.rows(&mut words);
         self.tranches(&mut words, reporting_date);
+        self.irb(&mut words);
         words
     }
 
@@ -134,6 +140,25 @@ impl Generator {
         }
     }
 
+    /// Adds the IRB section, where the pool kind has one. At least half of the mixed pools have a share from 95% on.
+    fn irb(&mut self, words: &mut Vec<u64>) {
+        let share = match (words[POOL_KIND], self.below(2)) {
+            (0, _) => return,
+            (2, 0) => self.within(Share::LOWEST, Share::HIGHEST),
+            (2, _) => Share::HIGHEST - self.below(50_001),
+            _ => Share::HIGHEST,
+        };
+        words.extend([
+            1,
+            self.within(Share::LOWEST, Share::HIGHEST),
+            self.within(Share::LOWEST, Share::HIGHEST),
+            self.within(Loans::LOWEST, Loans::HIGHEST),
+            self.below(2),
+            share,
+            self.within(AverageWeight::LOWEST, AverageWeight::HIGHEST),
+        ]);
+    }
+
     /// A rating code: none two times in three, so that whole tranches are unrated.
     fn rating(&mut self) -> u64 {
         match self.below(66) {
@@ -166,15 +191,36 @@ fn reporting_date_of(words: &[u64]) -> Result<Option<Date>, SheetError> {
     }
 }
 
+/// The pool kind that a sheet states, with the figures of its IRB section.
+fn pool_kind_of(words: &[u64]) -> Result<PoolKind, SheetError> {
+    let [_, charge, loss, loans, retail, share, average] = words[irb_count(words)..] else {
+        return Ok(PoolKind::Sa);
+    };
+    let figures = IrbFigures {
+        charge: Share::new(charge)?,
+        loss: Share::new(loss)?,
+        loans: Loans::new(loans)?,
+        retail: retail == 1,
+        average: AverageWeight::new(average)?,
+    };
+    if words[POOL_KIND] == 1 {
+        Ok(PoolKind::Irb(figures))
+    } else {
+        let share = Share::new(share)?;
+        Ok(PoolKind::Mixed { share, figures })
+    }
+}
+
 /// Builds the sheet that the words state, by the builder of its kind.
 fn built(words: &[u64]) -> Result<Sheet, SheetError> {
     let reporting_date = reporting_date_of(words)?;
     let facts = Facts::new()
+        .with_pool_kind(pool_kind_of(words)?)
         .with_due_diligence_held(affirms(words, DUE_DILIGENCE))
         .with_pool_composition_known(affirms(words, COMPOSITION))
         .with_reporting_date(reporting_date);
     let rows = words[first_row(words)..tranche_count(words)].chunks(ROW_WORDS);
-    let tranches = &words[first_tranche(words)..];
+    let tranches = &words[first_tranche(words)..irb_count(words)];
     if affirms(words, RESECURITISATION) {
         let mut builder = SheetBuilder::resecuritisation(facts);
         for row in rows {
@@ -220,13 +266,15 @@ fn with_tranches<Kind>(mut builder: SheetBuilder<Kind>, words: &[u64], dated: bo
     builder.build()
 }
 
-/// The sorts of sheets: each kind of deal with maturities in months, then each with maturities as dates.
-const SORTS: usize = 2 * KINDS.len();
+/// The sorts of sheets: each kind of deal with maturities in months, then each with maturities as dates; and so for each
+/// pool kind.
+const SORTS: usize = 2 * KINDS.len() * POOL_KINDS as usize;
 
 /// The sort of a sheet, its kind as `KINDS` lists them.
 fn sort_of(words: &[u64]) -> usize {
     let kind = usize::from(affirms(words, STC)) + 2 * usize::from(affirms(words, RESECURITISATION));
-    kind + KINDS.len() * usize::from(fact(words, REPORTING_DATE) != 0)
+    let dated = usize::from(fact(words, REPORTING_DATE) != 0);
+    kind + KINDS.len() * (dated + 2 * words[POOL_KIND] as usize)
 }
 
 /// Any admitted sheet that states no fact it can leave out can be built, to the word. It is weighed with a line per
@@ -236,7 +284,7 @@ fn sort_of(words: &[u64]) -> usize {
 fn a_built_sheet_is_refused_by_13_alone() -> Result<(), SheetError> {
     let mut generator = Generator(0x7261_6e63_6865_7301);
     let (mut weighed, mut refused) = ([0; SORTS], [0; SORTS]);
-    for _ in 0..2400 {
+    for _ in 0..7200 {
         let words = generator.words();
         let sheet = built(&words)?;
         assert_eq!(sheet.words(), words);

@@ -7,6 +7,7 @@ mod builder;
 mod checked_deal;
 mod dates;
 mod drawn;
+mod irb;
 mod numbers;
 mod places;
 mod ratings;

@@ -1,9 +1,12 @@
-//! The places of a sheet's words (document 01, "The deal sheet"; document 02, S-1 and S-3).
+//! The places of a sheet's words (document 01, "The deal sheet"; document 02, S-1, S-3 and S-5).
 
-use tranche_weights::{Date, FEWEST_FACTS, ROW_WORDS, TRANCHE_WORDS};
+use tranche_weights::{Date, FEWEST_FACTS, IRB_WORDS, ROW_WORDS, TRANCHE_WORDS};
 
 /// The place of the count of facts.
 const FACT_COUNT: usize = 0;
+
+/// The place of the pool kind.
+pub const POOL_KIND: usize = 1;
 
 /// The place of the fact whether the deal is a re-securitisation.
 pub const RESECURITISATION: usize = 2;
@@ -20,8 +23,23 @@ pub const STC: usize = 5;
 /// The place of the reporting date, where the sheet states it.
 pub const REPORTING_DATE: usize = 6;
 
+/// The place of the status among a row's words.
+const STATUS: usize = 3;
+
 /// The place of the maturity among a tranche's words.
 pub const MATURITY: usize = 2;
+
+/// The place of the first rating among a tranche's words.
+const FIRST_RATING: usize = 4;
+
+/// The place of the effective number of loans among the IRB section's figures.
+pub const LOANS: usize = 2;
+
+/// The place of the share of exposure with an IRB charge among the IRB section's figures.
+pub const SHARE: usize = 4;
+
+/// The place of the IRB average weight among the IRB section's figures.
+pub const AVERAGE: usize = 5;
 
 /// The facts' section of a sheet that affirms just the facts at these places and states no fact that it can leave out.
 pub fn affirmed(places: &[usize]) -> Vec<u64> {
@@ -46,6 +64,13 @@ pub fn with_facts(words: &[u64], further: &[u64]) -> Vec<u64> {
     let count = (FEWEST_FACTS + further.len()) as u64;
     let (facts, sections) = words.split_at(row_count(words));
     [&[count], &facts[1..], further, sections].concat()
+}
+
+/// A sheet of an SA pool with this pool kind and this IRB section, after its count.
+pub fn with_irb(words: &[u64], pool_kind: u64, figures: [u64; IRB_WORDS]) -> Vec<u64> {
+    let mut words = [words, &[1], &figures].concat();
+    words[POOL_KIND] = pool_kind;
+    words
 }
 
 /// The fact at a place. One that the sheet leaves out counts as 0.
@@ -78,7 +103,27 @@ pub fn first_tranche(words: &[u64]) -> usize {
     tranche_count(words) + 1
 }
 
+/// The place after the last tranche, of the count of the IRB section where the pool kind has one.
+pub fn irb_count(words: &[u64]) -> usize {
+    first_tranche(words) + TRANCHE_WORDS * words[tranche_count(words)] as usize
+}
+
+/// The place of the IRB section's first figure.
+pub fn first_figure(words: &[u64]) -> usize {
+    irb_count(words) + 1
+}
+
+/// The places of the rows' statuses.
+pub fn statuses(words: &[u64]) -> impl Iterator<Item = usize> {
+    (first_row(words) + STATUS..tranche_count(words)).step_by(ROW_WORDS)
+}
+
+/// The places of the tranches' first ratings.
+pub fn ratings(words: &[u64]) -> impl Iterator<Item = usize> {
+    (first_tranche(words) + FIRST_RATING..irb_count(words)).step_by(TRANCHE_WORDS)
+}
+
 /// The places of the tranches' maturities.
 pub fn maturities(words: &[u64]) -> impl Iterator<Item = usize> {
-    (first_tranche(words) + MATURITY..words.len()).step_by(TRANCHE_WORDS)
+    (first_tranche(words) + MATURITY..irb_count(words)).step_by(TRANCHE_WORDS)
 }

@@ -1,9 +1,13 @@
-//! Each refusal, with its number, place and reason (document 01, "Refusals, by who can cause them"; document 02, S-1
-//! and S-3).
+//! Each refusal, with its number, place and reason (document 01, "Refusals, by who can cause them"; document 02, S-1,
+//! S-3 and S-5).
 
-use crate::checked_deal::{file_of, RESULTS, WORDS};
+use crate::checked_deal::{file_of, resecuritised, RESULTS, WORDS};
 use crate::dates::{dated, MATURITY, REPORTING_DATE};
-use crate::places::{row_count, with_facts, RESECURITISATION};
+use crate::irb::FIGURES;
+use crate::places::{
+    first_figure, irb_count, ratings, row_count, with_facts, with_irb, DUE_DILIGENCE, LOANS, POOL_KIND,
+    RESECURITISATION, SHARE,
+};
 use tranche_weights::{
     reply_to_file, reply_to_words, report, weigh_file, weigh_words, Reason, Refusal, Reply, BYTES_PER_WORD, FILE_BYTES,
     LINE_WORDS, RESULT_WORDS,
@@ -57,11 +61,75 @@ fn refused_words() -> Vec<(Vec<u64>, u64, u64, Reason)> {
         (with(30, 4), 9, 30, Reason::Class),
         (with(17, 1201), 10, 17, Reason::Maturity),
         (with(19, 19), 11, 19, Reason::Rating),
-        (with(1, 1), 12, 1, Reason::PoolKind),
-        (with(1, 2), 12, 1, Reason::PoolKind),
         (thin(), 13, 18, Reason::ThinTranche),
         (with_facts(&thin(), &[1]), 13, 19, Reason::ThinTranche),
         (resecuritisation_with(&[1]), 16, 5, Reason::StcMark),
+    ]
+}
+
+/// Words refused by the library for the pool kind or the IRB section, each with number, place and reason. The count of
+/// the section stands at 36, and its figures from 37 on.
+fn refused_sections() -> Vec<(Vec<u64>, u64, u64, Reason)> {
+    let whole = with_irb(&WORDS, 2, FIGURES);
+    let mixed = |place: usize, word| {
+        let mut words = whole.clone();
+        words[place] = word;
+        words
+    };
+    let outside = [
+        (37, 1_000_001),
+        (38, 1_000_001),
+        (39, 0),
+        (39, 1_000_001),
+        (40, 2),
+        (41, 1_000_001),
+        (42, 125_001),
+        (42, u64::MAX),
+    ];
+    let outside = outside.map(|(place, word)| (mixed(place, word), 18, place as u64, Reason::IrbFigure));
+    let others = [
+        (with(POOL_KIND, 1), 1, 36, Reason::MissingWord),
+        (with(POOL_KIND, 2), 1, 36, Reason::MissingWord),
+        (whole[..42].to_vec(), 1, 42, Reason::MissingWord),
+        (mixed(36, 0), 2, 36, Reason::Count),
+        (mixed(36, 2), 2, 36, Reason::Count),
+        (mixed(POOL_KIND, 0), 3, 36, Reason::WordsFollow),
+        ([&whole[..], &[0]].concat(), 3, 43, Reason::WordsFollow),
+        (mixed(POOL_KIND, 3), 4, 1, Reason::Fact),
+        (mixed(19, 19), 11, 19, Reason::Rating),
+        (mixed(39, 0)[..40].to_vec(), 18, 39, Reason::IrbFigure),
+    ];
+    outside.into_iter().chain(others).collect()
+}
+
+/// Words refused by the library, each with number, place and reason: an IRB pool whose share is not all of it; the IRB
+/// section where it is judged and not used, of a re-securitisation and without due diligence; a thin tranche under
+/// SEC-IRBA, rated or not, after the section.
+fn refused_deals() -> Vec<(Vec<u64>, u64, u64, Reason)> {
+    let with_figure = |words: &[u64], kind, figure: usize, word| {
+        let mut figures = FIGURES;
+        figures[figure] = word;
+        let place = first_figure(words) + figure;
+        (with_irb(words, kind, figures), 18, place as u64, Reason::IrbFigure)
+    };
+    let no_count = |words: &[u64]| {
+        let mut without = words.to_vec();
+        without[POOL_KIND] = 2;
+        (without, 1, irb_count(words) as u64, Reason::MissingWord)
+    };
+    let thin = thin();
+    let mut rated = thin.clone();
+    ratings(&thin).for_each(|place| rated[place] = 1);
+    vec![
+        with_figure(&WORDS, 1, SHARE, 999_999),
+        with_figure(&WORDS, 1, SHARE, 1_000_001),
+        with_figure(&resecuritised(), 2, LOANS, 0),
+        with_figure(&with(DUE_DILIGENCE, 0), 2, LOANS, 0),
+        with_figure(&thin, 2, LOANS, 0),
+        no_count(&resecuritised()),
+        no_count(&with(DUE_DILIGENCE, 0)),
+        (with_irb(&thin, 2, FIGURES), 13, 18, Reason::ThinTranche),
+        (with_irb(&rated, 2, FIGURES), 13, 18, Reason::ThinTranche),
     ]
 }
 
@@ -114,7 +182,9 @@ fn hold(refusal: Refusal, number: u64, place: u64, reason: Reason) {
 #[test]
 fn refused_words_leave_the_results() {
     let before: Vec<u64> = (900..).take(RESULT_WORDS).collect();
-    for (words, number, place, reason) in refused_words().into_iter().chain(refused_dates()) {
+    for (words, number, place, reason) in
+        [refused_words(), refused_dates(), refused_sections(), refused_deals()].concat()
+    {
         let mut results = before.clone();
         hold(weigh_words(&words, &mut results).unwrap_err(), number, place, reason);
         assert_eq!(reply_to_words(&words, &mut results), Reply::refusing(number, place));
@@ -132,7 +202,7 @@ fn refused_words_leave_the_results() {
 /// no number.
 #[test]
 fn facts_of_0_move_later_places() {
-    let refused = refused_words();
+    let refused = [refused_words(), refused_sections(), refused_deals()].concat();
     let of_four_facts = refused.iter().filter(|(words, ..)| words.first() == Some(&4));
     for (words, number, place, _) in of_four_facts {
         for further in [&[0][..], &[0, 0]] {

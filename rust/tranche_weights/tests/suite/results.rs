@@ -8,7 +8,18 @@ use tranche_weights::{
 };
 
 /// The approaches, by their words.
-const APPROACHES: [Approach; 3] = [Approach::Fallback, Approach::SecErba, Approach::SecSa];
+const APPROACHES: [Approach; 4] = [
+    Approach::Fallback,
+    Approach::SecErba,
+    Approach::SecSa,
+    Approach::SecIrba,
+];
+
+/// The reply to a sheet and its results.
+pub fn weighed(words: &[u64]) -> (Reply, [u64; RESULT_WORDS]) {
+    let mut results = [0; RESULT_WORDS];
+    (reply_to_words(words, &mut results), results)
+}
 
 /// Holds a call that weighs the checked deal into lent results: its lines' words are written where they just fit, and
 /// words after them are as they were.
@@ -44,11 +55,11 @@ fn an_accepted_sheet_has_number_and_place_0() {
 }
 
 /// The sizes that are worked out from their parts are those of documents 01 and 02: six words for each of 32 tranches;
-/// a file of at most 33,864 bytes; the bytes of a report as the library has them.
+/// a file of at most 33,920 bytes; the bytes of a report as the library has them.
 #[test]
 fn sizes_are_those_of_the_papers() {
     assert_eq!((LINE_WORDS, MOST_TRANCHES, RESULT_WORDS), (6, 32, 192));
-    assert_eq!((SHEET_WORDS, FILE_BYTES), (4233, 33_864));
+    assert_eq!((SHEET_WORDS, FILE_BYTES), (4240, 33_920));
     assert_eq!((NUMBER_DIGITS, TEXT_ROOM), (20, 4810));
 }
 
@@ -86,5 +97,5 @@ fn without_due_diligence_every_line_is_the_fallback() {
 #[test]
 fn approaches_have_names() {
     let names = APPROACHES.map(|approach| format!("{approach:>8}"));
-    assert_eq!(names, ["fallback", "SEC-ERBA", "  SEC-SA"]);
+    assert_eq!(names, ["fallback", "SEC-ERBA", "  SEC-SA", "SEC-IRBA"]);
 }

@@ -1,7 +1,7 @@
 //! The report's text and the lent room for it (document 01, "Checked deals").
 
 use crate::checked_deal::{file_of, TEXT, WORDS};
-use crate::places::{affirmed_on, COMPOSITION, DUE_DILIGENCE, STC};
+use crate::places::{affirmed_on, with_irb, COMPOSITION, DUE_DILIGENCE, STC};
 use std::error::Error;
 use tranche_weights::{
     report, report_into, weigh_file, Date, Deal, Refusal, FILE_BYTES, MOST_ROWS, MOST_TRANCHES, ROW_WORDS, TEXT_ROOM,
@@ -38,7 +38,8 @@ fn the_report_on_a_refused_file_names_number_and_place() {
     assert_eq!(report(&file[..file.len() - 1]), "refused 15 at 0\n");
 }
 
-/// The file of a deal with the most facts, rows and tranches, every amount and maturity at its limit and all of it held.
+/// The file of a deal with the most facts, rows and tranches and an IRB section, every amount, maturity and figure at its
+/// limit and all of it held.
 pub fn largest_file() -> Vec<u8> {
     let [reporting_date, maturity] = [2000, 2100].map(|year| Date::new(year, 1, 1).expect("a day of these years"));
     let rows: [[u64; ROW_WORDS]; MOST_ROWS] = [[10_000_000_000, 10_000_000_000, 1250, 0]; MOST_ROWS];
@@ -47,7 +48,12 @@ pub fn largest_file() -> Vec<u8> {
     let counts = [rows.len() as u64, tranches.len() as u64];
     let facts = affirmed_on(reporting_date, &[DUE_DILIGENCE, COMPOSITION, STC]);
     let pool = [&facts[..], &counts[..1], rows.as_flattened()].concat();
-    file_of(&[&pool, &counts[1..], tranches.as_flattened()].concat())
+    let sections = [&pool, &counts[1..], tranches.as_flattened()].concat();
+    file_of(&with_irb(
+        &sections,
+        1,
+        [1_000_000, 1_000_000, 1_000_000, 1, 1_000_000, 125_000],
+    ))
 }
 
 /// The largest deal's file is the longest that is read.
