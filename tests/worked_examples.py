@@ -1,32 +1,35 @@
 #!/usr/bin/env python3
-"""The text that crates/checked_examples must print, worked out from the papers alone: 01, S-1 to S-3 of 02, and Tables 3 and 4 of source document 001. Exact
-fractions, exponentials to a hundred digits, Python's own calendar.
+"""The text that crates/checked_examples must print, worked out from the papers alone: 01, S-1 to S-3 and S-5 of 02, and Tables 3 and 4 of source document 001.
+Exact fractions, exponentials to a hundred digits, Python's own calendar.
 
     python3 tests/worked_examples.py | cmp - crates/checked_examples/stdout
 
 Where two raw weights pass, this prints the lower, the exact value rounded up. It fails where a figure of the rating tables is missing from the examples' weights,
-where a case of one, two or three ratings or of dates is met by no example, or where a deal in dates has other lines than the same deal in months. It needs Python's
-standard library and is no part of the gate.
+where a case of one, two or three ratings, of dates or of the IRB section is met by no example, where no line of the examples depends on a coefficient of SEC-IRBA,
+where a weight published in source document 004 is not enclosed, or where a deal in dates has other lines than the same deal in months. It needs Python's standard
+library and is no part of the gate.
 """
 import os
 import sys
+from collections import namedtuple
 from datetime import date, timedelta
 from decimal import ROUND_CEILING, Decimal, getcontext
 from fractions import Fraction
-from itertools import permutations
+from itertools import permutations, product
 
 getcontext().prec = 100
 getcontext().Emin = -999999999
 
 MILLION = 10**6
 TOP = 125_000
-FALLBACK, ERBA, SA = 0, 1, 2
+FALLBACK, ERBA, SA, IRBA = 0, 1, 2, 3
 
-# Four facts, a fifth and a sixth that may be left out; "Pool, count 1 to 1,000", "Tranches, count 1 to 32"; the words of a pool row, of a tranche and of a line.
+# Four facts, a fifth and a sixth that may be left out; "Pool, count 1 to 1,000", "Tranches, count 1 to 32"; the words of a pool row, of a tranche, of the IRB
+# section and of a line.
 FACTS_LEAST, FACTS_MOST, ROWS, TRANCHES = 4, 6, 1000, 32
-ROW_SIZE, TRANCHE_SIZE, LINE_SIZE = 4, 7, 6
-# The words of the longest sheet, three counts, facts, rows and tranches, 4,233 in all; eight bytes each make 33,864.
-MOST_WORDS = 3 + FACTS_MOST + ROW_SIZE * ROWS + TRANCHE_SIZE * TRANCHES
+ROW_SIZE, TRANCHE_SIZE, IRB_SIZE, LINE_SIZE = 4, 7, 6, 6
+# The words of the longest sheet, four counts, facts, rows, tranches and the IRB section, 4,240 in all; eight bytes each make 33,920.
+MOST_WORDS = 4 + FACTS_MOST + ROW_SIZE * ROWS + TRANCHE_SIZE * TRANCHES + IRB_SIZE
 MOST_BYTES = 8 * MOST_WORDS
 
 # The place of the sixth fact, the reporting date; the years of a date; the most months of a maturity.
@@ -50,6 +53,25 @@ STC = {
 
 # By the STC mark.
 TABLES = (ORDINARY, STC)
+
+# The kinds of a pool; the share of a mixed pool from which SEC-IRBA applies; the number of loans below which a wholesale pool has coefficients of its own.
+SA_POOL, IRB_POOL, MIXED_POOL = 0, 1, 2
+SHARE_LEAST, LOANS_SPLIT = 950_000, 25
+
+# The coefficients of the parameter under SEC-IRBA, in hundredths: constant, per 1/number, per charge, per loss, per year.
+COEFFICIENTS = {
+    "wholesale senior": (0, 356, -185, 55, 7),
+    "wholesale senior under 25 loans": (11, 261, -291, 68, 7),
+    "wholesale non-senior": (16, 287, -103, 21, 7),
+    "wholesale non-senior under 25 loans": (22, 235, -246, 48, 7),
+    "retail senior": (0, 0, -748, 71, 24),
+    "retail non-senior": (0, 0, -578, 55, 27),
+}
+PARAMETER_LEAST = 300_000
+
+# The IRB section, and a sheet with no bad word; `irb` is None in an SA pool.
+Irb = namedtuple("Irb", "charge loss loans retail share average")
+Deal = namedtuple("Deal", "resecuritised diligence composition stc rows tranches irb")
 
 
 class Refused(Exception):
@@ -94,7 +116,7 @@ def maturity_fault(word, reporting):
 
 
 def judged(words):
-    """The facts, the pool's rows and the tranches of a sheet, or the first fault of a word, then 3."""
+    """The deal of a sheet, or the first fault of a word, then 3."""
     place = 0
 
     def take(fault):
@@ -111,7 +133,7 @@ def judged(words):
         return lambda w: 0 if least <= w <= most else number
 
     facts = take(within(FACTS_LEAST, FACTS_MOST, 2))
-    take(lambda w: 4 if w > 2 else 12 if w else 0)
+    kind = take(within(SA_POOL, MIXED_POOL, 4))
     resecuritised, diligence, composition = (take(within(0, 1, 4)) for _ in range(3))
     stc = take(lambda w: 4 if w > 1 else 16 if w and resecuritised else 0) if facts > 4 else 0
     reporting = day_of(take(lambda w: 17 if w and not day_of(w) else 0)) if facts > 5 else None
@@ -128,9 +150,15 @@ def judged(words):
         held = take(within(0, amount, 8))
         codes = [take(lambda w: 0 if w == 0 or w in ORDINARY else 11) for _ in range(3)]
         tranches.append((at, amount, last, months, held, codes))
+    irb = None
+    if kind != SA_POOL:
+        take(within(1, 1, 2))
+        share_least = MILLION if kind == IRB_POOL else 0
+        limits = Irb((0, MILLION), (0, MILLION), (1, MILLION), (0, 1), (share_least, MILLION), (0, TOP))
+        irb = Irb(*(take(within(*limit, 18)) for limit in limits))
     if place < len(words):
         raise Refused(3, place)
-    return resecuritised, diligence, composition, stc, rows, tranches
+    return Deal(resecuritised, diligence, composition, stc, rows, tranches, irb)
 
 
 # ---- points and pool charge
@@ -142,6 +170,11 @@ def point(rows, tranches, counted):
     return max(0, nominal - sum(t[1] for t in tranches if counted(t[2]))) * MILLION // nominal
 
 
+def mean_weight(rows, scale):
+    """Scale × (sum of exposure × risk weight) / (sum of exposure), rounded up."""
+    return up(scale * sum(e * w for e, _, w, _ in rows), sum(e for e, _, _, _ in rows))
+
+
 def pool_charge(rows):
     """The pool charge, and whether unknown rows are within 5% of all exposure."""
     every = sum(e for e, _, _, _ in rows)
@@ -149,10 +182,20 @@ def pool_charge(rows):
     exposure = sum(e for e, _, _, _ in known)
     if 20 * (every - exposure) > every:
         return MILLION, False
-    base = up(800 * sum(e * w for e, _, w, _ in known), exposure)
+    base = mean_weight(known, 800)
     late = up(sum(n for _, n, _, s in known if s == 1) * MILLION, sum(n for _, n, _, _ in known))
     charge = up((MILLION - late) * base + 500_000 * late, MILLION)
     return up(exposure * charge + (every - exposure) * MILLION, every), True
+
+
+def by_irba(deal):
+    """Whether a deal's tranches take SEC-IRBA. The share of an IRB pool is 10^6."""
+    return deal.diligence and not deal.resecuritised and deal.irb is not None and deal.irb.share >= SHARE_LEAST
+
+
+def mixed_charge(deal):
+    """The charge under SEC-IRBA: share × IRB charge + rest × base charge, rounded up, with the base charge over all rows."""
+    return up(deal.irb.share * deal.irb.charge + (MILLION - deal.irb.share) * mean_weight(deal.rows, 800), MILLION)
 
 
 # ---- the rating tables
@@ -205,13 +248,37 @@ def raw_weight(a, d, k, p):
     return int(whole)
 
 
+# ---- the parameter of SEC-IRBA
+
+
+def coefficients_of(irb, senior):
+    """The name of the coefficients that a tranche takes. Retail has no split by the number of loans."""
+    name = "%s %s" % ("retail" if irb.retail else "wholesale", "senior" if senior else "non-senior")
+    return name if irb.retail or irb.loans >= LOANS_SPLIT else name + " under 25 loans"
+
+
+def parameter_sum(irb, stc, months, charge, coefficients):
+    """The sum for the parameter, halved in an STC deal, exact."""
+    measures = 1, Fraction(1, irb.loans), Fraction(charge, MILLION), Fraction(irb.loss, MILLION), Fraction(maturity(months), 60)
+    total = sum(c * m for c, m in zip(coefficients, measures)) / 100
+    return total / 2 if stc else total
+
+
+def parameter_of_sum(total):
+    """A sum rounded up to a millionth, then raised to 0.3."""
+    return max(PARAMETER_LEAST, up(total.numerator * MILLION, total.denominator))
+
+
 # ---- the report
 
 # The rating words of each tranche under SEC-ERBA, with the weights by those that are ratings.
 RATED = []
+# The deal, the tranche, A, D and the charge of each line under SEC-IRBA.
+BY_IRBA = []
 
 
 def parameter_and_floor(resecuritised, stc, senior):
+    """Those of 01 and S-1."""
     if resecuritised:
         return 1_500_000, 10_000
     if stc:
@@ -219,25 +286,55 @@ def parameter_and_floor(resecuritised, stc, senior):
     return MILLION, 1_500
 
 
+def approach_of(deal, codes, known):
+    """Which approach a tranche with these rating words takes."""
+    if not deal.diligence:
+        return FALLBACK
+    if deal.resecuritised:
+        return SA
+    if by_irba(deal):
+        return IRBA
+    return ERBA if any(codes) else SA if known else FALLBACK
+
+
+def limited(deal, approach, senior, weight):
+    """A weight raised to the floor, then lowered to the cap."""
+    weight = max(weight, parameter_and_floor(deal.resecuritised, deal.stc, senior)[1])
+    if senior and not deal.resecuritised and deal.composition:
+        weight = min(weight, deal.irb.average if approach == IRBA else mean_weight(deal.rows, 100))
+    return weight
+
+
+def irba_weight(deal, tranche, a, d, charge, coefficients):
+    """The weight of a tranche under SEC-IRBA with these coefficients."""
+    _, _, rank, months, _, _ = tranche
+    parameter = parameter_of_sum(parameter_sum(deal.irb, deal.stc, months, charge, coefficients))
+    return limited(deal, IRBA, rank == 1, raw_weight(a, d, charge, parameter))
+
+
+def weight_of(deal, approach, tranche, a, d, charge):
+    """The weight of a tranche by its approach."""
+    _, _, rank, months, _, codes = tranche
+    senior = rank == 1
+    if approach == FALLBACK:
+        return TOP
+    if approach == IRBA:
+        BY_IRBA.append((deal, tranche, a, d, charge))
+        return irba_weight(deal, tranche, a, d, charge, COEFFICIENTS[coefficients_of(deal.irb, senior)])
+    if approach == ERBA:
+        table = [weight_by_rating(c, deal.stc, senior, months, d - a) for c in codes if c]
+        RATED.append((codes, table))
+        return limited(deal, approach, senior, weight_that_counts(table))
+    return limited(deal, approach, senior, raw_weight(a, d, charge, parameter_and_floor(deal.resecuritised, deal.stc, senior)[0]))
+
+
 def line(tranche, a, d, charge, known, deal):
     """The six words of a tranche, or refusal 13."""
-    resecuritised, diligence, composition, stc, rows, _ = deal
-    at, _, rank, months, held, codes = tranche
-    parameter, floor = parameter_and_floor(resecuritised, stc, rank == 1)
-    approach = FALLBACK if not diligence else SA if resecuritised else ERBA if any(codes) else SA if known else FALLBACK
-    if approach == SA and a == d and d > charge:
+    at, _, _, _, held, codes = tranche
+    approach = approach_of(deal, codes, known)
+    if approach in (SA, IRBA) and a == d and d > charge:
         raise Refused(13, at)
-    weight = TOP
-    if approach != FALLBACK:
-        if approach == ERBA:
-            table = [weight_by_rating(c, stc, rank == 1, months, d - a) for c in codes if c]
-            RATED.append((codes, table))
-            weight = weight_that_counts(table)
-        else:
-            weight = raw_weight(a, d, charge, parameter)
-        weight = max(floor, weight)
-        if rank == 1 and not resecuritised and composition:
-            weight = min(weight, up(100 * sum(e * w for e, _, w, _ in rows), sum(e for e, _, _, _ in rows)))
+    weight = weight_of(deal, approach, tranche, a, d, charge)
     return approach, a, d, weight, up(held * weight, 10_000), up(held * weight * 8, MILLION)
 
 
@@ -245,12 +342,11 @@ def report(words):
     """The text of a sheet's file."""
     try:
         deal = judged(words)
-        rows, tranches = deal[-2:]
-        charge, known = pool_charge(rows)
+        charge, known = (mixed_charge(deal), True) if by_irba(deal) else pool_charge(deal.rows)
         lines = []
-        for t in tranches:
-            a = point(rows, tranches, lambda rank: rank <= t[2])
-            d = point(rows, tranches, lambda rank: rank < t[2])
+        for t in deal.tranches:
+            a = point(deal.rows, deal.tranches, lambda rank: rank <= t[2])
+            d = point(deal.rows, deal.tranches, lambda rank: rank < t[2])
             lines.append(line(t, a, d, charge, known, deal))
     except Refused as r:
         return "refused %d at %d" % r.args
@@ -289,17 +385,18 @@ def print_figures():
 
 
 def print_limits():
-    """14 before 13, files of zeros, and the largest deals: six facts, 1,000 rows of 10^10, 32 tranches of a 32nd of the pool."""
+    """14 before 13, files of zeros, and the largest deals: six facts, a mixed pool of 1,000 rows of 10^10, 32 tranches of a 32nd of the pool, the IRB section."""
     print("thin tranche, results of %d words: refused 14 at 0" % (3 * LINE_SIZE - 1))
     print("thin tranche, results of %d words: %s" % (3 * LINE_SIZE, report(THIN)))
     for length in (0, 7, MOST_BYTES - 1, MOST_BYTES, MOST_BYTES + 1, MOST_BYTES + 8):
         text = "refused 15 at 0" if length % 8 or length > MOST_BYTES else report([0] * (length // 8))
         print("file of zeros, bytes %d: %s" % (length, text))
-    for weight, stc in ((1250, 0), (100, 0), (100, 1)):
-        sheet = [FACTS_MOST, 0, 0, 1, 1, stc, 0, ROWS] + [10**10, 10**10, weight, 0] * ROWS + [TRANCHES]
+    for weight, stc, share in ((1250, 0, 0), (100, 0, 0), (100, 1, 0), (100, 0, SHARE_LEAST), (100, 1, MILLION)):
+        sheet = [FACTS_MOST, MIXED_POOL, 0, 1, 1, stc, 0, ROWS] + [10**10, 10**10, weight, 0] * ROWS + [TRANCHES]
         for rank in range(1, TRANCHES + 1):
             sheet += [312500000000, rank, 1200, 312500000000, 0, 0, 0]
-        print("largest deal, risk weight %d, STC mark %d\n%s" % (weight, stc, report(sheet)))
+        sheet += [1, *Irb(charge=200_000, loss=MILLION, loans=MILLION, retail=0, share=share, average=TOP)]
+        print("largest deal, risk weight %d, STC mark %d, share %d\n%s" % (weight, stc, share, report(sheet)))
 
 
 def read_examples(folder):
@@ -312,8 +409,9 @@ def read_examples(folder):
 
 
 def print_examples(sheets):
-    """Prints the report on each example, and returns the reports by name. Leaves in RATED the ratings of the examples alone."""
+    """Prints the report on each example, and returns the reports by name. Leaves in RATED and BY_IRBA what is of the examples alone."""
     RATED.clear()
+    BY_IRBA.clear()
     texts = {}
     for name, words in sheets.items():
         texts[name] = report(words)
@@ -351,6 +449,11 @@ def rating_cases(codes, weights):
             yield "another rating by code than by weight"
         if min(codes) < 19 < max(codes):
             yield "three ratings, long and short term"
+
+
+def refusal_of(text):
+    """Number and place where a report is a refusal, else None."""
+    return tuple(int(n) for n in text.split()[1::2]) if text.startswith("refused") else None
 
 
 def check_met(due, met):
@@ -421,7 +524,7 @@ def date_cases(words, text):
     """What a sheet with a sixth fact and the report on it are an example of."""
     if words[:1] != [6] or len(words) <= REPORTING_AT:
         return
-    number, place = (int(n) for n in text.split()[1::2]) if text.startswith("refused") else (0, len(words))
+    number, place = refusal_of(text) or (0, len(words))
     word, reporting = words[REPORTING_AT], day_of(words[REPORTING_AT])
     rows_at = REPORTING_AT + 1
     first = rows_at + 1 + ROW_SIZE * (words + [0])[rows_at] + 1
@@ -468,7 +571,143 @@ def check_same_lines(texts):
                 sys.exit("%s: not the report on %s" % (name, base))
         if name.endswith("_dated.txt"):
             approaches |= {int(l.split()[1]) for l in text.splitlines()[1:-1]}
-    check_met(["approach %d in dates" % a for a in (FALLBACK, ERBA, SA)], ["approach %d in dates" % a for a in approaches])
+    check_met(["approach %d in dates" % a for a in (FALLBACK, ERBA, SA, IRBA)], ["approach %d in dates" % a for a in approaches])
+
+
+# ---- the cases of the IRB section
+
+
+def section_cases(words, text):
+    """What a sheet of an IRB or a mixed pool is an example of: the refusal at its IRB section, or the approaches where SEC-IRBA does not apply."""
+    if words[1:2] not in ([IRB_POOL], [MIXED_POOL]):
+        return
+    if not refusal_of(text):
+        deal = judged(words)
+        if not by_irba(deal):
+            reason = "no due diligence" if not deal.diligence else "re-securitisation" if deal.resecuritised else "share %d" % deal.irb.share
+            yield from ("pool kind %d, %s, approach %s" % (words[1], reason, l.split()[1]) for l in text.splitlines()[1:-1])
+        return
+    number, place = refusal_of(text)
+    found = dict(enumerate(words))
+    tranches_at = words[0] + 2 + ROW_SIZE * found.get(words[0] + 1, 0)
+    section_at = tranches_at + 1 + TRANCHE_SIZE * found.get(tranches_at, 0)
+    if place >= section_at:
+        yield "pool kind %d, %d at word %d, %s" % (words[1], number, place - section_at, found.get(place, "missing"))
+
+
+def coefficient_cases(deal, tranche, a, d, charge):
+    """The coefficients that a line under SEC-IRBA depends on: with a hundredth more it would have another weight. And whether no other row of coefficients gives it."""
+    name = coefficients_of(deal.irb, tranche[2] == 1)
+    own = COEFFICIENTS[name]
+    weights = {key: irba_weight(deal, tranche, a, d, charge, c) for key, c in COEFFICIENTS.items()}
+    for i, what in enumerate(("constant", "per 1/number", "per charge", "per loss", "per year")):
+        if irba_weight(deal, tranche, a, d, charge, own[:i] + (own[i] + 1,) + own[i + 1:]) != weights[name]:
+            yield "%s: %s" % (name, what)
+    if list(weights.values()).count(weights[name]) == 1:
+        yield "%s, %d loans" % (name, deal.irb.loans)
+
+
+def parameter_cases(deal, tranche, a, d, charge):
+    """What the parameter of a line under SEC-IRBA is an example of."""
+    _, _, rank, months, _, _ = tranche
+    coefficients = COEFFICIENTS[coefficients_of(deal.irb, rank == 1)]
+    total = parameter_sum(deal.irb, deal.stc, months, charge, coefficients)
+    least = Fraction(PARAMETER_LEAST, MILLION)
+    stc = "STC" if deal.stc else "no STC"
+    weight = irba_weight(deal, tranche, a, d, charge, coefficients)
+
+    def by(parameter):
+        return limited(deal, IRBA, rank == 1, raw_weight(a, d, charge, parameter))
+
+    if total < 0:
+        yield "%s, a negative sum" % stc
+    if deal.stc and total > least:
+        yield "STC, half of the sum above 0.3"
+    if deal.stc and total < least < 2 * total and by(parameter_of_sum(2 * total)) != weight:
+        yield "STC, the sum above 0.3 and half of it below"
+    if by(max(PARAMETER_LEAST, total.numerator * MILLION // total.denominator)) != weight:
+        yield "%s, the parameter rounded up" % stc
+    if by(parameter_of_sum(parameter_sum(deal.irb, deal.stc, months, deal.irb.charge, coefficients))) != weight:
+        yield "%s, the mixed charge in the parameter" % stc
+
+
+def charge_cases(deal, tranche, a, d, charge):
+    """What the charge of a deal under SEC-IRBA is an example of, and how D stands to it."""
+    share, rows = Fraction(deal.irb.share, MILLION), deal.rows
+    known = [r for r in rows if r[3] != 2]
+    yield "share %d" % deal.irb.share
+    base = Fraction(800 * sum(e * w for e, _, w, _ in rows), sum(e for e, _, _, _ in rows))
+    exact = share * deal.irb.charge + (1 - share) * base
+    if up(exact.numerator, exact.denominator) != charge:
+        yield "the base charge rounded up first"
+    if share < 1 and not known:
+        yield "no known row"
+    elif share < 1 and mixed_charge(deal._replace(rows=known)) != charge and not pool_charge(rows)[1]:
+        yield "base over all rows, unknown ones above 5%"
+    if any(s == 1 for _, _, _, s in rows):
+        yield "late rows"
+    yield "K %s, D %s" % ("0" if charge == 0 else "above 0", "above K" if d > charge else "K" if d == charge else "below K")
+    if a == d and d > pool_charge(rows)[0]:
+        yield "A = D above the charge of 01 alone"
+
+
+def limit_cases(deal, tranche, a, d, charge):
+    """What floor, cap and ratings of a line under SEC-IRBA are an example of."""
+    _, _, rank, _, _, codes = tranche
+    if any(codes):
+        yield "a rated tranche"
+    if rank == 1:
+        coefficients = COEFFICIENTS[coefficients_of(deal.irb, True)]
+        weight, uncapped = (irba_weight(deal._replace(composition=known), tranche, a, d, charge, coefficients) for known in (1, 0))
+        if not deal.composition and weight < uncapped:
+            yield "an IRB average below the weight, composition unknown"
+        elif weight < uncapped:
+            side = "below" if deal.irb.average < mean_weight(deal.rows, 100) else "above"
+            yield "cap %s" % ("0" if weight == 0 else "below the floor" if weight < 1_000 else side + " the pool average")
+
+
+def check_irba(sheets, texts):
+    """Every case of the IRB section and of SEC-IRBA is met."""
+    met = {case for name, words in sheets.items() for case in section_cases(words, texts[name])}
+    for line_inputs in BY_IRBA:
+        for cases in (coefficient_cases, parameter_cases, charge_cases, limit_cases):
+            met.update(cases(*line_inputs))
+    kinds = IRB_POOL, MIXED_POOL
+    due = ["pool kind %d, 1 at word 0, missing" % kind for kind in kinds] + ["pool kind 1, 1 at word %d, missing" % n for n in (1, 6)]
+    due += ["pool kind 1, 2 at word 0, 0", "pool kind 2, 2 at word 0, 2", "pool kind 1, 3 at word 7, 0", "pool kind 2, 3 at word 7, 1"]
+    outside = [(1, MILLION + 1), (2, MILLION + 1), (3, 0), (4, 2), (5, 0), (5, MILLION - 1), (5, MILLION + 1), (6, TOP + 1)]
+    due += ["pool kind 1, 18 at word %d, %d" % case for case in outside]
+    due += ["pool kind 2, 18 at word %d, %d" % case for case in ((3, MILLION + 1), (5, MILLION + 1))]
+    due += ["pool kind 2, 18 at word %d, %d" % (n, 2**64 - 1) for n in (1, 6)]
+    due += ["pool kind %d, re-securitisation, approach 2" % kind for kind in kinds] + ["pool kind %d, no due diligence, approach 0" % kind for kind in kinds]
+    due += ["pool kind 2, share %d, approach %d" % case for case in ((SHARE_LEAST - 1, ERBA), (SHARE_LEAST - 1, SA), (0, FALLBACK))]
+    due += ["%s: %s" % (name, what) for name in COEFFICIENTS for what in ("constant", "per 1/number", "per charge", "per loss", "per year")]
+    splits = "wholesale %s under 25 loans, 24 loans", "wholesale %s, 25 loans", "retail %s, 24 loans", "retail %s, 25 loans"
+    due += [split % rank for split, rank in product(splits, ("senior", "non-senior"))]
+    due += ["STC, a negative sum", "no STC, a negative sum", "STC, half of the sum above 0.3", "STC, the sum above 0.3 and half of it below"]
+    due += ["no STC, the parameter rounded up", "no STC, the mixed charge in the parameter", "the base charge rounded up first"]
+    due += ["share %d" % share for share in (SHARE_LEAST, MILLION - 1, MILLION)] + ["no known row", "base over all rows, unknown ones above 5%", "late rows"]
+    due += ["K 0, D above K", "K 0, D K", "K above 0, D above K", "K above 0, D K", "K above 0, D below K", "A = D above the charge of 01 alone"]
+    due += ["a rated tranche", "an IRB average below the weight, composition unknown"]
+    due += ["cap %s" % cap for cap in ("0", "below the floor", "below the pool average", "above the pool average")]
+    check_met(due, met)
+
+
+# ---- published weights
+
+# Annex 1 of source document 004: the example, its row, the weight and the risk-weighted amount. Its maturity of 34.5 months lies between 34 and 35.
+PUBLISHED = (
+    ("a", 1, 2_878, 201_460), ("a", 2, 105_694, 2_642_350), ("a", 3, 125_000, 625_000), ("b_default", 1, 5_658, 537_510), ("b_dilution", 1, 1_500, 105_000),
+    ("b_dilution", 3, 125_000, 625_000), ("b_guarantee", 2, 92_547, 2_313_675),
+)
+
+
+def check_published(texts):
+    """Each published weight and amount lies within those at 34 and at 35 months."""
+    for example, row, *figures in PUBLISHED:
+        ends = [texts["published_irba_%s_%d_months.txt" % (example, months)].splitlines()[row].split()[4:6] for months in (34, 35)]
+        if not all(int(low) <= figure <= int(high) for low, figure, high in zip(ends[0], figures, ends[1])):
+            sys.exit("published_irba_%s, row %d: %s is not within %s" % (example, row, figures, ends))
 
 
 if __name__ == "__main__":
@@ -480,3 +719,5 @@ if __name__ == "__main__":
     check_ratings()
     check_dates(SHEETS, TEXTS)
     check_same_lines(TEXTS)
+    check_irba(SHEETS, TEXTS)
+    check_published(TEXTS)

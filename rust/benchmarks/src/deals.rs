@@ -14,6 +14,13 @@ const STC: &[u64] = &[0, 0, 1, 1, 1];
 /// Those of an ordinary deal with a reporting date.
 const DATED: &[u64] = &[0, 0, 1, 1, 0, 20_260_630];
 
+/// Those of an ordinary deal of a mixed pool.
+const MIXED: &[u64] = &[2, 0, 1, 1];
+
+/// The IRB section of a mixed pool with its count: IRB charge, average loss given default, effective number of loans,
+/// wholesale, share of exposure with an IRB charge, IRB average weight.
+const IRB_SECTION: &[u64] = &[1, 120_000, 450_000, 40, 0, 970_000, 15_000];
+
 /// A row of the pool: exposure amount, nominal amount, risk weight, status.
 type Row = [u64; ROW_WORDS];
 
@@ -24,7 +31,7 @@ type Tranche = [u64; TRANCHE_WORDS];
 const MATURITY: usize = 2;
 
 /// The sheets on which the versions are compared, with their names in the table.
-pub fn compared() -> [(&'static str, Vec<u64>); 11] {
+pub fn compared() -> [(&'static str, Vec<u64>); 12] {
     [
         ("small: 3 rows, 3 tranches, one unrated", small()),
         ("small, all tranches rated", small_rated()),
@@ -33,6 +40,7 @@ pub fn compared() -> [(&'static str, Vec<u64>); 11] {
         ("small, all tranches rated, maturities as dates", small_dated()),
         ("small STC deal: 3 rows, 3 tranches, one unrated", small_stc()),
         ("small STC deal, all tranches rated", small_stc_rated()),
+        ("small SEC-IRBA deal: mixed pool, 3 rows, 3 tranches", small_irba()),
         ("large: 1,000 rows, 32 tranches", large()),
         ("large, refused at its last word", large_refused()),
         ("formula: 3 rows, 32 SEC-SA tranches, 3 millionths each", thin()),
@@ -92,6 +100,12 @@ fn small_stc() -> Vec<u64> {
 /// The same, but the junior tranche has a rating.
 fn small_stc_rated() -> Vec<u64> {
     sheet(STC, &few_rows(100), &three_tranches(1_000_000_000, 14))
+}
+
+/// The small deal as one of a mixed pool with so many IRB loans that every tranche takes SEC-IRBA, whatever its rating.
+fn small_irba() -> Vec<u64> {
+    let tranches = three_tranches(1_000_000_000, 0);
+    [&sheet(MIXED, &few_rows(100), &tranches), IRB_SECTION].concat()
 }
 
 /// The most rows and tranches; two tranches to a class here and there, and every second one unrated.
@@ -208,7 +222,8 @@ mod tests {
 
     /// Whether a line's weight needs the exponential.
     fn needs_formula(line: &Line, charge: u64) -> bool {
-        line.approach == Approach::SecSa.word() && charge >= 1 && line.detachment > charge
+        let by_formula = [Approach::SecSa, Approach::SecIrba].contains(&line.approach.into());
+        by_formula && charge >= 1 && line.detachment > charge
     }
 
     /// The unrated tranche takes the formula, with and without the STC mark.
@@ -231,6 +246,23 @@ mod tests {
         for sheet in all_rated {
             assert!(deal(&sheet).lines.iter().all(rated));
         }
+    }
+
+    /// Every tranche takes SEC-IRBA and needs the exponential; the base charge counts; and floor, cap and 1250% hide no
+    /// weight but the senior one.
+    #[test]
+    fn irba_deal_takes_the_formula_throughout() {
+        let irba = deal(&small_irba());
+        // 0.97 × 120,000 + 0.03 × 73,000.
+        assert_eq!(irba.charge, 118_590);
+        for line in &irba.lines {
+            assert_eq!(line.approach, Approach::SecIrba.word());
+            assert!(needs_formula(line, irba.charge));
+        }
+        let junior = &irba.lines[1..];
+        assert!(junior
+            .iter()
+            .all(|line| (1_501..125_000).contains(&line.amounts[0].weight)));
     }
 
     /// The weights of a sheet's lines.

@@ -5,7 +5,7 @@ use crate::sheet::Facts;
 
 /// What differs between the kinds of deals.
 pub struct Kind {
-    /// The supervisory parameter p.
+    /// The supervisory parameter p of SEC-SA.
     pub parameter: f64,
     /// The floor of class 1.
     pub senior_floor: f64,

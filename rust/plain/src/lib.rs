@@ -1,9 +1,9 @@
 //! A plain double-precision calculator of tranche weights.
 //!
-//! It reads the deal sheet of document 01 with the fifth fact of S-1 and the sixth of S-3 of document 02, rates by S-1
-//! and S-2, refuses what they refuse in the same order, and writes the same result words for each tranche. Sums of whole
-//! amounts are kept in `u64`. Every figure with a division or an exponential in it is worked in `f64`, with `exp`,
-//! `ceil` and `floor`.
+//! It reads the deal sheet of document 01 with the fifth fact of S-1, the sixth of S-3 and the IRB section of S-5 of
+//! document 02, rates by S-1 and S-2, takes SEC-IRBA by S-5, refuses what they refuse in the same order, and writes the
+//! same result words for each tranche. Sums of whole amounts are kept in `u64`. Every figure with a division or an
+//! exponential in it is worked in `f64`, with `exp`, `ceil` and `floor`.
 //!
 //! **Its rounding differs from document 01's in rare places.** A product above 2^53 loses its last digits in `f64`, and
 //! a quotient that lies very near a whole number can be taken for that number, or for one just past it. A figure that 01
@@ -13,6 +13,7 @@
 #![forbid(unsafe_code)]
 
 mod date;
+mod irba;
 mod kind;
 mod limits;
 mod points;
@@ -26,7 +27,7 @@ use limits::{refusal, MOST_TRANCHES, TRANCHE_WORDS};
 use points::Points;
 use sheet::Deal;
 pub use sheet::Refusal;
-use tranche::{Approach, Terms};
+use tranche::Terms;
 
 /// Weighs the deal of a sheet and writes a line of [`LINE_WORDS`] words for each tranche into `results`.
 ///
@@ -50,12 +51,12 @@ pub fn weigh(sheet: &[u64], results: &mut [u64]) -> Result<(u64, u64), Refusal> 
     Ok((count as u64, terms.charge as u64))
 }
 
-/// Refusal 13: the first tranche under SEC-SA that has no thickness and detaches above the pool charge.
+/// Refusal 13: the first tranche under the formula that has no thickness and detaches above the pool charge.
 fn refuse_empty_tranche(deal: &Deal, terms: &Terms, points: &[Points]) -> Result<(), Refusal> {
     let empty = |(words, points): (&[u64; TRANCHE_WORDS], &Points)| {
         points.attachment == points.detachment
             && points.detachment > terms.charge
-            && terms.approach(&words.into()) == Approach::SecSa
+            && terms.approach(&words.into()).by_formula()
     };
     match deal.tranches.iter().zip(points).position(empty) {
         Some(number) => {

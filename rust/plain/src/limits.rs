@@ -13,6 +13,10 @@ pub const MOST_ROWS: u64 = 1_000;
 pub const MOST_TRANCHES: usize = 32;
 /// The ratings of a tranche.
 pub const RATINGS: usize = 3;
+/// The count of the IRB section.
+pub const IRB_SECTIONS: u64 = 1;
+/// Words of the IRB section: IRB charge, loss given default, number of loans, retail, share, IRB average weight.
+pub const IRB_WORDS: usize = 6;
 /// Words of a tranche's row: amount, class, maturity, amount held, ratings.
 pub const TRANCHE_WORDS: usize = 4 + RATINGS;
 /// Result words for each tranche: approach, A, D, weight, risk-weighted amount, capital.
@@ -26,6 +30,12 @@ pub const MOST_RISK_WEIGHT: u64 = 1_250;
 pub const MOST_TRANCHE_AMOUNT: u64 = 10_000_000_000_000;
 /// The longest maturity, in months.
 pub const MOST_MONTHS: u64 = 1_200;
+/// The highest share, in millionths.
+pub const MOST_SHARE: u64 = 1_000_000;
+/// The most loans of a pool.
+pub const MOST_LOANS: u64 = 1_000_000;
+/// The highest weight, in hundredths of a percent.
+pub const MOST_WEIGHT: u64 = 125_000;
 /// The years of a date.
 pub const YEARS: RangeInclusive<u64> = 2000..=2199;
 
@@ -53,9 +63,7 @@ pub mod refusal {
     pub const MATURITY: u64 = 10;
     /// A rating code not listed.
     pub const RATING: u64 = 11;
-    /// An IRB or mixed pool.
-    pub const POOL_KIND: u64 = 12;
-    /// A tranche without thickness under SEC-SA, above the pool charge.
+    /// A tranche without thickness under SEC-SA or SEC-IRBA, above the pool charge.
     pub const NO_THICKNESS: u64 = 13;
     /// Results shorter than the lines.
     pub const ROOM: u64 = 14;
@@ -63,4 +71,6 @@ pub mod refusal {
     pub const STC_RESECURITISATION: u64 = 16;
     /// No date, or a maturity not after the reporting date.
     pub const DATE: u64 = 17;
+    /// A figure of the IRB section outside its limits.
+    pub const IRB_FIGURE: u64 = 18;
 }

@@ -36,6 +36,20 @@ impl Sums {
         self.nominal += row.nominal;
         self.weighted += row.exposure * row.risk_weight;
     }
+
+    /// The sums over the rows that are not among the others.
+    fn less(&self, others: &Sums) -> Sums {
+        Sums {
+            exposure: self.exposure - others.exposure,
+            nominal: self.nominal - others.nominal,
+            weighted: self.weighted - others.weighted,
+        }
+    }
+
+    /// The base charge of the rows, in millionths.
+    fn base(&self) -> f64 {
+        (800.0 * self.weighted as f64 / self.exposure as f64).ceil()
+    }
 }
 
 /// Sums over all rows, over the rows of unknown status, and the nominal amount of the delinquent ones.
@@ -62,21 +76,24 @@ impl Pool {
         self.all.nominal
     }
 
+    /// The base charge over all rows, in millionths.
+    pub fn base(&self) -> f64 {
+        self.all.base()
+    }
+
     /// The pool charge in millionths; none where more than 5% of all exposure has no known status.
     pub fn charge(&self) -> Option<f64> {
         if 20 * self.unknown.exposure > self.all.exposure {
             return None;
         }
-        let exposure = (self.all.exposure - self.unknown.exposure) as f64;
-        let nominal = (self.all.nominal - self.unknown.nominal) as f64;
-        let weighted = (self.all.weighted - self.unknown.weighted) as f64;
-        let base = (800.0 * weighted / exposure).ceil();
-        let late = (self.late as f64 * 1e6 / nominal).ceil();
-        let known = (((1e6 - late) * base + 500_000.0 * late) / 1e6).ceil();
+        let known = self.all.less(&self.unknown);
+        let late = (self.late as f64 * 1e6 / known.nominal as f64).ceil();
+        let charge = (((1e6 - late) * known.base() + 500_000.0 * late) / 1e6).ceil();
         if self.unknown.exposure == 0 {
-            return Some(known);
+            return Some(charge);
         }
-        Some(((exposure * known + self.unknown.exposure as f64 * 1e6) / self.all.exposure as f64).ceil())
+        let unknown = self.unknown.exposure as f64 * 1e6;
+        Some(((known.exposure as f64 * charge + unknown) / self.all.exposure as f64).ceil())
     }
 
     /// The senior cap: the mean risk weight of all rows, in hundredths of a percent.

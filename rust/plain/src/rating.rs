@@ -64,14 +64,19 @@ pub static STC: Table = Table {
     compared: false,
 };
 
+/// The tranche maturity of so many months, in fifths of a month: 80% of what is past one year, within one and five years.
+pub fn maturity_fifths(months: u64) -> f64 {
+    (4 * months + 12).clamp(60, 300) as f64
+}
+
 /// The weight of a rating that is present, in hundredths of a percent.
 pub fn weight(table: &Table, code: u64, senior: bool, months: u64, points: &Points) -> f64 {
     if code > table.long_term.len() as u64 {
         return 100.0 * table.short_term[code as usize - 21];
     }
     let [senior_1, senior_5, other_1, other_5] = table.long_term[code as usize - 1];
-    // Tranche maturity in fifths of a month past one year: 0 to 240.
-    let past_year = (4 * months + 12).clamp(60, 300) as f64 - 60.0;
+    // Past one year: 0 to 240.
+    let past_year = maturity_fifths(months) - 60.0;
     // Percent times 240, so that the one division comes last.
     let at_maturity = |year_1: f64, year_5: f64| 240.0 * year_1 + (year_5 - year_1) * past_year;
     let senior_figure = at_maturity(senior_1, senior_5) * 1e6;

@@ -2,8 +2,8 @@
 
 use crate::date::Date;
 use crate::limits::{
-    refusal, FEWEST_FACTS, MOST_FACTS, MOST_MONTHS, MOST_POOL_AMOUNT, MOST_RISK_WEIGHT, MOST_ROWS, MOST_TRANCHES,
-    MOST_TRANCHE_AMOUNT, RATINGS, TRANCHE_WORDS,
+    refusal, FEWEST_FACTS, IRB_SECTIONS, IRB_WORDS, MOST_FACTS, MOST_LOANS, MOST_MONTHS, MOST_POOL_AMOUNT,
+    MOST_RISK_WEIGHT, MOST_ROWS, MOST_SHARE, MOST_TRANCHES, MOST_TRANCHE_AMOUNT, MOST_WEIGHT, RATINGS, TRANCHE_WORDS,
 };
 use crate::pool::{status, Pool, Row};
 use std::ops::RangeInclusive;
@@ -23,10 +23,52 @@ pub struct Deal<'a> {
     pub tranches: &'a [[u64; TRANCHE_WORDS]],
     /// Place of the first tranche's amount.
     pub first_tranche: usize,
+    /// The words of the IRB section, which an SA pool does not have.
+    pub irb: Option<&'a [u64; IRB_WORDS]>,
 }
 
-/// The facts that matter once the pool kind is known to be SA.
+/// The codes of a pool's kind.
+mod pool_kind {
+    /// Loans with a charge by the standardised approach.
+    pub const SA: u64 = 0;
+    /// Loans with an IRB charge.
+    pub const IRB: u64 = 1;
+    /// Loans of both sorts.
+    pub const MIXED: u64 = 2;
+}
+
+/// The IRB section.
+pub struct Irb {
+    /// The IRB charge, in millionths.
+    pub charge: u64,
+    /// The average loss given default, in millionths.
+    pub loss: u64,
+    /// The effective number of loans.
+    pub loans: u64,
+    pub retail: bool,
+    /// The share of exposure with an IRB charge, in millionths.
+    pub share: u64,
+    /// The IRB average weight, in hundredths of a percent.
+    pub average: u64,
+}
+
+impl From<&[u64; IRB_WORDS]> for Irb {
+    /// Names the words of the section.
+    fn from(&[charge, loss, loans, retail, share, average]: &[u64; IRB_WORDS]) -> Self {
+        Irb {
+            charge,
+            loss,
+            loans,
+            retail: retail == 1,
+            share,
+            average,
+        }
+    }
+}
+
+/// The facts of a deal.
 pub struct Facts {
+    pool_kind: u64,
     pub resecuritisation: bool,
     pub due_diligence: bool,
     pub composition_known: bool,
@@ -64,15 +106,20 @@ pub fn read(sheet: &[u64]) -> Result<Deal<'_>, Refusal> {
     let count = reader.within(1..=MOST_TRANCHES as u64, refusal::COUNT)?;
     let first_tranche = reader.place;
     reader.check_tranches(count, facts.reporting_date)?;
+    let (tranches, _) = sheet[first_tranche..reader.place].as_chunks();
+    let irb = match facts.pool_kind {
+        pool_kind::SA => None,
+        kind => Some(reader.irb(kind)?),
+    };
     if reader.place < sheet.len() {
         return Err((refusal::FOLLOWS, reader.place as u64));
     }
-    let (tranches, _) = sheet[first_tranche..].as_chunks();
     Ok(Deal {
         facts,
         pool,
         tranches,
         first_tranche,
+        irb,
     })
 }
 
@@ -82,7 +129,7 @@ struct Reader<'a> {
     place: usize,
 }
 
-impl Reader<'_> {
+impl<'a> Reader<'a> {
     /// The next word. A missing one is refused at the sheet's length.
     fn next(&mut self) -> Result<u64, Refusal> {
         let missing = (refusal::MISSING, self.sheet.len() as u64);
@@ -111,13 +158,11 @@ impl Reader<'_> {
         Ok(self.within(0..=1, refusal::FACT)? == 1)
     }
 
-    /// The section of facts. Pool kinds 1 and 2 are listed codes, and refused by a number of their own.
+    /// The section of facts.
     fn facts(&mut self) -> Result<Facts, Refusal> {
         let count = self.within(FEWEST_FACTS..=MOST_FACTS, refusal::COUNT)?;
-        if self.within(0..=2, refusal::FACT)? != 0 {
-            return self.refuse(refusal::POOL_KIND);
-        }
         let mut facts = Facts {
+            pool_kind: self.within(pool_kind::SA..=pool_kind::MIXED, refusal::FACT)?,
             resecuritisation: self.flag()?,
             due_diligence: self.flag()?,
             composition_known: self.flag()?,
@@ -192,6 +237,27 @@ impl Reader<'_> {
             classes = class..=class + 1;
         }
         Ok(())
+    }
+
+    /// The words of the IRB section. All loans of an IRB pool have an IRB charge. Sheets without the section are read
+    /// more quickly where this is a function of its own.
+    #[inline(never)]
+    fn irb(&mut self, kind: u64) -> Result<&'a [u64; IRB_WORDS], Refusal> {
+        self.within(IRB_SECTIONS..=IRB_SECTIONS, refusal::COUNT)?;
+        let least_share = if kind == pool_kind::IRB { MOST_SHARE } else { 0 };
+        let first = self.place;
+        for limits in [
+            0..=MOST_SHARE,
+            0..=MOST_SHARE,
+            1..=MOST_LOANS,
+            0..=1,
+            least_share..=MOST_SHARE,
+            0..=MOST_WEIGHT,
+        ] {
+            self.within(limits, refusal::IRB_FIGURE)?;
+        }
+        let (words, _) = self.sheet[first..self.place].as_chunks();
+        Ok(&words[0])
     }
 
     /// A maturity: months, or a date after the reporting date.

@@ -1,11 +1,12 @@
 //! "Which approach, then floor, then cap" and "The formula and its series", tranche by tranche.
 
 use crate::date::Date;
+use crate::irba::Parameter;
 use crate::kind::Kind;
 use crate::limits::{LINE_WORDS, RATINGS};
 use crate::points::Points;
-use crate::rating;
-use crate::sheet::{Deal, Tranche};
+use crate::rating::{self, maturity_fifths};
+use crate::sheet::{Deal, Irb, Tranche};
 
 /// 1250%, in hundredths of a percent.
 const FULL: f64 = 125_000.0;
@@ -16,6 +17,29 @@ pub enum Approach {
     Fallback = 0,
     SecErba = 1,
     SecSa = 2,
+    SecIrba = 3,
+}
+
+impl Approach {
+    /// Whether the weight comes from the formula.
+    pub fn by_formula(self) -> bool {
+        matches!(self, Approach::SecSa | Approach::SecIrba)
+    }
+}
+
+impl Deal<'_> {
+    /// The approach of every tranche; none where it depends on the tranche's ratings.
+    fn approach(&self) -> Option<Approach> {
+        if !self.facts.due_diligence {
+            Some(Approach::Fallback)
+        } else if self.facts.resecuritisation {
+            Some(Approach::SecSa)
+        } else if self.irb.is_some_and(|words| Irb::from(words).suffices()) {
+            Some(Approach::SecIrba)
+        } else {
+            None
+        }
+    }
 }
 
 /// What all tranches of a deal share.
@@ -23,10 +47,12 @@ pub struct Terms {
     /// The pool charge K as it is reported.
     pub charge: f64,
     charge_known: bool,
-    due_diligence: bool,
-    resecuritisation: bool,
+    /// The approach of every tranche; none where it depends on the tranche's ratings.
+    approach: Option<Approach>,
     reporting_date: Option<Date>,
     kind: &'static Kind,
+    /// The parameter under SEC-IRBA, which takes the place of the kind's.
+    irba: Option<Parameter>,
     /// The cap of class 1; infinite where the deal has none.
     senior_cap: f64,
 }
@@ -35,25 +61,31 @@ impl Terms {
     /// Works out the charge and the cap of a deal, and names its kind.
     pub fn of(deal: &Deal) -> Self {
         let facts = &deal.facts;
-        let charge = deal.pool.charge();
+        let approach = deal.approach();
+        let irb = deal.irb.filter(|_| approach == Some(Approach::SecIrba)).map(Irb::from);
+        let charge = match &irb {
+            Some(irb) => Some(irb.mixed_charge(&deal.pool)),
+            None => deal.pool.charge(),
+        };
+        let average = || irb.as_ref().map_or_else(|| deal.pool.cap(), |irb| irb.average as f64);
         let capped = facts.composition_known && !facts.resecuritisation;
+        let charge_known = charge.is_some();
+        let charge = charge.unwrap_or(1e6);
         Terms {
-            charge: charge.unwrap_or(1e6),
-            charge_known: charge.is_some(),
-            due_diligence: facts.due_diligence,
-            resecuritisation: facts.resecuritisation,
+            charge,
+            charge_known,
+            approach,
             reporting_date: facts.reporting_date,
             kind: Kind::of(facts),
-            senior_cap: if capped { deal.pool.cap() } else { f64::INFINITY },
+            irba: irb.as_ref().map(|irb| Parameter::of(irb, charge, facts.stc)),
+            senior_cap: if capped { average() } else { f64::INFINITY },
         }
     }
 
     /// Which approach a tranche takes.
     pub fn approach(&self, tranche: &Tranche) -> Approach {
-        if !self.due_diligence {
-            Approach::Fallback
-        } else if self.resecuritisation {
-            Approach::SecSa
+        if let Some(approach) = self.approach {
+            approach
         } else if tranche.ratings != [0; RATINGS] {
             Approach::SecErba
         } else if self.charge_known {
@@ -69,7 +101,8 @@ impl Terms {
         let weight = match approach {
             Approach::Fallback => FULL,
             Approach::SecErba => self.limited(tranche, self.rated_weight(tranche, points)),
-            Approach::SecSa => self.limited(tranche, self.formula(points)),
+            Approach::SecSa => self.limited(tranche, self.formula(self.kind.parameter, points)),
+            Approach::SecIrba => self.limited(tranche, self.formula(self.irba_parameter(tranche), points)),
         };
         let weighted = tranche.held as f64 * weight;
         let risk_weighted = (weighted / 1e4).ceil();
@@ -117,8 +150,18 @@ impl Terms {
         }
     }
 
-    /// The raw weight of SEC-SA. With D above K the tranche has a thickness: the other sheets were refused.
-    fn formula(&self, points: &Points) -> f64 {
+    /// The supervisory parameter of a tranche under SEC-IRBA; that of the kind where SEC-IRBA does not apply. In a
+    /// function of its own it does not slow the other approaches.
+    #[inline(never)]
+    fn irba_parameter(&self, tranche: &Tranche) -> f64 {
+        match &self.irba {
+            Some(irba) => irba.at(tranche.class == 1, maturity_fifths(self.months(tranche.maturity))),
+            None => self.kind.parameter,
+        }
+    }
+
+    /// The raw weight of the formula. With D above K the tranche has a thickness: the other sheets were refused.
+    fn formula(&self, parameter: f64, points: &Points) -> f64 {
         let Points { attachment, detachment } = *points;
         if detachment <= self.charge {
             return FULL;
@@ -126,7 +169,7 @@ impl Terms {
         if self.charge == 0.0 {
             return 0.0;
         }
-        let scale = self.kind.parameter * self.charge;
+        let scale = parameter * self.charge;
         let lower = (attachment - self.charge).max(0.0);
         let upper = detachment - self.charge;
         let full_part = (self.charge - attachment).max(0.0);

@@ -1,5 +1,5 @@
-//! Document 01's checked deals and refusals, the STC deals of S-1, several ratings by S-2 and the dates of S-3, through
-//! the one function that callers have.
+//! Document 01's checked deals and refusals, the STC deals of S-1, several ratings by S-2, the dates of S-3 and the IRB
+//! section of S-5, through the one function that callers have.
 
 use plain::LINE_WORDS;
 
@@ -255,6 +255,161 @@ fn dates_are_refused_at_their_places() {
     refused(&[6, 0, 0, 1, 1, 0], 0, 1, 6);
 }
 
+/// The facts' section of an ordinary deal of an IRB pool.
+const IRB: [u64; 5] = [4, 1, 0, 1, 1];
+
+/// The same of a mixed pool.
+const MIXED: [u64; 5] = [4, 2, 0, 1, 1];
+
+/// An IRB section: IRB charge 60,000, loss 450,000, this number of loans, retail or not, this share, average 8,500.
+fn section(loans: u64, retail: u64, share: u64) -> [u64; 7] {
+    [1, 60_000, 450_000, loans, retail, share, 8_500]
+}
+
+/// Tranches of 90%, 5% and 5% of a pool of 1,000; ratings are not used.
+const IRB_TRANCHES: [Tranche; 3] = [
+    [900, 1, 72, 900, 1, 0, 0],
+    [50, 2, 36, 50, 9, 0, 0],
+    [50, 3, 36, 50, 0, 0, 0],
+];
+
+/// The charge and the weights of an accepted sheet with an IRB section whose lines are all SEC-IRBA.
+fn weighed_by_irba(facts: &[u64], rows: &[Row], section: &[u64]) -> (u64, Vec<u64>) {
+    let (charge, lines) = weighed(&[&sheet(facts, rows, &IRB_TRANCHES), section].concat());
+    assert!(lines.iter().all(|line| line[APPROACH] == 3));
+    (charge, lines.iter().map(|line| line[WEIGHT]).collect())
+}
+
+/// Each weight is that of the papers or one more.
+fn near(weights: &[u64], expected: &[u64]) {
+    let mut pairs = weights.iter().zip(expected);
+    assert!(
+        pairs.all(|(weight, least)| (*least..=least + 1).contains(weight)),
+        "{weights:?} for {expected:?}"
+    );
+}
+
+/// Each row of coefficients; wholesale is split at 25 loans and retail is not.
+#[test]
+fn irba_weights_by_every_row_of_coefficients() {
+    let loans = [[1_000, 1_000, 100, 0]];
+    for (number, retail, expected) in [
+        (25, 0, [1_816, 79_617, 125_000]),
+        (24, 0, [2_252, 83_871, 125_000]),
+        (25, 1, [4_788, 85_496, 125_000]),
+        (24, 1, [4_788, 85_496, 125_000]),
+    ] {
+        let (charge, weights) = weighed_by_irba(&IRB, &loans, &section(number, retail, 1_000_000));
+        assert_eq!(charge, 60_000);
+        near(&weights, &expected);
+    }
+    let (_, weights) = weighed_by_irba(&[5, 1, 0, 1, 1, 1], &loans, &section(100, 0, 1_000_000));
+    near(&weights[..1], &[1_000]);
+}
+
+/// The base charge is over all rows, late and unknown ones too; it is rounded up before it is mixed.
+#[test]
+fn irba_charge_mixes_in_the_base_charge() {
+    let rows = [[400, 400, 50, 0], [100, 100, 100, 1], [500, 500, 150, 2]];
+    let (charge, weights) = weighed_by_irba(&MIXED, &rows, &section(100, 0, 950_000));
+    assert_eq!(charge, 61_200);
+    near(&weights, &[1_500, 76_813, 125_000]);
+    let thirds = [[400, 400, 100, 2], [200, 200, 50, 2]];
+    assert_eq!(weighed_by_irba(&MIXED, &thirds, &section(100, 0, 970_000)).0, 60_201);
+}
+
+/// The IRB average lowers class 1, also below the floor, and no other class; it needs a known composition.
+#[test]
+fn irba_cap_is_the_irb_average() {
+    let loans = [[1_000, 1_000, 100, 0]];
+    let capped = |facts: &[u64], average| {
+        let section = [1, 60_000, 450_000, 24, 1, 1_000_000, average];
+        weighed_by_irba(facts, &loans, &section).1
+    };
+    assert_eq!(capped(&IRB, 900)[0], 900);
+    assert_eq!(capped(&IRB, 0)[0], 0);
+    near(&capped(&IRB, 0)[1..], &[85_496, 125_000]);
+    near(&capped(&[4, 1, 0, 1, 0], 0)[..1], &[4_788]);
+}
+
+/// Below a share of 950,000, in a re-securitisation and without due diligence the answer is that of the same SA pool.
+#[test]
+fn section_changes_nothing_where_irba_does_not_apply() {
+    let rows = [[950, 950, 100, 0], [50, 50, 100, 1]];
+    let tranches_held = [[1_000, 1_000, 100, 3]];
+    for (rows, facts, share) in [
+        (&rows[..], [4, 2, 0, 1, 1], 949_999),
+        (&rows, [4, 2, 0, 1, 1], 0),
+        (&rows, [4, 1, 0, 0, 1], 1_000_000),
+        (&tranches_held, [4, 1, 1, 1, 1], 1_000_000),
+        (&tranches_held, [4, 2, 1, 1, 1], 950_000),
+    ] {
+        let mut sa_pool = facts;
+        sa_pool[1] = 0;
+        let with_section = [&sheet(&facts, rows, &IRB_TRANCHES), &section(100, 0, share)[..]].concat();
+        assert_eq!(
+            weighed(&with_section),
+            weighed(&sheet(&sa_pool, rows, &IRB_TRANCHES)),
+            "{facts:?}"
+        );
+    }
+    let least = [&sheet(&MIXED, &rows, &IRB_TRANCHES), &section(100, 0, 950_000)[..]].concat();
+    assert_eq!(weighed(&least).0, 61_000);
+}
+
+/// 2 at the count, 18 at each word, 1 where one is missing, 3 after the last; an SA pool has no section.
+#[test]
+fn irb_section_is_judged_in_place() {
+    let rows = [[1_000, 1_000, 100, 0]];
+    let [irb, mixed] = [IRB, MIXED].map(|facts| sheet(&facts, &rows, &IRB_TRANCHES));
+    let start = irb.len();
+    for (pool, word, value, number) in [
+        (&irb, 0, 0, 2),
+        (&irb, 0, 2, 2),
+        (&irb, 1, 1_000_001, 18),
+        (&irb, 2, 1_000_001, 18),
+        (&irb, 3, 0, 18),
+        (&irb, 3, 1_000_001, 18),
+        (&irb, 4, 2, 18),
+        (&irb, 5, 999_999, 18),
+        (&mixed, 5, 1_000_001, 18),
+        (&mixed, 6, 125_001, 18),
+    ] {
+        let mut section = section(100, 0, 1_000_000);
+        section[word] = value;
+        refused(
+            &[pool, &section[..]].concat(),
+            3 * LINE_WORDS,
+            number,
+            (start + word) as u64,
+        );
+    }
+    let whole = [&mixed, &section(100, 0, 999_999)[..]].concat();
+    assert_eq!(weighed(&whole).0, 60_001);
+    for length in start..whole.len() {
+        refused(&whole[..length], 3 * LINE_WORDS, 1, length as u64);
+    }
+    refused(&[&whole[..], &[0]].concat(), 0, 3, whole.len() as u64);
+    let sa_pool = sheet(&FACTS, &rows, &IRB_TRANCHES);
+    refused(
+        &[&sa_pool, &section(100, 0, 1_000_000)[..]].concat(),
+        0,
+        3,
+        start as u64,
+    );
+}
+
+/// Under SEC-IRBA a rating does not help a tranche without thickness, and the mixed charge decides.
+#[test]
+fn empty_tranche_under_irba_is_refused_by_its_charge() {
+    let tranches = [tranche(9_000_000, 1, 1), tranche(1, 2, 1), tranche(1_000_002, 3, 0)];
+    let pool = sheet(&IRB, &[[10_000_003, 10_000_003, 100, 0]], &tranches);
+    let with_charge = |charge| [&pool, &[1, charge, 450_000, 100, 0, 1_000_000, 8_500][..]].concat();
+    refused(&with_charge(60_000), 3 * LINE_WORDS, 13, 18);
+    let (_, lines) = weighed(&with_charge(120_000));
+    assert_eq!(lines[1][..4], [3, 100_000, 100_000, 125_000]);
+}
+
 /// The rating would give 2,000, and the cap 10,000.
 #[test]
 fn no_due_diligence_gives_the_fallback() {
@@ -272,8 +427,6 @@ fn each_bad_word_is_refused_at_its_place() {
     let changes = [
         (0, 3, 2),
         (0, 7, 2),
-        (1, 1, 12),
-        (1, 2, 12),
         (1, 3, 4),
         (2, 2, 4),
         (3, 2, 4),
