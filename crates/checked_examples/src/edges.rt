@@ -117,10 +117,12 @@ const POOL_AT: usize = 1 + FACTS_MOST;
 
 const TRANCHES_AT: usize = POOL_AT + 1 + ROW_SIZE * ROWS_MOST;
 
-// The places of the first pool row and of the first tranche.
+// The places of the first pool row, of the first tranche and of the IRB section's count.
 const FIRST_ROW: usize = POOL_AT + 1;
 
 const FIRST_TRANCHE: usize = TRANCHES_AT + 1;
+
+const IRB_AT: usize = FIRST_TRANCHE + TRANCHE_SIZE * TRANCHES_MOST;
 
 // A sheet with the most pool rows, equal ones of 10^10 and that risk weight.
 fn with_rows(sheet: [u64; WORD_LIMIT], weight: u64) -> [u64; WORD_LIMIT] {
@@ -149,19 +151,34 @@ fn with_tranches(sheet: [u64; WORD_LIMIT]) -> [u64; WORD_LIMIT] {
     filled
 }
 
-// Writes the report on the largest deal, as many words as a sheet has, with that risk weight of all rows and that STC mark.
-pub(crate) fn print_largest(weight: u64, stc: u64) {
+// A sheet with the IRB section: charge 200,000, loss 10^6, 10^6 loans, wholesale, that share, average 125,000.
+fn with_irb_section(sheet: [u64; WORD_LIMIT], share: u64) -> [u64; WORD_LIMIT] {
+    let mut filled = sheet;
+    filled[IRB_AT] = 1;
+    filled[IRB_AT + 1] = 200000;
+    filled[IRB_AT + 2] = 1000000;
+    filled[IRB_AT + 3] = 1000000;
+    filled[IRB_AT + 5] = share;
+    filled[IRB_AT + 6] = 125000;
+    filled
+}
+
+// Writes the report on the largest deal, as many words as a sheet has, of a mixed pool with that risk weight of all rows, that STC mark and that share.
+pub(crate) fn print_largest(weight: u64, stc: u64, share: u64) {
     let mut facts = [0u64; WORD_LIMIT];
     facts[0] = FACTS_MOST as u64;
+    facts[1] = 2;
     facts[3] = 1;
     facts[4] = 1;
     facts[5] = stc;
-    let sheet = with_tranches(with_rows(facts, weight));
+    let sheet = with_irb_section(with_tranches(with_rows(facts, weight)), share);
     let mut file = [0u8; BYTE_LIMIT];
     io::write_all(STDOUT_FILENO, b"largest deal, risk weight ");
     io::print_decimal(STDOUT_FILENO, weight);
     io::write_all(STDOUT_FILENO, b", STC mark ");
     io::print_decimal(STDOUT_FILENO, stc);
+    io::write_all(STDOUT_FILENO, b", share ");
+    io::print_decimal(STDOUT_FILENO, share);
     io::write_all(STDOUT_FILENO, b"\n");
     if files::store(&sheet, &mut file) {
         print_report(&file);

@@ -10,8 +10,10 @@ fn main() {
     figures::print_figures();
     edges::print_short_results();
     edges::print_lengths();
-    edges::print_largest(1250, 0);
-    edges::print_largest(100, 0);
-    edges::print_largest(100, 1);
+    edges::print_largest(1250, 0, 0);
+    edges::print_largest(100, 0, 0);
+    edges::print_largest(100, 1, 0);
+    edges::print_largest(100, 0, 950000);
+    edges::print_largest(100, 1, 1000000);
     examples::print_examples();
 }

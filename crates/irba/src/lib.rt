@@ -151,7 +151,7 @@ fn coefficients_of(senior: bool, few: bool, retail: bool) -> Coefficients
     wholesale_non_senior(few)
 }
 
-// A term of the sum: a coefficient times a figure, in the unit of the sum for one loan, times the number of loans.
+// A term of the sum: a coefficient times a figure, which is counted in units of the sum, times the number of loans.
 fn term(coefficient: i64, unit: u64, figure: u64, loans: u64) -> i64
     requires { ⌜ (mag coefficient < 1000) × (unit * figure ≤ 15000000) × (loans ≤ 1000000) ⌝ }
     ensures { λ r. ⌜ r ≡ coefficient *ℤ pos (unit * figure * loans) ⌝ }
@@ -224,8 +224,8 @@ fn within_limits(charge: u64, fifths: u64, f: IrbFigures) -> bool
     within(1, MILLION, f.loans)
 }
 
-// The supervisory parameter of SEC-IRBA in millionths, from the class, the pool's charge, the tranche's maturity in fifths of a month and the pool's figures; the highest where these
-// are outside their limits, which no sheet's are, so that no caller gets one that is too low.
+// The supervisory parameter of SEC-IRBA in millionths, from the class, the pool's charge, the tranche's maturity in fifths of a month and the pool's figures; the
+// highest where these are outside their limits, which no sheet's are, so that no caller gets one that is too low.
 pub fn parameter(senior: bool, stc: bool, charge: u64, fifths: u64, f: IrbFigures) -> u64
     ensures { λ r. ⌜ r ≡ parameter senior stc charge fifths f ⌝ }
 {

@@ -6,7 +6,7 @@ use mir.ValLaws.{toZ-ofZ}
 use borrow.Author.Needs.{needs, sfits-of}
 use borrow.Author.Tests.{not-true, not-false}
 use Rattle.irba.specs.declared.Coefficients.{Coefficients}
-use Rattle.irba.specs.Parameter.{fewLoans, signedSum, poolSum, signedRoundedUp, raisedTo, sumParameter, withinLimits}
+use Rattle.irba.specs.Parameter.{fewLoans, signedSum, signedRoundedUp, raisedTo, sumParameter, withinLimits}
 use Rattle.irba.proofs.ParameterLimits.{Limits, coefficients-small, limits-of-test, denominator-positive, denominator-most, parameter-inside, parameter-outside}
 use Rattle.irba.proofs.parameter.Statement.{statement}
 use Rattle.irba.proofs.parameter.Tie as tie
@@ -59,13 +59,11 @@ returns-2 c =
     let summing = dividing .before in
     let picking = summing .before in
     let a = picking .before .before .before .before .args in
-    let sum : summing .signed-sum .result ≡ poolSum (a .senior) (a .charge) (a .fifths) (a .f) =
-    summing .signed-sum .ensures ∙ ap (λ (k : Coefficients). signedSum k (a .charge) (a .fifths) (a .f)) (picking .coefficients-of .ensures) in
-    let rounded =
-    rounding .signed-rounded-up .ensures ∙
-    ap₂ signedRoundedUp (toZ-ofZ w64 (summing .signed-sum .result) (sfits-of (summing .signed-sum .ok)) ∙ sum) (dividing .denominator .ensures) in
-    c .raised .ensures ∙
-    ap (raisedTo 300000) (toZ-ofZ w64 (rounding .signed-rounded-up .result) (sfits-of (rounding .signed-rounded-up .ok)) ∙ rounded) ∙
+    let coefficients-are = ap (λ (k : Coefficients). signedSum k (a .charge) (a .fifths) (a .f)) (picking .coefficients-of .ensures) in
+    let read-sum = toZ-ofZ w64 (summing .signed-sum .result) (sfits-of (summing .signed-sum .ok)) in
+    let read-rounded = toZ-ofZ w64 (rounding .signed-rounded-up .result) (sfits-of (rounding .signed-rounded-up .ok)) in
+    let divided = ap₂ signedRoundedUp (read-sum ∙ summing .signed-sum .ensures ∙ coefficients-are) (dividing .denominator .ensures) in
+    c .raised .ensures ∙ ap (raisedTo 300000) (read-rounded ∙ rounding .signed-rounded-up .ensures ∙ divided) ∙
     sym (parameter-inside (a .senior) (a .stc) (a .charge) (a .fifths) (a .f) (inside (picking .before .before)))
 
 pub parameter-spec : {M : Type 1} → statement M
