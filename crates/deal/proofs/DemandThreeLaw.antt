@@ -3,19 +3,16 @@
 use mathlib.Core.Bool.{true, false}
 use mathlib.Core.List.{List}
 use mathlib.Core.Logic.{⊎-elim}
-use mathlib.Core.Path.{_≡_, refl, sym, _∙_, ap, subst}
+use mathlib.Core.Path.{_≡_, sym, _∙_, ap, subst}
 use Prim.Native.Nat.{ℕ, _-_, _≤_, _<_}
 use native.Mathlib.Nat.{eq-zero-or-pos}
 use native.Mathlib.Omega.{arith}
-use lib.Dec.{eqb}
 use lib.ListN.{length}
 use Rattle.series.specs.Ends.{Passes}
 use Rattle.formula.specs.Formula.{WithinLimits, RawWeightNumbers, weighing, PassingWeight, IsRawWeight}
 use Rattle.formula.specs.FixedPoint.{rawWeight}
 use Rattle.formula.proofs.RawWeightLaw.{raw-weight-is}
-use Rattle.irba.specs.Parameter.{parameter as irbaParameter}
-use Rattle.ratings.specs.RatingTable.{maturityFifths}
-use Rattle.judgement.specs.DealSheet.{class, months, stc, trancheCount, irbFigures, needed, layout}
+use Rattle.judgement.specs.DealSheet.{stc, trancheCount, needed, layout}
 use Rattle.deal.specs.Points.{attachmentPoint, detachmentPoint}
 use Rattle.weights.specs.ApproachFloorCap.{byFormula, parameter, afterFloorAndCap, weightOrHighest, formulaRawWeight, weight}
 use Rattle.weights.specs.declared.Terms.{Terms}
@@ -28,7 +25,8 @@ use Rattle.deal.specs.Refusals.{verdict}
 use Rattle.deal.specs.Results.{resultsAfter}
 use Rattle.judgement.specs.declared.Verdict.the-variants.{Sound}
 use Rattle.deal.proofs.PointLaws.{attachment-at-most-detachment, detachment-at-most-million}
-use Rattle.deal.proofs.TermsLaws.{charge-at-most-million, irba-ordinary}
+use Rattle.deal.proofs.TermsLaws.{charge-at-most-million}
+use Rattle.deal.proofs.IrbaLaws.{irbaParameterOf, irba-parameter}
 use Rattle.deal.proofs.JudgedLaws.{accepted-means, accepted-judged}
 use Rattle.deal.proofs.LineLaws.{results-line}
 use Rattle.weights.proofs.WeightLaws.{formula-weight, thick-where, parameter-within}
@@ -157,18 +155,6 @@ stc-demand-three s old i by marked t =
     with-parameter s old i 500000 (stc-parameter s i (accepted-judged s (length old) (t .accepted)) by marked) t
 
 -- S-5 of 02: "the exact value read[s] this charge and parameter"
-abbrev pub irbaParameterOf : List ℕ → ℕ → ℕ
-irbaParameterOf s i = irbaParameter (eqb (class s i) 1) (stc s) (terms s .charge) (maturityFifths (months s i)) (irbFigures s)
-
-read-parameter :
-    (s : List ℕ) (i : ℕ) →
-    irbaParameter (tranche s i .senior) (terms s .stc) (terms s .charge) (maturityFifths (tranche s i .months)) (terms s .irb) ≡ irbaParameterOf s i
-unfolding tranche terms layout
-read-parameter s i = refl
-
-pub irba-parameter : (s : List ℕ) (i : ℕ) → terms s .irba ≡ true → parameter (tranche s i) (terms s) ≡ irbaParameterOf s i
-irba-parameter s i by = rw (irba-ordinary s by .1, by) (read-parameter s i)
-
 pub irba-demand-three :
     (s old : List ℕ) (i : ℕ) → terms s .irba ≡ true → AboveCharge s (length old) i →
     Passes (attachmentPoint s i) (detachmentPoint s i) (terms s .charge) (irbaParameterOf s i) (rawWeightOf s i)

@@ -12,7 +12,7 @@ use Rattle.judgement.specs.Refusals.{refused, orElse, firstOf, wordsVerdict}
 use Rattle.judgement.specs.declared.Verdict.{Verdict}
 use Rattle.judgement.specs.declared.Verdict.the-variants.{Sound, Faulty}
 use Rattle.judgement.proofs.MovedVerdicts.{atMoved, moved-or-else, moved-cond, first-of-moved}
-use Rattle.judgement.proofs.FilledFacts.{same-rows, same-tranche-count, tranche-at-moved, same-row-word, same-tranche-word, filled-same-facts, filled-same-irb, filled-same-date, kept-place, later-place, words-moved}
+use Rattle.judgement.proofs.FilledFacts.{same-rows, same-tranche-count, tranche-at-moved, same-row-word, same-tranche-word, filled-same-kind, filled-same-facts, filled-same-irb, filled-same-date, kept-place, later-place, words-moved}
 use Rattle.judgement.proofs.NeededLaws.{pool-at-least, tranches-at-past-rows}
 use Rattle.pool.specs.PoolSums.{poolSums}
 use Rattle.pool.proofs.SameSums.{same-sums-in-order}
@@ -34,7 +34,7 @@ module _ (n : ℕ) (s : List ℕ) (c : CanFill n s) where
   filled-sums = same-sums-in-order s f (same-rows n s c) (λ i k row column. same-row-word n s c i k)
 
   filled-terms : terms f ≡ terms s
-  filled-terms = same-terms s f (filled-same-facts n s c) (filled-same-irb n s c) filled-sums
+  filled-terms = same-terms s f (filled-same-kind n s c) (filled-same-facts n s c) (filled-same-irb n s c) filled-sums
 
   filled-tranche : (i : ℕ) → i < trancheCount s → tranche f i ≡ tranche s i
   filled-tranche i l =

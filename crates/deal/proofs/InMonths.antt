@@ -8,16 +8,13 @@ use Prim.Native.Nat.{ℕ, _+_, _-_, _≤_, _<_}
 use native.Mathlib.Nat.{add-zero, le-refl}
 use native.Mathlib.Omega.{arith}
 use lib.Dec.{eqb}
-use lib.ListN.{length}
 use borrow.Author.Tests.{leb-true, eqb-true, eqb-false}
 use Rattle.numbers.proofs.Tests.{at-cond}
 use Rattle.faults.specs.GoodWords.{GoodFact, GoodTranche}
-use Rattle.judgement.specs.DealSheet.{word, resecuritisation, hasFact, reportingDate, poolAt, rows, rowAt, tranchesAt, trancheCount, trancheAt, amount, months, held, firstRating, secondRating, thirdRating, hasIrb, irbAt, irbPlace}
+use Rattle.judgement.specs.DealSheet.{word, poolKind, resecuritisation, hasFact, reportingDate, poolAt, rows, rowAt, tranchesAt, trancheCount, trancheAt, amount, months, held, firstRating, secondRating, thirdRating, hasIrb, irbAt, irbPlace}
 use Rattle.judgement.specs.GoodSheet.{GoodRowOf, GoodTrancheOf, GoodIrbOf, GoodSheet}
-use Rattle.judgement.specs.Refusals.{firstOf, wordsVerdict}
-use Rattle.judgement.specs.declared.Verdict.{Verdict}
-use Rattle.judgement.specs.declared.Verdict.the-variants.{Sound, Faulty}
-use Rattle.judgement.proofs.FirstFault.{first-of-same}
+use Rattle.judgement.specs.Refusals.{wordsVerdict}
+use Rattle.judgement.specs.declared.Verdict.the-variants.{Sound}
 use Rattle.judgement.proofs.GoodSheetLaw.{good-sheet, good-sheet-words}
 use Rattle.judgement.proofs.JudgedLaws.{words-accepted, accepted-words}
 use Rattle.judgement.proofs.NeededLaws.{tranches-at-past-rows, irb-at-past-tranches}
@@ -25,10 +22,10 @@ use Rattle.judgement.proofs.SameLayout.{SameCounts, same-counts, same-irb-at, s
 use Rattle.pool.specs.PoolSums.{poolSums}
 use Rattle.pool.proofs.SameSums.{same-sums-in-order}
 use Rattle.deal.specs.Lines.{terms, tranche}
-use Rattle.deal.specs.Refusals.{thinVerdict, verdict}
-use Rattle.deal.specs.Results.{replyTo, replyFor, resultsFor, resultsAfter}
-use Rattle.deal.specs.InMonths.{InMonths, SameAnswer}
-use Rattle.deal.proofs.LineLaws.{lines-same}
+use Rattle.weights.specs.declared.Terms.{Terms}
+use Rattle.deal.specs.InMonths.{InMonths}
+use Rattle.deal.specs.SameAnswer.{SameAnswer}
+use Rattle.deal.proofs.SameAnswer.{same-answer}
 use Rattle.deal.proofs.SameTerms.{same-terms, same-tranche}
 
 module _ (s s′ : List ℕ) (r : InMonths s s′) (words : wordsVerdict s ≡ Sound) where
@@ -58,9 +55,12 @@ module _ (s s′ : List ℕ) (r : InMonths s s′) (words : wordsVerdict s ≡ S
       (same-before (poolAt s) (λ e. omega (arith, date-before-pool)) (omega (arith, tranches-at-past-rows s)))
       (same-before (tranchesAt s) (λ e. omega (arith, date-before-pool, tranches-at-past-rows s)) (le-refl _))
 
+  kind : poolKind s′ ≡ poolKind s
+  kind = same-before 1 (λ e. omega arith) (omega (arith, date-before-pool, tranches-at-past-rows s))
+
   facts : SameFacts s s′
   facts =
-      same-facts s s′ (λ p h before. same-before p (λ e. omega arith) (omega (arith, tranches-at-past-rows s)))
+      same-facts s s′ (λ p other h before. same-before p (λ e. omega arith) (omega (arith, tranches-at-past-rows s)))
       (omega (arith, date-before-pool))
 
   same-row-word : (i c : ℕ) → i < rows s → c < 4 → word s′ (rowAt s i + c) ≡ word s (rowAt s i + c)
@@ -152,7 +152,7 @@ module _ (s s′ : List ℕ) (r : InMonths s s′) (words : wordsVerdict s ≡ S
   irb-in-months : hasIrb s′ ≡ true → GoodIrbOf s′
   irb-in-months has =
       rw (
-        facts .same-kind,
+        kind,
         same-irb-at s s′ counts,
         same-irb-column 0,
         same-irb-column 1,
@@ -161,7 +161,7 @@ module _ (s s′ : List ℕ) (r : InMonths s s′) (words : wordsVerdict s ≡ S
         same-irb-column 4,
         same-irb-column 5,
       )
-      (good .irb-row (rw (facts .same-kind) at has))
+      (good .irb-row (rw kind at has))
 
   good-in-months : GoodSheet s′
   good-in-months = record {
@@ -182,23 +182,23 @@ module _ (s s′ : List ℕ) (r : InMonths s s′) (words : wordsVerdict s ≡ S
         )
         (good .each-class i (omega (arith, row, counts .tranche-count)));
     irb-count = λ has.
-        rw (same-irb-at s s′ counts, same-irb-word (irbAt s) (le-refl _)) (good .irb-count (rw (facts .same-kind) at has));
+        rw (same-irb-at s s′ counts, same-irb-word (irbAt s) (le-refl _)) (good .irb-count (rw kind at has));
     irb-row = irb-in-months;
-    length-is = omega (arith, r .same-length, good .length-is, same-needed s s′ counts (facts .same-kind));
+    length-is = omega (arith, r .same-length, good .length-is, same-needed s s′ counts kind);
   }
 
   words-in-months : wordsVerdict s′ ≡ Sound
   words-in-months = accepted-words s′ (good-sheet-words s′ good-in-months)
 
-  -- ---- the terms, the tranches and the verdict
+  -- ---- the terms, the tranches and the answer
 
   sums : poolSums s′ ≡ poolSums s
   sums = same-sums-in-order s s′ (counts .row-count) (λ i c row column. rw (counts .pool-at) (same-row-word i c row column))
 
   shared : terms s′ ≡ terms s
   shared =
-      same-terms s s′ facts
-      (same-irb-figures s s′ (facts .same-kind) (λ c column. rw (same-irb-at s s′ counts) (same-irb-column c)))
+      same-terms s s′ kind facts
+      (same-irb-figures s s′ kind (λ c column. rw (same-irb-at s s′ counts) (same-irb-column c)))
       sums
 
   own : (i : ℕ) → i < trancheCount s → tranche s′ i ≡ tranche s i
@@ -208,28 +208,15 @@ module _ (s s′ : List ℕ) (r : InMonths s s′) (words : wordsVerdict s ≡ S
       (same-months i l)
       (λ c past column. rw (counts .tranches-at) (same-column i c (λ e. omega arith) column))
 
-  same-thin : firstOf (λ i. thinVerdict s′ i) (trancheCount s) ≡ firstOf (λ i. thinVerdict s i) (trancheCount s)
-  same-thin =
-      first-of-same (λ i. thinVerdict s′ i) (λ i. thinVerdict s i) (trancheCount s)
-      (λ i l. rw (own i l, shared, counts .tranches-at))
-
-  same-verdict : (room : ℕ) → verdict s′ room ≡ verdict s room
-  unfolding verdict
-  same-verdict room = rw (words-in-months, words, counts .tranche-count, same-thin)
-
-  -- ---- the answer and the results
-
-  reply-same : (v : Verdict) → replyFor s′ v ≡ replyFor s v
-  reply-same Sound = rw (counts .tranche-count, shared)
-  reply-same (Faulty q) = refl
-
-  results-same : (old : List ℕ) (v : Verdict) → resultsFor s′ old v ≡ resultsFor s old v
-  results-same old Sound = rw (counts .tranche-count, lines-same s s′ (trancheCount s) shared own)
-  results-same old (Faulty q) = refl
-
   pub months-for-dates : SameAnswer s s′
-  unfolding replyTo resultsAfter
-  months-for-dates = record {
-    same-reply = λ room. rw (same-verdict room) (reply-same (verdict s room));
-    same-results = λ old. rw (same-verdict (length old)) (results-same old (verdict s (length old)));
-  }
+  months-for-dates =
+      same-answer s s′
+      (record {
+        words = words;
+        words′ = words-in-months;
+        place = counts .tranches-at;
+        count = counts .tranche-count;
+        charge = ap (λ (d : Terms). d .charge) shared;
+        thin-alike = λ i l. rw (own i l, shared);
+        line-alike = λ i l. rw (own i l, shared);
+      })

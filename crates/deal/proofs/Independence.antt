@@ -6,7 +6,7 @@ use native.Mathlib.Nat.{le-refl}
 use native.Mathlib.Omega.{arith}
 use lib.ListN.{length, getD}
 use Rattle.limits.specs.SheetSize.{lineSize}
-use Rattle.judgement.specs.DealSheet.{word, poolAt, rowAt, tranchesAt, trancheCount, trancheAt, irbPlace, needed}
+use Rattle.judgement.specs.DealSheet.{word, poolKind, poolAt, rowAt, tranchesAt, trancheCount, trancheAt, irbPlace, needed}
 use Rattle.pool.specs.PoolSums.{poolSums}
 use Rattle.pool.proofs.SameSums.{same-sums-in-order}
 use Rattle.deal.specs.Lines.{terms, tranche, lineWords}
@@ -15,7 +15,7 @@ use Rattle.deal.specs.Refusals.{verdict}
 use Rattle.deal.specs.Results.{resultsAfter}
 use Rattle.deal.specs.OtherRatings.{SameButOtherRatings}
 use Rattle.judgement.specs.declared.Verdict.the-variants.{Sound}
-use Rattle.judgement.proofs.NeededLaws.{tranches-at-past-rows, irb-at-past-tranches}
+use Rattle.judgement.proofs.NeededLaws.{pool-at-least, tranches-at-past-rows, irb-at-past-tranches}
 use Rattle.judgement.proofs.SameLayout.{SameCounts, same-counts, same-irb-at, SameFacts, same-facts, same-irb-figures, same-reporting-date}
 use Rattle.judgement.proofs.SheetLimits.{facts-counted, pool-at-within}
 use Rattle.deal.proofs.JudgedLaws.{accepted-judged}
@@ -51,7 +51,10 @@ module _ (s s′ : List ℕ) (i : ℕ) (same : SameButOtherRatings s s′ i) whe
 
   ratings-facts : judged s (needed s) ≡ Sound → SameFacts s s′
   ratings-facts e =
-      same-facts s s′ (λ p h before. same-head p (omega (arith, tranches-at-past-rows s))) (pool-at-within s (facts-counted s e) .0)
+      same-facts s s′ (λ p other h before. same-head p (omega (arith, tranches-at-past-rows s))) (pool-at-within s (facts-counted s e) .0)
+
+  ratings-kind : poolKind s′ ≡ poolKind s
+  ratings-kind = same-head 1 (omega (arith, tranches-at-past-rows s, pool-at-least s))
 
   -- none stands in the IRB section
   same-irb-word : (c : ℕ) → c < 6 → word s′ (irbPlace s′ c) ≡ word s (irbPlace s c)
@@ -59,14 +62,14 @@ module _ (s s′ : List ℕ) (i : ℕ) (same : SameButOtherRatings s s′ i) whe
 
   pub ratings-terms : judged s (needed s) ≡ Sound → terms s′ ≡ terms s
   ratings-terms e =
-      same-terms s s′ (ratings-facts e) (same-irb-figures s s′ (ratings-facts e .same-kind) same-irb-word) ratings-sums
+      same-terms s s′ ratings-kind (ratings-facts e) (same-irb-figures s s′ ratings-kind same-irb-word) ratings-sums
 
   pub ratings-tranche : judged s (needed s) ≡ Sound → i < trancheCount s → tranche s′ i ≡ tranche s i
   ratings-tranche e l =
       same-tranche s s′ i ratings-count ratings-sums l
       (λ j c row column. rw (ratings-counts .tranches-at) (same-plain j c (omega arith)))
       (same-months s s′ i
-      (same-reporting-date s s′ (λ p before. same-head p (omega (arith, tranches-at-past-rows s))) (pool-at-within s (facts-counted s e) .0))
+      (same-reporting-date s s′ (λ p other before. same-head p (omega (arith, tranches-at-past-rows s))) (pool-at-within s (facts-counted s e) .0))
       (rw (ratings-counts .tranches-at) (same-own 2 (omega arith))))
       (λ c past column. rw (ratings-counts .tranches-at) (same-own c column))
 

@@ -2,6 +2,7 @@ pub mod JudgedLaws
 pub mod PointLaws
 pub mod ClassPointsLaw
 pub mod TermsLaws
+pub mod IrbaLaws
 pub mod LineLaws
 pub mod DemandThreeLaw
 pub mod SameTerms
@@ -12,4 +13,6 @@ pub mod WeighSteps
 pub mod AnswerLaw
 pub mod ReplyLaws
 pub mod FilledFacts
+pub mod SameAnswer
 pub mod InMonths
+pub mod SaPool

@@ -30,12 +30,15 @@ length-lines s zero = refl
 length-lines s (suc n) =
     omega (arith, length-append (lines s n) (lineWords (tranche s n) (terms s)), length-lines s n, length-line (tranche s n) (terms s))
 
+pub lines-alike :
+    (s s′ : List ℕ) (n : ℕ) → ((i : ℕ) → i < n → lineWords (tranche s′ i) (terms s′) ≡ lineWords (tranche s i) (terms s)) → lines s′ n ≡ lines s n
+unfolding lines
+lines-alike s s′ zero alike = refl
+lines-alike s s′ (suc n) alike = rw (lines-alike s s′ n (λ i l. alike i (le-step l)), alike n (lt-suc-self n))
+
 pub lines-same :
     (s s′ : List ℕ) (n : ℕ) → terms s′ ≡ terms s → ((i : ℕ) → i < n → tranche s′ i ≡ tranche s i) → lines s′ n ≡ lines s n
-unfolding lines
-lines-same s s′ zero shared alike = refl
-lines-same s s′ (suc n) shared alike =
-    rw (lines-same s s′ n shared (λ i l. alike i (le-step l)), alike n (lt-suc-self n), shared)
+lines-same s s′ n shared alike = lines-alike s s′ n (λ i l. rw (alike i l, shared))
 
 -- the word at a place past a list's length in two lists joined
 getD-after : (xs ys : List ℕ) (p n : ℕ) → p ≡ length xs + n → getD (xs ++ ys) p 0 ≡ getD ys n 0

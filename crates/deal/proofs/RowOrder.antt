@@ -9,7 +9,7 @@ use native.Mathlib.Omega.{arith}
 use lib.ListN.{length}
 use borrow.Author.Tests.{lt-ltb}
 use Rattle.limits.specs.SheetSize.{factsLeast}
-use Rattle.judgement.specs.DealSheet.{word, irbFigures, reportingDate, poolAt, rows, rowAt, tranchesAt, trancheCount, trancheAt, irbPlace, needed}
+use Rattle.judgement.specs.DealSheet.{word, poolKind, irbFigures, reportingDate, poolAt, rows, rowAt, tranchesAt, trancheCount, trancheAt, irbPlace, needed}
 use Rattle.pool.specs.PoolSums.{poolSums}
 use Rattle.pool.specs.OrderOfRows.{Reordered}
 use Rattle.pool.proofs.SameSums.{same-sums}
@@ -36,8 +36,11 @@ module _ (s s′ : List ℕ) (π σ : ℕ → ℕ) (r : Reordered s s′ π σ) 
   order-counts =
       same-counts s s′ (r .same-before 0 (omega arith)) (r .same-before (poolAt s) (omega arith)) (r .same-after (tranchesAt s) (le-refl _))
 
+  order-kind : poolKind s′ ≡ poolKind s
+  order-kind = r .same-before 1 (omega (arith, pool-at-least s))
+
   order-needed : needed s′ ≡ needed s
-  order-needed = same-needed s s′ order-counts (r .same-before 1 (omega (arith, pool-at-least s)))
+  order-needed = same-needed s s′ order-counts order-kind
 
   order-sums : poolSums s′ ≡ poolSums s
   order-sums =
@@ -48,18 +51,18 @@ module _ (s s′ : List ℕ) (π σ : ℕ → ℕ) (r : Reordered s s′ π σ) 
 
   module _ (facts : factsLeast < poolAt s) where
     order-facts : SameFacts s s′
-    order-facts = same-facts s s′ (λ p h before. r .same-before p (omega arith)) facts
+    order-facts = same-facts s s′ (λ p other h before. r .same-before p (omega arith)) facts
 
     order-irb : irbFigures s′ ≡ irbFigures s
     order-irb =
-        same-irb-figures s s′ (order-facts .same-kind)
+        same-irb-figures s s′ order-kind
         (λ c column. rw (same-irb-at s s′ order-counts) (r .same-after (irbPlace s c) (omega (arith, irb-at-past-tranches s))))
 
     order-date : reportingDate s′ ≡ reportingDate s
-    order-date = same-reporting-date s s′ (λ p before. r .same-before p (omega arith)) facts
+    order-date = same-reporting-date s s′ (λ p other before. r .same-before p (omega arith)) facts
 
     order-terms : terms s′ ≡ terms s
-    order-terms = same-terms s s′ order-facts order-irb order-sums
+    order-terms = same-terms s s′ order-kind order-facts order-irb order-sums
 
     order-word : (j c : ℕ) → word s′ (trancheAt s′ j + c) ≡ word s (trancheAt s j + c)
     order-word j c = rw (order-counts .tranches-at) (r .same-after (trancheAt s j + c) (omega arith))
@@ -82,7 +85,7 @@ module _ (s s′ : List ℕ) (π σ : ℕ → ℕ) (r : Reordered s s′ π σ) 
           order-counts .pool-at,
           order-counts .tranches-at,
           same-irb-at s s′ order-counts,
-          order-facts .same-kind,
+          order-kind,
           order-facts .same-resecuritisation,
           order-date,
           r .same-after (trancheAt s (i - 1) + 1) (omega arith),

@@ -7,7 +7,7 @@ use native.Mathlib.Omega.{arith}
 use lib.Dec.{ltb}
 use Rattle.numbers.specs.Sum.{sum, whereCounted}
 use Rattle.numbers.proofs.SumLaws.{sum-same}
-use Rattle.judgement.specs.DealSheet.{word, reportingDate, trancheCount, trancheAt, amount, class, maturity, months, irbFigures, layout}
+use Rattle.judgement.specs.DealSheet.{word, poolKind, reportingDate, trancheCount, trancheAt, amount, class, maturity, months, irbFigures, layout}
 use Rattle.judgement.proofs.SameLayout.{SameFacts}
 use Rattle.pool.specs.PoolSums.{poolSums}
 use Rattle.deal.specs.Points.{seniorAmount, attachmentPoint, detachmentPoint}
@@ -15,10 +15,11 @@ use Rattle.deal.specs.Lines.{terms, tranche}
 
 -- ---- what the tranches share
 
-pub same-terms : (s s′ : List ℕ) → SameFacts s s′ → irbFigures s′ ≡ irbFigures s → poolSums s′ ≡ poolSums s → terms s′ ≡ terms s
+pub same-terms :
+    (s s′ : List ℕ) → poolKind s′ ≡ poolKind s → SameFacts s s′ → irbFigures s′ ≡ irbFigures s → poolSums s′ ≡ poolSums s → terms s′ ≡ terms s
 unfolding terms layout
-same-terms s s′ facts irb sums =
-    rw (facts .same-kind, facts .same-resecuritisation, facts .same-stc, facts .same-diligence, facts .same-composition, irb, sums)
+same-terms s s′ kind facts irb sums =
+    rw (kind, facts .same-resecuritisation, facts .same-stc, facts .same-diligence, facts .same-composition, irb, sums)
 
 -- ---- a tranche
 

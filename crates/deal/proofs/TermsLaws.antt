@@ -1,18 +1,13 @@
--- The charge and the average of a sheet's pool are within their limits; they are 01's where approach 3 does not apply, and 02's where it does, and then the deal is no
--- re-securitisation. No axioms.
-use mathlib.Core.Bool.{Bool, true, false, not, _&&_}
+-- The charge and the average of a sheet's pool, and the figures of its IRB section, are within their limits. No axioms.
 use mathlib.Core.List.{List}
 use mathlib.Core.Path.{_≡_}
 use Prim.Native.Nat.{ℕ, _≤_}
-use borrow.Author.Tests.{not-true}
-use Rattle.numbers.proofs.Tests.{at-cond, both-true}
-use Rattle.irba.specs.IrbPool.{irbPool}
+use Rattle.numbers.proofs.Tests.{at-cond}
 use Rattle.charge.specs.Figures.{poolFigures, mixedFigures}
-use Rattle.charge.specs.PoolCharge.{poolCharge, mixedCharge, poolAverage}
 use Rattle.charge.specs.SumLimits.{IrbLimits}
 use Rattle.charge.specs.declared.Figures.{Figures}
 use Rattle.charge.proofs.PoolLaws.{all-limits, pool-charge-at-most-million, mixed-charge-at-most-million, pool-average-at-most}
-use Rattle.judgement.specs.DealSheet.{poolKind, resecuritisation, dueDiligence, irbFigures, needed, layout}
+use Rattle.judgement.specs.DealSheet.{irbFigures, needed, layout}
 use Rattle.judgement.specs.Refusals.{judged}
 use Rattle.judgement.specs.declared.Verdict.the-variants.{Sound}
 use Rattle.judgement.proofs.SheetLimits.{irb-figures-within}
@@ -42,24 +37,3 @@ average-at-most s accepted =
     at-cond (λ (f : Figures). f .average ≤ 125000) (irbaFor (layout s)) (mixedFigures (irbFigures s) (poolSums s)) (poolFigures (poolSums s))
     (λ _. irb-limits s accepted .average-most)
     (λ _. pool-average-at-most (poolSums s) (sum-limits s accepted))
-
--- ---- "The answer's charge is this one under approach 3, else 01's"; "the IRB average takes the place of the pool average in the cap"
-
-pub irba-charge :
-    (s : List ℕ) → terms s .irba ≡ true →
-    (terms s .charge ≡ mixedCharge (irbFigures s) (poolSums s .all)) × (terms s .average ≡ irbFigures s .average)
-unfolding terms layout
-irba-charge s by = (rw by, rw by)
-
-pub other-charge :
-    (s : List ℕ) → terms s .irba ≡ false → (terms s .charge ≡ poolCharge (poolSums s)) × (terms s .average ≡ poolAverage (poolSums s))
-unfolding terms layout
-other-charge s by = (rw by, rw by)
-
--- "given due diligence and an ordinary deal, approach 3"
-pub irba-ordinary : (s : List ℕ) → terms s .irba ≡ true → (terms s .diligence ≡ true) × (terms s .resecuritisation ≡ false)
-unfolding terms layout
-irba-ordinary s by =
-    let pool = both-true (dueDiligence s && not (resecuritisation s)) (irbPool (poolKind s) (irbFigures s .share)) by in
-    let deal = both-true (dueDiligence s) (not (resecuritisation s)) (pool .0) in
-    (deal .0, not-true (resecuritisation s) (deal .1))

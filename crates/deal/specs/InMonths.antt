@@ -6,7 +6,6 @@ use mathlib.Core.Path.{_≡_}
 use Prim.Native.Nat.{ℕ, _+_, _<_}
 use lib.ListN.{length}
 use Rattle.judgement.specs.DealSheet.{word, hasFact, trancheCount, trancheAt, months}
-use Rattle.deal.specs.Results.{replyTo, resultsAfter}
 
 -- s′ is s but for the sixth fact, which is 0, and the maturities, which are the months that s counts from its reporting date
 pub record InMonths (s s′ : List ℕ) : Type 0 where
@@ -15,8 +14,3 @@ pub record InMonths (s s′ : List ℕ) : Type 0 where
   pub no-date : word s′ 6 ≡ 0
   pub maturity-months : (i : ℕ) → i < trancheCount s → word s′ (trancheAt s i + 2) ≡ months s i
   pub same-word : (p : ℕ) → (p ≡ 6 → ⊥) → ((i : ℕ) → i < trancheCount s → p ≡ trancheAt s i + 2 → ⊥) → word s′ p ≡ word s p
-
--- both sheets have the same answer, whatever the room for results, and leave the same results
-pub record SameAnswer (s s′ : List ℕ) : Type 0 where
-  pub same-reply : (room : ℕ) → replyTo s′ room ≡ replyTo s room
-  pub same-results : (old : List ℕ) → resultsAfter s′ old ≡ resultsAfter s old

@@ -7,4 +7,6 @@ pub mod Results
 pub mod DemandThree
 pub mod OtherRatings
 pub mod FilledAnswer
+pub mod SameAnswer
 pub mod InMonths
+pub mod SaPool

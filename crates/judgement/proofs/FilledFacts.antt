@@ -157,9 +157,11 @@ module _ (n : ℕ) (s : List ℕ) (c : CanFill n s) where
       same-fact s f p (omega (arith, count-filled, c .most)) (λ h. fact-kept p least (omega arith))
       (λ past within. zero-filled p (omega arith) (omega (arith, count-filled)))
 
+  pub filled-same-kind : poolKind f ≡ poolKind s
+  filled-same-kind = same-known-fact 1 (omega arith) (omega arith)
+
   pub filled-same-facts : SameFacts s f
   filled-same-facts = record {
-    same-kind = same-known-fact 1 (omega arith) (omega arith);
     same-resecuritisation = rw (same-known-fact 2 (omega arith) (omega arith));
     same-stc = rw (same-later-fact 5 (omega arith));
     same-diligence = rw (same-known-fact 3 (omega arith) (omega arith));
@@ -172,11 +174,11 @@ module _ (n : ℕ) (s : List ℕ) (c : CanFill n s) where
   -- ---- its IRB section
 
   pub filled-same-irb : irbFigures f ≡ irbFigures s
-  filled-same-irb = same-irb-figures s f (filled-same-facts .same-kind) (λ k column. same-irb-word k)
+  filled-same-irb = same-irb-figures s f filled-same-kind (λ k column. same-irb-word k)
 
   needed-moved : needed f ≡ needed s + d
   needed-moved =
-      let words : irbWords f ≡ irbWords s = rw (filled-same-facts .same-kind) in
+      let words : irbWords f ≡ irbWords s = rw filled-same-kind in
       omega (arith, needed-is f, needed-is s, irb-moved, words)
 
   -- ---- the faults of its words: a count is good, a fact keeps its fault, a zero has none, and a later word keeps its fault where it has moved
@@ -228,7 +230,7 @@ module _ (n : ℕ) (s : List ℕ) (c : CanFill n s) where
         same-ltb d p (irbAt s),
         same-eqb d p (irbAt s),
         same-distance (irbAt s) p,
-        filled-same-facts .same-kind,
+        filled-same-kind,
         filled-same-facts .same-resecuritisation,
         filled-same-date,
         same-distance (poolAt s) p,

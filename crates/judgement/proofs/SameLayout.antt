@@ -52,10 +52,9 @@ same-irb-figures s s′ kind alike =
       alike 5 (omega arith),
     )
 
--- ---- the facts that the terms of a deal read; the reporting date is not among them
+-- ---- the facts that the terms of a deal read, but for the pool's kind; the reporting date is not among them
 
 pub record SameFacts (s s′ : List ℕ) : Type 0 where
-  pub same-kind : poolKind s′ ≡ poolKind s
   pub same-resecuritisation : resecuritisation s′ ≡ resecuritisation s
   pub same-stc : stc s′ ≡ stc s
   pub same-diligence : dueDiligence s′ ≡ dueDiligence s
@@ -79,15 +78,16 @@ same-listed-fact :
 unfolding poolAt
 same-listed-fact s s′ n count kept = same-fact s s′ n (omega arith) (λ h. kept (omega arith)) (λ h l. absurd (omega arith))
 
-pub same-facts : (s s′ : List ℕ) → ((p : ℕ) → p < 6 → p < poolAt s → word s′ p ≡ word s p) → factsLeast < poolAt s → SameFacts s s′
+pub same-facts :
+    (s s′ : List ℕ) → ((p : ℕ) → (p ≡ 1 → ⊥) → p < 6 → p < poolAt s → word s′ p ≡ word s p) → factsLeast < poolAt s → SameFacts s s′
 same-facts s s′ before facts =
     record {
-      same-kind = before 1 (omega arith) (omega arith);
-      same-resecuritisation = rw (before 2 (omega arith) (omega arith));
-      same-stc = rw (same-listed-fact s s′ 5 (before 0 (omega arith) (omega arith)) (before 5 (omega arith)));
-      same-diligence = rw (before 3 (omega arith) (omega arith));
-      same-composition = rw (before 4 (omega arith) (omega arith));
+      same-resecuritisation = rw (before 2 (λ e. omega arith) (omega arith) (omega arith));
+      same-stc = rw (same-listed-fact s s′ 5 (before 0 (λ e. omega arith) (omega arith) (omega arith)) (before 5 (λ e. omega arith) (omega arith)));
+      same-diligence = rw (before 3 (λ e. omega arith) (omega arith) (omega arith));
+      same-composition = rw (before 4 (λ e. omega arith) (omega arith) (omega arith));
     }
 
-pub same-reporting-date : (s s′ : List ℕ) → ((p : ℕ) → p < poolAt s → word s′ p ≡ word s p) → factsLeast < poolAt s → reportingDate s′ ≡ reportingDate s
-same-reporting-date s s′ before facts = same-listed-fact s s′ 6 (before 0 (omega arith)) (before 6)
+pub same-reporting-date :
+    (s s′ : List ℕ) → ((p : ℕ) → (p ≡ 1 → ⊥) → p < poolAt s → word s′ p ≡ word s p) → factsLeast < poolAt s → reportingDate s′ ≡ reportingDate s
+same-reporting-date s s′ before facts = same-listed-fact s s′ 6 (before 0 (λ e. omega arith) (omega arith)) (before 6 (λ e. omega arith))

@@ -227,6 +227,15 @@ irb-figures-within s e = by-kind (hasIrb s) refl
         simp has (g .share-most, (g .charge-most, g .average-most))
     by-kind false none = simp none (omega arith, (omega arith, omega arith))
 
+-- and of a section that is there
+pub irb-loans-within :
+    (s : List ℕ) → judged s (needed s) ≡ Sound → hasIrb s ≡ true →
+    (irbFigures s .loss ≤ 1000000) × ((1 ≤ irbFigures s .loans) × (irbFigures s .loans ≤ 1000000))
+unfolding irbFigures
+irb-loans-within s e has =
+    let g = good-irb s e has in
+    simp has (g .loss-most, (g .loans-least, g .loans-most))
+
 -- ---- the words that are there to be read
 
 pub fact-there : (s : List ℕ) (p : ℕ) → judged s (needed s) ≡ Sound → p ≤ poolAt s → p < length s

@@ -1,4 +1,4 @@
--- Which weight a tranche has by each approach, and what it depends on in a re-securitisation; what a deal without an STC mark has; that the parameter is one for
+-- Which weight a tranche has by each approach, and what it depends on in a re-securitisation and under SEC-IRBA; what a deal without an STC mark has; that the parameter is one for
 -- which the formula is computed; that no weight is above 125,000 (1250%), neither the formula's raw weight, nor the table's, nor either after floor and cap; that
 -- floor and cap keep the order of weights; and where a tranche of no thickness lies. No axioms.
 use mathlib.Core.Bool.{Bool, true, false, cond}
@@ -15,6 +15,7 @@ use Rattle.formula.specs.Formula.{WithinLimits}
 use Rattle.formula.specs.FixedPoint.{withinLimits, rawWeight}
 use Rattle.formula.proofs.RawWeightLaw.{raw-weight-is}
 use Rattle.formula.proofs.Limits.{limits-of-test}
+use Rattle.irba.specs.declared.IrbFigures.{IrbFigures}
 use Rattle.irba.proofs.ParameterLimits.{parameter-least, parameter-most}
 use Rattle.ratings.specs.RatingTable.{maturityFifths, ordinaryFigures, figuresOf, pick, weightByRatings}
 use Rattle.ratings.proofs.PickLaws.{pick-of-rising}
@@ -87,6 +88,39 @@ unmarked-table-weight t d e = simp e
 pub resecuritisation-first :
     (t : Tranche) (d : Terms) → d .resecuritisation ≡ true → (parameter t d ≡ 1500000) × (floor t d ≡ 10000)
 resecuritisation-first t d e = (simp e, simp e)
+
+-- ---- SEC-IRBA
+
+-- S-5: "ratings ... play no part": two tranches of the same points and months, both senior or neither, have the same approach and weight
+pub ratings-not-used-by-irba :
+    (t t′ : Tranche) (d : Terms) → d .irba ≡ true → t′ .attachment ≡ t .attachment → t′ .detachment ≡ t .detachment →
+    t′ .senior ≡ t .senior → t′ .months ≡ t .months → (approach t′ d ≡ approach t d) × (weight t′ d ≡ weight t d)
+unfolding weight formulaRawWeight
+ratings-not-used-by-irba t t′ d by same-attachment same-detachment same-senior same-months =
+    (simp by, by-terms (d .diligence) refl (d .resecuritisation) refl)
+  where
+    by-terms : (held : Bool) → d .diligence ≡ held → (resecuritised : Bool) → d .resecuritisation ≡ resecuritised → weight t′ d ≡ weight t d
+    by-terms false e resecuritised r = simp e
+    by-terms true e true r = simp (e, r, same-attachment, same-detachment, same-senior)
+    by-terms true e false r = rw (same-attachment, same-detachment, same-senior, same-months, by, e, r)
+
+-- the figures of the IRB section are read under it alone
+abbrev pub withFigures : Terms → IrbFigures → Terms
+withFigures d f = record {
+  diligence = d .diligence;
+  resecuritisation = d .resecuritisation;
+  stc = d .stc;
+  composition = d .composition;
+  irba = d .irba;
+  known = d .known;
+  charge = d .charge;
+  average = d .average;
+  irb = f;
+}
+
+pub figures-unread : (t : Tranche) (d : Terms) (f : IrbFigures) → d .irba ≡ false → weight t (withFigures d f) ≡ weight t d
+unfolding weight formulaRawWeight tableWeight
+figures-unread t d f by = rw by
 
 -- ---- the supervisory parameter
 
