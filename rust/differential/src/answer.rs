@@ -1,5 +1,5 @@
-//! The numbers of an answer, by "The deal sheet" and "Refusals, by who can cause them" of document 01, by S-1 and by
-//! S-3: the words of a line, the approaches, the refusals.
+//! The numbers of an answer, by "The deal sheet" and "Refusals, by who can cause them" of document 01, by S-1, by S-3
+//! and by S-5: the words of a line, the approaches, the refusals.
 
 use crate::sheet::TRANCHES;
 
@@ -48,6 +48,8 @@ pub enum Approach {
     SecErba,
     /// The formula.
     SecSa,
+    /// The formula with charge and parameter of the IRB section.
+    SecIrba,
 }
 
 impl Approach {
@@ -56,6 +58,7 @@ impl Approach {
         (Approach::Fallback, "fallback"),
         (Approach::SecErba, "SEC-ERBA"),
         (Approach::SecSa, "SEC-SA"),
+        (Approach::SecIrba, "SEC-IRBA"),
     ];
 
     /// The word that a line has for the approach.
@@ -70,11 +73,13 @@ pub mod refusal {
     pub const MISSING: u64 = 1;
     /// A count is outside its limits.
     pub const COUNT: u64 = 2;
+    /// Words follow the last section.
+    pub const WORDS_FOLLOW: u64 = 3;
     /// A fact is outside its codes.
     pub const FACT: u64 = 4;
     /// A maturity is outside its months.
     pub const MATURITY: u64 = 10;
-    /// SEC-SA applies, A equals D, and D is above the pool charge.
+    /// The formula applies, A equals D, and D is above the charge.
     pub const THIN: u64 = 13;
     /// Results shorter than the lines.
     pub const ROOM: u64 = 14;
@@ -84,12 +89,14 @@ pub mod refusal {
     pub const STC_RESECURITISATION: u64 = 16;
     /// A date does not exist or is outside the years, or a maturity is not after the reporting date.
     pub const DATE: u64 = 17;
+    /// A figure of the IRB section is outside its limits.
+    pub const IRB_FIGURE: u64 = 18;
 
     /// The numbers that a run must meet.
     pub const MET: &[u64] = &[
         MISSING,
         COUNT,
-        3,
+        WORDS_FOLLOW,
         FACT,
         5,
         6,
@@ -98,12 +105,12 @@ pub mod refusal {
         9,
         MATURITY,
         11,
-        12,
         THIN,
         ROOM,
         FILE_LENGTH,
         STC_RESECURITISATION,
         DATE,
+        IRB_FIGURE,
     ];
 
     /// The place of a number in the list.
@@ -131,11 +138,16 @@ mod tests {
             .all(|(place, entry)| entry.0 as usize == place));
     }
 
-    /// The approaches have document 01's words.
+    /// The approaches have the words of document 01 and S-5.
     #[test]
     fn words_are_those_of_the_paper() {
-        let words = [Approach::Fallback, Approach::SecErba, Approach::SecSa].map(Approach::word);
-        assert_eq!(words, [0, 1, 2]);
+        let words = [
+            Approach::Fallback,
+            Approach::SecErba,
+            Approach::SecSa,
+            Approach::SecIrba,
+        ];
+        assert_eq!(words.map(Approach::word), [0, 1, 2, 3]);
     }
 
     /// Each number that a run must meet is in the list once, and 0, which accepts, is not.

@@ -3,11 +3,12 @@
 use crate::answer::LINE_WORDS;
 use crate::damage;
 use crate::dates;
+use crate::irb;
 use crate::kind::{File, Kind, Relation, Room};
 use crate::limits;
 use crate::pool;
 use crate::random::Random;
-use crate::sheet::{file_form, Deal, Fact, Facts, Layout, FACTS, FEWEST_FACTS, FILE_BYTES, WORD_BYTES};
+use crate::sheet::{file_form, pool_kind, Deal, Fact, Facts, Layout, FACTS, FEWEST_FACTS, FILE_BYTES, WORD_BYTES};
 use crate::tranches;
 
 /// One sheet of a run. It is made from seed and index alone; making another one reuses its lists.
@@ -63,11 +64,7 @@ impl Case {
     pub fn make(&mut self, seed: u64, index: u64) {
         let mut random = Random::of_sheet(seed, index);
         self.kind = Kind::draw(&mut random);
-        let sound = if self.kind.is_sound() {
-            self.kind
-        } else {
-            Kind::draw_sound(&mut random)
-        };
+        let sound = self.kind.sound(&mut random);
         fill_deal(sound, &mut random, &mut self.deal);
         dates::state(self.kind, sound, &mut random, &mut self.deal);
         self.deal.write(&mut self.sheet);
@@ -88,6 +85,8 @@ impl Case {
         let possible = match drawn {
             Relation::FactsAdded => takes_facts(&self.sheet),
             Relation::MonthsForDates => dates::are_good(&self.sheet, &layout),
+            Relation::SaPool => self.kind.is_sound() && self.deal.has_section() && !self.deal.is_under_irba(),
+            Relation::OtherUnderIrba => self.kind.is_sound() && self.deal.is_under_irba(),
             _ => self.kind.is_sound(),
         };
         self.relation = if possible { drawn } else { Relation::Unused };
@@ -105,6 +104,8 @@ impl Case {
                 self.deal.tranches[self.rerated].ratings = tranches::any_ratings(random);
             }
             Relation::WithoutCap => self.deal.facts[Fact::Composition] = 0,
+            Relation::SaPool => self.deal.facts[Fact::PoolKind] = pool_kind::SA,
+            Relation::OtherUnderIrba => irb::change_unread(random, &mut self.deal),
         }
         self.deal.write(&mut self.second);
     }
@@ -158,14 +159,16 @@ fn stretched_length(random: &mut Random) -> usize {
     }
 }
 
-/// Fills a deal of a sound kind: facts up to the mark, pool and tranches, with maturities in months.
+/// Fills a deal of a sound kind: facts up to the mark, pool, IRB section and tranches, with maturities in months.
 fn fill_deal(kind: Kind, random: &mut Random, deal: &mut Deal) {
     if kind == Kind::Limits {
         return limits::fill(random, deal);
     }
     deal.facts = facts(kind, random);
     pool::fill(kind, random, deal);
+    irb::fill(kind, random, deal);
     tranches::fill(kind, random, deal);
+    irb::aim(random, deal);
 }
 
 /// Draws the facts of a deal of a sound kind. A mark of 0 is stated half of the time.
@@ -182,6 +185,7 @@ fn facts(kind: Kind, random: &mut Random) -> Facts {
         _ => !resecuritisation && random.once_in(3),
     };
     let mut facts = Facts::default();
+    facts[Fact::PoolKind] = irb::draw_pool_kind(kind, random);
     facts[Fact::Resecuritisation] = u64::from(resecuritisation);
     facts[Fact::DueDiligence] = u64::from(!random.once_in(12));
     facts[Fact::Composition] = random.below(2);

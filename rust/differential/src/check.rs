@@ -48,12 +48,14 @@ fn check_second(
         Relation::OtherRatings => second::compare_other_ratings(library, case, lent)?,
         Relation::WithoutCap => expected.as_ref().is_ok_and(|deal| {
             if second::cap_decided(deal, case) {
-                tally.note_cap(&case.sheet);
+                tally.note_cap(&case.sheet, deal);
             }
             true
         }),
         Relation::FactsAdded => second::compare_facts_added(library, case, lent).map(|()| true)?,
         Relation::MonthsForDates => second::compare_same(Part::MonthsForDates, library, case, lent).map(|()| true)?,
+        Relation::SaPool => second::compare_same(Part::SaPool, library, case, lent).map(|()| true)?,
+        Relation::OtherUnderIrba => second::compare_same(Part::OtherUnderIrba, library, case, lent).map(|()| true)?,
     };
     if compared {
         tally.note_second(case.relation);

@@ -1,11 +1,13 @@
 //! Damage to sheets, so that every refusal and every order of faults occurs.
 
 use crate::dates;
+use crate::irb;
 use crate::kind::Kind;
 use crate::random::Random;
 use crate::sheet::{
-    status, Fact, Facts, Layout, RowWord, TrancheWord, DAYS, FACTS, FEWEST_FACTS, LONG_TERM, MONTHS, POOL_AMOUNT,
-    RISK_WEIGHT, ROWS, SHORT_TERM, TRANCHES, TRANCHE_AMOUNT,
+    pool_kind, status, Fact, Facts, IrbWord, Layout, RowWord, TrancheWord, DAYS, FACTS, FEWEST_FACTS, IRB_AVERAGE,
+    IRB_COUNT, IRB_SHARE, LONG_TERM, MANY_LOANS, MONTHS, POOL_AMOUNT, RISK_WEIGHT, ROWS, SHORT_TERM, TRANCHES,
+    TRANCHE_AMOUNT, WHOLE,
 };
 use independent::date::Date;
 
@@ -37,6 +39,14 @@ const EDGES: &[u64] = &[
     RISK_WEIGHT - 1,
     RISK_WEIGHT,
     RISK_WEIGHT + 1,
+    MANY_LOANS,
+    IRB_AVERAGE,
+    IRB_AVERAGE + 1,
+    IRB_SHARE - 1,
+    IRB_SHARE,
+    WHOLE - 1,
+    WHOLE,
+    WHOLE + 1,
     POOL_AMOUNT - 1,
     POOL_AMOUNT,
     POOL_AMOUNT + 1,
@@ -64,9 +74,10 @@ pub fn apply(kind: Kind, random: &mut Random, layout: Layout, words: &mut Vec<u6
         Kind::WordsAdded => add_words(random, words),
         Kind::EdgeWord => set_edge(random, layout, words),
         Kind::Swapped => swap(random, layout, words),
-        Kind::PoolKind => set(words, Layout::fact(Fact::PoolKind), random.between(1, 2)),
+        Kind::PoolKind => set_pool_kind(random, words),
         Kind::StcMark => mark_resecuritisation(random, words),
         Kind::BadDate => set_bad_date(random, layout, words),
+        Kind::BadSection => spoil_section(random, layout, words),
         Kind::SeveralDamages => {
             for _ in 0..random.between(2, 4) {
                 apply(one_damage(random), random, layout, words);
@@ -85,6 +96,7 @@ fn one_damage(random: &mut Random) -> Kind {
         Kind::PoolKind,
         Kind::StcMark,
         Kind::BadDate,
+        Kind::BadSection,
     ]);
     random.pick(&[Kind::EdgeWord, Kind::EdgeWord, Kind::EdgeWord, Kind::Swapped, rare])
 }
@@ -93,6 +105,33 @@ fn one_damage(random: &mut Random) -> Kind {
 fn set(words: &mut [u64], place: usize, word: u64) {
     if let Some(old) = words.get_mut(place) {
         *old = word;
+    }
+}
+
+/// Sets another pool kind, or the first number that is none.
+fn set_pool_kind(random: &mut Random, words: &mut [u64]) {
+    let place = Layout::fact(Fact::PoolKind);
+    let old = words.get(place).copied().unwrap_or(0);
+    set(
+        words,
+        place,
+        old.wrapping_add(random.between(1, 3)) % (pool_kind::MIXED + 2),
+    );
+}
+
+/// Spoils the IRB section: sets its count, or mostly one of its words, outside the limits, cuts it, or adds words to
+/// it.
+fn spoil_section(random: &mut Random, layout: Layout, words: &mut Vec<u64>) {
+    let count = layout.irb_count();
+    let kind = words.get(Layout::fact(Fact::PoolKind)).copied().unwrap_or(0);
+    match random.below(8) {
+        0 => set(words, count, random.pick(&[0, IRB_COUNT + 1, u64::MAX])),
+        1 => words.truncate(count + random.below(1 + IrbWord::COUNT as u64) as usize),
+        2 => add_words(random, words),
+        _ => {
+            let (word, bad) = irb::bad_word(random, kind);
+            set(words, layout.irb_word(word), bad);
+        }
     }
 }
 
@@ -125,9 +164,8 @@ fn set_bad_date(random: &mut Random, layout: Layout, words: &mut [u64]) {
 
 /// Cuts the sheet anywhere, or where a section begins or ends, or before the last fact.
 fn truncate(random: &mut Random, layout: Layout, words: &mut Vec<u64>) {
-    let around_counts = layout.counts().map(|count| [count, count + 1]);
-    let before_last = [layout.pool_count() - 1, layout.words() - 1];
-    let special = [around_counts.as_flattened(), &before_last].concat();
+    let mut special: Vec<usize> = layout.counts().iter().flat_map(|count| [*count, count + 1]).collect();
+    special.extend([layout.pool_count() - 1, layout.words() - 1]);
     let length = match random.once_in(3) {
         true => random.pick(&special),
         false => random.below(words.len().max(1) as u64) as usize,
@@ -148,7 +186,8 @@ fn add_words(random: &mut Random, words: &mut Vec<u64>) {
 fn place(random: &mut Random, layout: Layout, words: &[u64]) -> usize {
     let row = layout.row(random.below(layout.rows as u64) as usize);
     let tranche = layout.tranche(random.below(layout.tranches as u64) as usize);
-    match random.below(12) {
+    match random.below(14) {
+        12 | 13 if layout.irb => layout.irb_count() + random.below(1 + IrbWord::COUNT as u64) as usize,
         0 => Layout::FACTS_COUNT,
         1 => Layout::FACTS_COUNT + 1 + random.below(layout.facts as u64) as usize,
         2 => layout.pool_count(),
@@ -162,14 +201,21 @@ fn place(random: &mut Random, layout: Layout, words: &[u64]) -> usize {
 /// The values at which the rule of the field at this place changes ("The deal sheet").
 fn own_edges(layout: Layout, place: usize) -> &'static [u64] {
     let of_row = |edges: &[&'static [u64]], first: usize| edges[(place - first) % edges.len()];
-    let [facts, pool, tranches] = layout.counts();
+    let [facts, pool, tranches, irb] = [
+        Layout::FACTS_COUNT,
+        layout.pool_count(),
+        layout.tranche_count(),
+        layout.irb_count(),
+    ];
     match place {
         _ if place == facts => &[0, FEWEST_FACTS - 1, FEWEST_FACTS, FACTS - 1, FACTS, FACTS + 1],
         _ if place < pool => of_row(Fact::EDGES, facts + 1),
         _ if place == pool => &[0, 1, ROWS, ROWS + 1],
         _ if place < tranches => of_row(RowWord::EDGES, pool + 1),
         _ if place == tranches => &[0, 1, TRANCHES, TRANCHES + 1],
-        _ => of_row(TrancheWord::EDGES, tranches + 1),
+        _ if place < irb => of_row(TrancheWord::EDGES, tranches + 1),
+        _ if place == irb => &[0, IRB_COUNT, IRB_COUNT + 1],
+        _ => of_row(IrbWord::EDGES, irb + 1),
     }
 }
 
@@ -208,6 +254,7 @@ fn random_words(random: &mut Random, words: &mut Vec<u64>) {
     if !random.once_in(4) {
         let rows = random.between(1, 3);
         let mut facts = Facts::default();
+        facts[Fact::PoolKind] = random.pick(&[pool_kind::SA, pool_kind::SA, pool_kind::IRB, pool_kind::MIXED]);
         for fact in [Fact::Resecuritisation, Fact::DueDiligence, Fact::Composition] {
             facts[fact] = random.below(2);
         }
@@ -241,10 +288,13 @@ mod tests {
             facts: Fact::COUNT,
             rows: 2,
             tranches: 2,
+            irb: true,
         };
-        let counts = layout.counts().map(|place| own_edges(layout, place));
+        let counts: Vec<_> = layout.counts().iter().map(|&place| own_edges(layout, place)).collect();
         assert_eq!(counts[0], [0, 3, 4, 5, 6, 7]);
-        assert_eq!([counts[1][2], counts[2][2]], [ROWS, TRANCHES]);
+        assert_eq!([counts[1][2], counts[2][2], counts[3][2]], [ROWS, TRANCHES, 2]);
+        let share = own_edges(layout, layout.irb_word(IrbWord::Share));
+        assert_eq!(share[1..3], [IRB_SHARE - 1, IRB_SHARE]);
         for fact in [Fact::Stc, Fact::ReportingDate] {
             assert_eq!(own_edges(layout, Layout::fact(fact)), Fact::EDGES[fact as usize]);
         }
@@ -264,6 +314,7 @@ mod tests {
             facts: Fact::COUNT,
             rows: 1,
             tranches: 1,
+            irb: true,
         };
         let mut empty = false;
         for index in 0..5_000 {

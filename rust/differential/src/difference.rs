@@ -34,6 +34,10 @@ pub enum Part {
     FactsAdded,
     /// The answer changes where months are stated in place of dates.
     MonthsForDates,
+    /// The answer of a deal that is not under SEC-IRBA changes with the IRB section.
+    SaPool,
+    /// The answer under SEC-IRBA changes with statuses and ratings.
+    OtherUnderIrba,
     /// One side stopped with a panic.
     Panic,
 }
@@ -56,6 +60,8 @@ impl fmt::Display for Part {
             Part::OtherRatings => "another tranche's ratings",
             Part::FactsAdded => "facts of 0 added",
             Part::MonthsForDates => "months in place of dates",
+            Part::SaPool => "an SA pool without the section",
+            Part::OtherUnderIrba => "statuses and ratings under SEC-IRBA",
             Part::Panic => "a panic",
         })
     }

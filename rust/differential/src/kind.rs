@@ -50,6 +50,10 @@ pub enum Kind {
     HalfThick,
     /// Up to 1,000 rows.
     LargePool,
+    /// An IRB pool, with its section.
+    IrbPool,
+    /// A mixed pool, with its section; the share is often near 95%.
+    MixedPool,
     /// Every word at its lowest or highest allowed value.
     Limits,
     /// Cut at a random place.
@@ -64,19 +68,21 @@ pub enum Kind {
     SeveralDamages,
     /// Random words.
     RandomWords,
-    /// Pool kind 1 or 2.
+    /// Another pool kind than the sheet was written with.
     PoolKind,
     /// An STC mark on a re-securitisation.
     StcMark,
     /// A reporting date, and it or a maturity is a bad date.
     BadDate,
+    /// An IRB section with a wrong count, a word outside its limits, too few words or too many.
+    BadSection,
 }
 
 impl Kind {
     /// All kinds, in the order of the enum.
-    pub const TABLE: [Entry<Kind>; 24] = [
+    pub const TABLE: [Entry<Kind>; 27] = [
         (Kind::Ordinary, "ordinary", 24),
-        (Kind::Stc, "STC", 20),
+        (Kind::Stc, "STC", 24),
         (Kind::Resecuritisation, "re-securitisation", 10),
         (Kind::AroundCharge, "points around the charge", 12),
         (Kind::Thin, "thin tranches", 10),
@@ -86,9 +92,11 @@ impl Kind {
         (Kind::AllDelinquent, "all rows delinquent", 2),
         (Kind::ZeroCharge, "charge 0", 3),
         (Kind::SmallCharge, "small charge", 6),
-        (Kind::Rated, "rated", 10),
+        (Kind::Rated, "rated", 18),
         (Kind::HalfThick, "rated and half thick", 6),
         (Kind::LargePool, "large pool", 3),
+        (Kind::IrbPool, "IRB pool", 16),
+        (Kind::MixedPool, "mixed pool", 18),
         (Kind::Limits, "at the limits", 3),
         (Kind::Truncated, "truncated", 4),
         (Kind::WordsAdded, "words added", 3),
@@ -96,9 +104,10 @@ impl Kind {
         (Kind::Swapped, "two words swapped", 4),
         (Kind::SeveralDamages, "several damages", 5),
         (Kind::RandomWords, "random words", 4),
-        (Kind::PoolKind, "pool kind 1 or 2", 1),
+        (Kind::PoolKind, "another pool kind", 4),
         (Kind::StcMark, "STC mark on a re-securitisation", 2),
         (Kind::BadDate, "a bad date", 8),
+        (Kind::BadSection, "a bad IRB section", 12),
     ];
 
     /// How many entries of the table, from its start, are kinds of sound sheets: those up to the one at the limits.
@@ -109,9 +118,14 @@ impl Kind {
         draw(&Kind::TABLE, random)
     }
 
-    /// Draws a kind of sound sheet, to be damaged afterwards.
-    pub fn draw_sound(random: &mut Random) -> Kind {
-        draw(&Kind::TABLE[..Kind::SOUND], random)
+    /// The kind of sound sheet that a sheet of this kind is made from: itself, or one to be damaged afterwards. A bad
+    /// IRB section is made from a good one.
+    pub fn sound(self, random: &mut Random) -> Kind {
+        match self {
+            sound if sound.is_sound() => sound,
+            Kind::BadSection => random.pick(&[Kind::IrbPool, Kind::MixedPool]),
+            _ => draw(&Kind::TABLE[..Kind::SOUND], random),
+        }
     }
 
     /// Whether sheets of this kind keep every limit of the deal sheet.
@@ -216,11 +230,15 @@ pub enum Relation {
     FactsAdded,
     /// No reporting date, and months in place of dates: the same answer.
     MonthsForDates,
+    /// An SA pool without the IRB section, in place of a deal that has one and is not under SEC-IRBA: the same answer.
+    SaPool,
+    /// Other statuses and ratings everywhere in a deal under SEC-IRBA: the same answer.
+    OtherUnderIrba,
 }
 
 impl Relation {
     /// All relations, in the order of the enum.
-    pub const TABLE: [Entry<Relation>; 7] = [
+    pub const TABLE: [Entry<Relation>; 9] = [
         (Relation::Unused, "no second sheet", 5),
         (Relation::RowOrder, "rows in another order", 1),
         (Relation::RatingOrder, "ratings in another order", 1),
@@ -228,6 +246,8 @@ impl Relation {
         (Relation::WithoutCap, "without the cap", 1),
         (Relation::FactsAdded, "facts of 0 added", 3),
         (Relation::MonthsForDates, "months in place of dates", 2),
+        (Relation::SaPool, "an SA pool without the section", 2),
+        (Relation::OtherUnderIrba, "statuses and ratings, SEC-IRBA", 2),
     ];
 
     /// Draws a relation.
@@ -256,6 +276,21 @@ mod tests {
     fn sound_kinds_end_with_the_limits() {
         assert!(Kind::Limits.is_sound());
         assert!(!Kind::Truncated.is_sound());
+    }
+
+    /// A sound sheet is made as its own kind says, a damaged one as that of a sound kind, and one with a bad IRB
+    /// section as that of a pool with a section.
+    #[test]
+    fn sheets_are_made_from_sound_ones() {
+        let mut random = Random::of_sheet(4, 0);
+        for (kind, name, _) in Kind::TABLE {
+            for _ in 0..50 {
+                let sound = kind.sound(&mut random);
+                assert!(sound.is_sound() && (!kind.is_sound() || sound == kind), "{name}");
+                let of_section = [Kind::IrbPool, Kind::MixedPool].contains(&sound);
+                assert!(of_section || kind != Kind::BadSection);
+            }
+        }
     }
 
     /// Every kind is drawn, about as often as its share says.

@@ -1,5 +1,5 @@
 //! Holds the proved library of tranche weights against the independent implementation of document 01 ("the scope
-//! paper") and of requests S-1 to S-3 of document 02 ("later requests"), on seeded random sheets.
+//! paper") and of requests S-1 to S-3 and S-5 of document 02 ("later requests"), on seeded random sheets.
 //!
 //! Every sheet is made from a seed and its index alone ([`Case`]), so that a run can be split over threads and any
 //! sheet can be made again. [`Run::go`] compares all sheets and gives the counts of what it met ([`Tally`]) or the
@@ -15,6 +15,8 @@ mod damage;
 mod date_feature;
 mod dates;
 mod difference;
+mod irb;
+mod irb_feature;
 mod kind;
 mod lent;
 mod library;
@@ -38,6 +40,7 @@ pub use case::Case;
 pub use check::check;
 pub use date_feature::{DateFeature, DatedLineFeature};
 pub use difference::{Difference, Part};
+pub use irb_feature::{IrbFeature, IrbLineFeature, IrbRefusal};
 pub use kind::{File, Kind, Relation, Room};
 pub use lent::Lent;
 pub use library::{Library, Reply, Weigh, WeighFile};

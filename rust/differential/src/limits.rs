@@ -2,8 +2,8 @@
 
 use crate::random::Random;
 use crate::sheet::{
-    status, Deal, Fact, Facts, Row, Tranche, LONG_TERM, MONTHS, POOL_AMOUNT, RISK_WEIGHT, ROWS, SHORT_TERM, TRANCHES,
-    TRANCHE_AMOUNT,
+    pool_kind, status, Deal, Fact, Facts, Irb, Row, Tranche, IRB_AVERAGE, LOANS, LONG_TERM, MONTHS, POOL_AMOUNT,
+    RISK_WEIGHT, ROWS, SHORT_TERM, TRANCHES, TRANCHE_AMOUNT, WHOLE,
 };
 use std::array;
 
@@ -37,6 +37,7 @@ impl Ends {
 /// Fills the whole deal with words at the limits.
 pub fn fill(random: &mut Random, deal: &mut Deal) {
     deal.facts = Facts::default();
+    deal.facts[Fact::PoolKind] = random.pick(&[pool_kind::SA, pool_kind::IRB, pool_kind::MIXED]);
     deal.facts[Fact::Resecuritisation] = random.below(2);
     deal.facts[Fact::DueDiligence] = u64::from(!random.once_in(4));
     deal.facts[Fact::Composition] = random.below(2);
@@ -45,6 +46,25 @@ pub fn fill(random: &mut Random, deal: &mut Deal) {
     }
     fill_rows(random, deal);
     fill_tranches(random, deal);
+    fill_irb(random, deal);
+}
+
+/// The IRB section. The share of an IRB pool is the whole.
+fn fill_irb(random: &mut Random, deal: &mut Deal) {
+    let mut word = |low, high| random.pick(&[low, high]);
+    let share = word(0, WHOLE);
+    deal.irb = Irb {
+        charge: word(0, WHOLE),
+        loss: word(0, WHOLE),
+        loans: word(1, LOANS),
+        retail: word(0, 1),
+        share: if deal.facts[Fact::PoolKind] == pool_kind::IRB {
+            WHOLE
+        } else {
+            share
+        },
+        average: word(0, IRB_AVERAGE),
+    };
 }
 
 /// One row or the most.

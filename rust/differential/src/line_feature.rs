@@ -2,11 +2,9 @@
 
 use crate::answer::Approach;
 use crate::seen::{DealKind, Seen};
+use independent::formula::HIGHEST_WEIGHT;
 
-/// The highest weight.
-const HIGHEST_WEIGHT: u64 = 125_000;
-
-/// What must be met on lines of any deal.
+/// What must be met on lines of any deal. Features of the formula are met under SEC-SA; SEC-IRBA has its own.
 #[derive(Debug, Clone, Copy, PartialEq, Eq)]
 pub enum Feature {
     /// The floor of an ordinary securitisation decided a weight.
@@ -58,21 +56,19 @@ impl Feature {
     /// Whether a line shows the feature. Whether the cap decided and how much is unknown are not told from the line
     /// alone.
     pub(crate) fn shown(self, seen: &Seen) -> bool {
-        let (line, charge) = (seen.line, seen.charge);
         let standardised = seen.is(Approach::SecSa);
-        let formula = seen.by_formula();
         match self {
             Feature::OrdinaryFloor => seen.kind == DealKind::Ordinary && seen.floor_decided(),
             Feature::ResecuritisationFloor => seen.kind == DealKind::Resecuritisation && seen.floor_decided(),
             Feature::CapDecided | Feature::UnknownAtLimit => false,
             Feature::CapBelowFloor => seen.capped_below_floor(),
             Feature::AtSenior => seen.kind == DealKind::Ordinary && seen.at_senior(),
-            Feature::BelowCharge => standardised && line.detachment <= charge && seen.weight() == HIGHEST_WEIGHT,
-            Feature::ZeroCharge => formula && charge == 0,
-            Feature::ZeroChargeAndPoint => standardised && charge == 0 && line.detachment == 0,
-            Feature::AcrossCharge => formula && line.attachment < charge,
-            Feature::FromCharge => formula && charge > 0 && line.attachment == charge,
-            Feature::ThinAboveCharge => formula && charge > 0 && line.detachment - line.attachment == 1,
+            Feature::BelowCharge => standardised && seen.below_charge(),
+            Feature::ZeroCharge => standardised && seen.zero_charge(),
+            Feature::ZeroChargeAndPoint => standardised && seen.zero_charge_and_point(),
+            Feature::AcrossCharge => standardised && seen.across_charge(),
+            Feature::FromCharge => standardised && seen.starts_at_charge(),
+            Feature::ThinAboveCharge => standardised && seen.thin_above_charge(),
             Feature::TwoWeights => seen.two_weights(),
         }
     }
@@ -172,6 +168,7 @@ impl StcFeature {
 #[cfg(test)]
 mod tests {
     use super::*;
+    use independent::sheet::Tranche;
     use independent::{Amounts, Line};
 
     /// Features are counted by the enums' order, so the tables must follow it.
@@ -186,7 +183,7 @@ mod tests {
     }
 
     /// A SEC-SA line of one millionth counts from the charge on; one further down, a thicker one, one over a charge of
-    /// 0 and a rated one do not.
+    /// 0, a rated one and one under SEC-IRBA do not.
     #[test]
     fn thin_lines_above_the_charge_are_counted() {
         let thin = |approach: Approach, charge, attachment, detachment| {
@@ -205,6 +202,16 @@ mod tests {
                 line: &line,
                 charge,
                 kind: DealKind::Ordinary,
+                due_diligence: true,
+                irb: None,
+                tranche: Tranche {
+                    amount: 1,
+                    class: 2,
+                    months: 1,
+                    held: 0,
+                    ratings: [0; 3],
+                    place: 0,
+                },
                 senior: false,
                 capped: false,
                 dates: None,
@@ -215,5 +222,6 @@ mod tests {
         assert!(thin(formula, 50, 50, 51) && thin(formula, 50, 60, 61));
         assert!(!thin(formula, 50, 49, 50) && !thin(formula, 50, 60, 62));
         assert!(!thin(formula, 0, 60, 61) && !thin(Approach::SecErba, 50, 60, 61));
+        assert!(!thin(Approach::SecIrba, 50, 60, 61));
     }
 }

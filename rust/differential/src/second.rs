@@ -18,7 +18,8 @@ fn weigh(library: &Library, sheet: &[u64], room: usize, lent: &mut Lent) -> Weig
 
 /// The order of the pool's rows does not matter, since sums alone enter charge and points, and neither does the order
 /// of a tranche's ratings, since their weights are compared (S-2). Nor does the form of the maturities, since months
-/// alone are read (S-3). The second sheet has the same answer and the same lines.
+/// alone are read (S-3). A deal with an IRB section that is not under SEC-IRBA goes on as one of an SA pool; under
+/// SEC-IRBA statuses and ratings play no part (S-5). The second sheet has the same answer and the same lines.
 pub fn compare_same(part: Part, library: &Library, case: &Case, lent: &mut Lent) -> Result<(), Difference> {
     let first = weigh(library, &case.sheet, case.room, lent);
     let second = weigh(library, &case.second, case.room, lent);
@@ -143,6 +144,23 @@ mod tests {
         reply
     }
 
+    /// The proved library, with a charge of 1 more where there is an IRB section.
+    fn section_matters(sheet: &[u64], results: &mut [u64]) -> Reply {
+        let mut reply = (Library::PROVED.weigh)(sheet, results);
+        reply.charge += u64::from(reply.number == 0 && Layout::of_sheet(sheet).irb);
+        reply
+    }
+
+    /// The proved library, with the statuses of all rows added to the charge.
+    fn statuses_matter(sheet: &[u64], results: &mut [u64]) -> Reply {
+        let mut reply = (Library::PROVED.weigh)(sheet, results);
+        if reply.number == 0 {
+            let rows = Layout::of_sheet(sheet).pool(sheet).iter();
+            reply.charge += rows.map(|row| row[RowWord::Status as usize]).sum::<u64>();
+        }
+        reply
+    }
+
     /// The proved library, with a place of 1 more on a refusal of a sheet with a reporting date.
     fn dates_move_places(sheet: &[u64], results: &mut [u64]) -> Reply {
         let mut reply = (Library::PROVED.weigh)(sheet, results);
@@ -160,7 +178,8 @@ mod tests {
     }
 
     /// A library for which the order of rows or of ratings matters, or the form of the maturities, in the answer or in
-    /// a refusal's place, is found out; the proved one is not.
+    /// a refusal's place, is found out; so is one for which an IRB section matters that is not read, and one for which
+    /// statuses or ratings matter under SEC-IRBA; the proved one is not.
     #[test]
     fn orders_and_forms_are_compared() {
         let compare = |relation, part, weigh| {
@@ -179,7 +198,12 @@ mod tests {
         assert!(compare(ratings.0, ratings.1, rating_order_matters) > 10);
         assert!(compare(dates.0, dates.1, dates_matter) > 10);
         assert!(compare(dates.0, dates.1, dates_move_places) > 10);
-        for (relation, part) in [rows, ratings, dates] {
+        let sa_pool = (Relation::SaPool, Part::SaPool);
+        let irba = (Relation::OtherUnderIrba, Part::OtherUnderIrba);
+        assert!(compare(sa_pool.0, sa_pool.1, section_matters) > 10);
+        assert!(compare(irba.0, irba.1, statuses_matter) > 10);
+        assert!(compare(irba.0, irba.1, rating_order_matters) > 10);
+        for (relation, part) in [rows, ratings, dates, sa_pool, irba] {
             assert_eq!(compare(relation, part, Library::PROVED.weigh), 0);
         }
     }

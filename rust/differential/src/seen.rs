@@ -1,12 +1,14 @@
 //! A line of an accepted sheet with what of the sheet bears on its weight ("Which approach, then floor, then cap", with
-//! S-1 for STC deals, S-2 for several ratings and S-3 for dates).
+//! S-1 for STC deals, S-2 for several ratings, S-3 for dates and S-5 for SEC-IRBA).
 
 use crate::answer::Approach;
 use crate::dates;
-use crate::sheet::{Fact, Layout, TrancheWord, RATINGS};
+use crate::sheet::{Fact, IrbWord, Layout, TrancheWord, RATINGS};
 use independent::date::Date;
+use independent::formula::HIGHEST_WEIGHT;
+use independent::irba::Sum;
 use independent::rating::{self, Table};
-use independent::sheet::Tranche;
+use independent::sheet::{Irb, Tranche};
 use independent::{Deal, Line};
 
 /// The kinds of deals that have floors and parameters of their own.
@@ -60,18 +62,20 @@ pub struct Rated {
 }
 
 impl Rated {
-    /// What the table of the deal gives the tranche with these words and months, so thick.
-    fn new(kind: DealKind, words: &[u64; TrancheWord::COUNT], months: u64, thickness: u64) -> Rated {
-        let &[amount, class, _, held, first, second, third] = words;
-        let codes = [first, second, third];
+    /// What the table of the deal gives the tranche, so thick.
+    fn new(kind: DealKind, tranche: &Tranche, thickness: u64) -> Rated {
+        let &Tranche {
+            class,
+            months,
+            ratings: codes,
+            ..
+        } = tranche;
         let weight = |class, months, ratings| {
             let tranche = Tranche {
-                amount,
                 class,
                 months,
-                held,
                 ratings,
-                place: 0,
+                ..*tranche
             };
             rating::weight(Table::of(kind == DealKind::Stc), &tranche, thickness)
         };
@@ -92,6 +96,32 @@ impl Rated {
     }
 }
 
+/// The tranche with these words and months, as the independent implementation reads it, but for its place.
+fn tranche_of(words: &[u64; TrancheWord::COUNT], months: u64) -> Tranche {
+    let &[amount, class, _, held, first, second, third] = words;
+    Tranche {
+        amount,
+        class,
+        months,
+        held,
+        ratings: [first, second, third],
+        place: 0,
+    }
+}
+
+/// The IRB section with these words, as the independent implementation reads it.
+fn irb_of(words: &[u64; IrbWord::COUNT]) -> Irb {
+    let &[charge, loss, loans, retail, share, average] = words;
+    Irb {
+        charge,
+        loss,
+        loans,
+        retail: retail == 1,
+        share,
+        average,
+    }
+}
+
 /// The dates of a tranche.
 #[derive(Debug, Clone, Copy, PartialEq, Eq)]
 pub struct Dates {
@@ -107,10 +137,16 @@ pub struct Dates {
 pub struct Seen<'a> {
     /// The line.
     pub line: &'a Line,
-    /// The pool charge.
+    /// The charge.
     pub charge: u64,
     /// The kind of the deal.
     pub kind: DealKind,
+    /// Whether due diligence is held.
+    pub due_diligence: bool,
+    /// The IRB section, where there is one.
+    pub irb: Option<Irb>,
+    /// The tranche.
+    pub tranche: Tranche,
     /// Whether the tranche is of class 1.
     pub senior: bool,
     /// Whether the cap applies to the tranche.
@@ -128,9 +164,10 @@ impl<'a> Seen<'a> {
         let line = &deal.lines[tranche];
         let words = layout.tranche_words(sheet, tranche);
         let kind = DealKind::of_sheet(sheet);
-        let senior = words[TrancheWord::Class as usize] == 1;
-        let composition_known = layout.fact_word(sheet, Fact::Composition) == 1;
+        let answered = |fact| layout.fact_word(sheet, fact) == 1;
         let months = dates::months(sheet, &layout, tranche).expect("a good maturity");
+        let tranche = tranche_of(words, months);
+        let senior = tranche.class == 1;
         let maturity = Date::of_word(words[TrancheWord::Maturity as usize]);
         let dates = dates::reporting_date(sheet, &layout).zip(maturity);
         let rated = line.approach == Approach::SecErba.word();
@@ -138,15 +175,38 @@ impl<'a> Seen<'a> {
             line,
             charge: deal.charge,
             kind,
+            due_diligence: answered(Fact::DueDiligence),
+            irb: layout.irb_words(sheet).map(irb_of),
+            tranche,
             senior,
-            capped: senior && composition_known && kind != DealKind::Resecuritisation,
+            capped: senior && answered(Fact::Composition) && kind != DealKind::Resecuritisation,
             dates: dates.map(|(reporting, maturity)| Dates {
                 reporting,
                 maturity,
                 months,
             }),
-            rated: rated.then(|| Rated::new(kind, words, months, line.detachment - line.attachment)),
+            rated: rated.then(|| Rated::new(kind, &tranche, line.detachment - line.attachment)),
         }
+    }
+
+    /// The IRB section and the parameter's sum of a line under SEC-IRBA.
+    pub fn irba(&self) -> Option<(Irb, Sum)> {
+        let irb = self.irb.filter(|_| self.is(Approach::SecIrba))?;
+        Some((irb, Sum::of(&irb, self.charge, &self.tranche)))
+    }
+
+    /// The parameter's sum that the tranche would have with this section and a month more.
+    pub fn longer_sum(&self, irb: &Irb) -> Sum {
+        let longer = Tranche {
+            months: self.tranche.months + 1,
+            ..self.tranche
+        };
+        Sum::of(irb, self.charge, &longer)
+    }
+
+    /// Whether the tranche has a rating.
+    pub fn is_rated(&self) -> bool {
+        self.tranche.ratings.iter().any(|&code| code != 0)
     }
 
     /// The weight; the lower one where two are admitted.
@@ -164,9 +224,45 @@ impl<'a> Seen<'a> {
         self.line.approach == approach.word()
     }
 
-    /// Whether the weight comes from the formula, by K = 0 or by the exponentials: SEC-SA with D above K.
-    pub fn by_formula(&self) -> bool {
-        self.is(Approach::SecSa) && self.line.detachment > self.charge
+    /// Whether the formula applies: SEC-SA and SEC-IRBA.
+    fn under_formula(&self) -> bool {
+        self.is(Approach::SecSa) || self.is(Approach::SecIrba)
+    }
+
+    /// Whether the weight comes from the formula, by K = 0 or by the exponentials: D is above K.
+    fn by_formula(&self) -> bool {
+        self.under_formula() && self.line.detachment > self.charge
+    }
+
+    /// Whether the raw weight is 125,000 because D is at most K.
+    pub fn below_charge(&self) -> bool {
+        let below = self.under_formula() && self.line.detachment <= self.charge;
+        below && self.weight() == HIGHEST_WEIGHT
+    }
+
+    /// Whether K is 0 and D above it, under the formula.
+    pub fn zero_charge(&self) -> bool {
+        self.by_formula() && self.charge == 0
+    }
+
+    /// Whether K and D are 0, under the formula.
+    pub fn zero_charge_and_point(&self) -> bool {
+        self.under_formula() && self.charge == 0 && self.line.detachment == 0
+    }
+
+    /// Whether A is below K and D above it, under the formula.
+    pub fn across_charge(&self) -> bool {
+        self.by_formula() && self.line.attachment < self.charge
+    }
+
+    /// Whether A is K, and both are above 0, under the formula.
+    pub fn starts_at_charge(&self) -> bool {
+        self.by_formula() && self.charge > 0 && self.line.attachment == self.charge
+    }
+
+    /// Whether K is at least 1, D above K and the thickness one millionth, the least that is accepted there.
+    pub fn thin_above_charge(&self) -> bool {
+        self.by_formula() && self.charge > 0 && self.line.detachment - self.line.attachment == 1
     }
 
     /// Whether two raw weights pass and give two weights.
@@ -317,6 +413,29 @@ mod tests {
         assert_eq!(see_at(0, 36), (None, Some((3_100, 3_125)), true));
     }
 
+    /// The IRB section is seen with any approach, and the sum under SEC-IRBA alone: here of a wholesale senior tranche
+    /// with one loan, at one year and a month more, 0.11 + 2.61 - 2.91 + 0.34 + 0.07 x years.
+    #[test]
+    fn sections_and_sums() {
+        let see_section = |facts: &[u64], share| {
+            let section = [1, 1_000_000, 500_000, 1, 0, share, 7];
+            let sheet = [&sheet(facts, [0, 9])[..], &section].concat();
+            let deal = independent::weigh(&sheet, 2 * LINE_WORDS as u64).expect("an accepted sheet");
+            let seen = Seen::new(&sheet, &deal, 0);
+            let parameter = |sum: Sum| sum.numerator / sum.denominator;
+            let sums = seen
+                .irba()
+                .map(|(irb, sum)| [sum, seen.longer_sum(&irb)].map(parameter));
+            let rated = Seen::new(&sheet, &deal, 1).is_rated();
+            (seen.irb.map(|irb| irb.average), sums, seen.is_rated(), rated)
+        };
+        let sums = Some([220_000, 224_666]);
+        assert_eq!(see_section(&[1, 0, 1, 0], 1_000_000), (Some(7), sums, false, true));
+        assert_eq!(see_section(&[2, 0, 1, 0], 949_999), (Some(7), None, false, true));
+        assert_eq!(see_section(&[1, 0, 0, 0], 1_000_000), (Some(7), None, false, true));
+        assert!(see(&[0, 0, 1, 0], [0, 0], |seen| seen.irb.is_none()) == [true; 2]);
+    }
+
     /// A grade is seen where it alone gives the weight, be it through the floor: not at the cap, not beside another.
     #[test]
     fn grades_that_decide() {
@@ -324,7 +443,7 @@ mod tests {
         assert_eq!(grades(&[0, 0, 1, 0, 1], [21, 21]), [Some((21, 12)); 2]);
         assert_eq!(grades(&[0, 0, 1, 1], [18, 18]), [None, Some((18, 12))]);
         assert_eq!(grades(&[0, 0, 1, 1], [0, 7]), [None, Some((7, 12))]);
-        let several = Rated::new(DealKind::Stc, &[1, 2, 12, 0, 5, 5, 0], 12, 0);
+        let several = Rated::new(DealKind::Stc, &tranche_of(&[1, 2, 12, 0, 5, 5, 0], 12), 0);
         assert_eq!((several.weight, several.only_code()), (3_500, None));
         assert_eq!(several.weights, [Some(3_500), Some(3_500), None]);
     }

@@ -1,5 +1,5 @@
-//! The deal sheet, by "The deal sheet" of document 01, the fifth fact of S-1 and the dates of S-3: what it holds, and
-//! the places of its words.
+//! The deal sheet, by "The deal sheet" of document 01, the fifth fact of S-1, the dates of S-3 and the IRB section of
+//! S-5: what it holds, and the places of its words.
 
 use std::ops::{Index, IndexMut};
 
@@ -27,9 +27,19 @@ pub const LONG_TERM: (u64, u64) = (1, 18);
 pub const SHORT_TERM: (u64, u64) = (21, 24);
 /// The whole of a share: points and charges are counted in millionths.
 pub const WHOLE: u64 = 1_000_000;
+/// The count of the IRB section.
+pub const IRB_COUNT: u64 = 1;
+/// The highest effective number of loans.
+pub const LOANS: u64 = 1_000_000;
+/// The effective number of loans from which a wholesale pool has the coefficients of many.
+pub const MANY_LOANS: u64 = 25;
+/// The least share of exposure with an IRB charge under SEC-IRBA.
+pub const IRB_SHARE: u64 = 950_000;
+/// The highest IRB average weight.
+pub const IRB_AVERAGE: u64 = 125_000;
 /// The bytes of a word in a file.
 pub const WORD_BYTES: usize = 8;
-/// The longest file that is read, in bytes: the most facts, rows and tranches.
+/// The longest file that is read, in bytes: the most facts, rows and tranches, and the IRB section.
 pub const FILE_BYTES: usize = WORD_BYTES * Layout::LARGEST.words();
 
 /// Makes the enum of the words of a section's row, by their places in it, with the values at which the rule of each
@@ -146,6 +156,27 @@ row_words! {
     }
 }
 
+/// The values at which the rule of a share in millionths changes.
+const WHOLE_EDGES: &[u64] = &[0, 1, WHOLE, WHOLE + 1];
+
+row_words! {
+    /// The words of the IRB section.
+    IrbWord {
+        /// IRB charge.
+        Charge: WHOLE_EDGES,
+        /// Average loss given default.
+        Loss: WHOLE_EDGES,
+        /// Effective number of loans.
+        Loans: &[0, 1, MANY_LOANS - 1, MANY_LOANS, LOANS, LOANS + 1],
+        /// 1 for a retail pool.
+        Retail: FACT_EDGES,
+        /// Share of exposure with an IRB charge.
+        Share: &[0, IRB_SHARE - 1, IRB_SHARE, WHOLE - 1, WHOLE, WHOLE + 1],
+        /// IRB average weight.
+        Average: &[0, 1, IRB_AVERAGE, IRB_AVERAGE + 1],
+    }
+}
+
 /// The rating words of a tranche.
 pub const RATINGS: usize = TrancheWord::ThirdRating as usize - TrancheWord::FirstRating as usize + 1;
 
@@ -167,6 +198,16 @@ pub mod status {
         (NOT_KNOWN, "not known"),
         (TRANCHE, "a tranche"),
     ];
+}
+
+/// The codes of the pool kinds.
+pub mod pool_kind {
+    /// An SA pool, which has no IRB section.
+    pub const SA: u64 = 0;
+    /// An IRB pool.
+    pub const IRB: u64 = 1;
+    /// A mixed pool.
+    pub const MIXED: u64 = 2;
 }
 
 /// The facts of a deal, as words, and how many of them the sheet states.
@@ -263,6 +304,37 @@ impl Tranche {
     }
 }
 
+/// The IRB section.
+#[derive(Debug, Clone, Copy, Default)]
+pub struct Irb {
+    /// IRB charge.
+    pub charge: u64,
+    /// Average loss given default.
+    pub loss: u64,
+    /// Effective number of loans.
+    pub loans: u64,
+    /// 1 for a retail pool.
+    pub retail: u64,
+    /// Share of exposure with an IRB charge.
+    pub share: u64,
+    /// IRB average weight.
+    pub average: u64,
+}
+
+impl Irb {
+    /// The section's words, in their order.
+    fn words(&self) -> [u64; IrbWord::COUNT] {
+        [
+            self.charge,
+            self.loss,
+            self.loans,
+            self.retail,
+            self.share,
+            self.average,
+        ]
+    }
+}
+
 /// A deal from which a sheet is written.
 #[derive(Debug, Default)]
 pub struct Deal {
@@ -272,6 +344,8 @@ pub struct Deal {
     pub rows: Vec<Row>,
     /// The tranches, senior first.
     pub tranches: Vec<Tranche>,
+    /// The IRB section, which is written unless the pool is an SA pool.
+    pub irb: Irb,
 }
 
 impl Deal {
@@ -285,12 +359,25 @@ impl Deal {
         self.facts[Fact::Resecuritisation] == 1
     }
 
+    /// Whether the sheet has an IRB section.
+    pub fn has_section(&self) -> bool {
+        self.facts[Fact::PoolKind] != pool_kind::SA
+    }
+
+    /// Whether SEC-IRBA holds for the deal: an ordinary one with due diligence, and with a share of at least 95%, as an
+    /// IRB pool always has.
+    pub fn is_under_irba(&self) -> bool {
+        let ordinary = self.facts[Fact::DueDiligence] == 1 && !self.is_resecuritisation();
+        ordinary && self.has_section() && self.irb.share >= IRB_SHARE
+    }
+
     /// The places of the sheet's words.
     pub fn layout(&self) -> Layout {
         Layout {
             facts: self.facts.stated,
             rows: self.rows.len(),
             tranches: self.tranches.len(),
+            irb: self.has_section(),
         }
     }
 
@@ -302,10 +389,14 @@ impl Deal {
         words.extend(self.rows.iter().flat_map(Row::words));
         words.push(self.tranches.len() as u64);
         words.extend(self.tranches.iter().flat_map(Tranche::words));
+        if self.has_section() {
+            words.push(IRB_COUNT);
+            words.extend(self.irb.words());
+        }
     }
 }
 
-/// The places of the words of a sheet with so many facts, rows and tranches.
+/// The places of the words of a sheet with so many facts, rows and tranches, and with an IRB section or without it.
 #[derive(Debug, Clone, Copy, PartialEq, Eq)]
 pub struct Layout {
     /// How many facts.
@@ -314,6 +405,8 @@ pub struct Layout {
     pub rows: usize,
     /// How many tranches.
     pub tranches: usize,
+    /// Whether there is an IRB section.
+    pub irb: bool,
 }
 
 impl Layout {
@@ -322,6 +415,7 @@ impl Layout {
         facts: Fact::COUNT,
         rows: ROWS as usize,
         tranches: TRANCHES as usize,
+        irb: true,
     };
 
     /// The place of the count of facts.
@@ -329,14 +423,23 @@ impl Layout {
 
     /// The places of a sheet that has its counts right, as every accepted sheet has.
     pub fn of_sheet(sheet: &[u64]) -> Layout {
+        Layout::before(sheet, sheet.len()).expect("a sheet with its counts")
+    }
+
+    /// The places of a sheet that has its counts right before this place, as every sheet has that is refused there;
+    /// none where not all counts that the places follow from stand before it.
+    pub fn before(sheet: &[u64], place: usize) -> Option<Layout> {
+        let count = |at: usize| (at < place).then(|| sheet[at] as usize);
         let mut layout = Layout {
-            facts: sheet[Layout::FACTS_COUNT] as usize,
+            facts: count(Layout::FACTS_COUNT)?,
             rows: 0,
             tranches: 0,
+            irb: false,
         };
-        layout.rows = sheet[layout.pool_count()] as usize;
-        layout.tranches = sheet[layout.tranche_count()] as usize;
-        layout
+        layout.rows = count(layout.pool_count())?;
+        layout.tranches = count(layout.tranche_count())?;
+        layout.irb = sheet[Layout::fact(Fact::PoolKind)] != pool_kind::SA;
+        Some(layout)
     }
 
     /// The place of a fact.
@@ -369,20 +472,46 @@ impl Layout {
         self.tranche(tranche) + word as usize
     }
 
+    /// The place of the count of the IRB section; where there is none, the place after the last word.
+    pub const fn irb_count(&self) -> usize {
+        self.tranche(self.tranches)
+    }
+
+    /// The place of a word of the IRB section, where there is one.
+    pub const fn irb_word(&self, word: IrbWord) -> usize {
+        self.irb_count() + 1 + word as usize
+    }
+
     /// The places of the sections' counts, in their order.
-    pub const fn counts(&self) -> [usize; 3] {
-        [Layout::FACTS_COUNT, self.pool_count(), self.tranche_count()]
+    pub fn counts(&self) -> Vec<usize> {
+        let mut counts = vec![Layout::FACTS_COUNT, self.pool_count(), self.tranche_count()];
+        counts.extend(self.irb.then(|| self.irb_count()));
+        counts
     }
 
     /// How many words the sheet has.
     pub const fn words(&self) -> usize {
-        self.tranche(self.tranches)
+        match self.irb {
+            true => self.irb_count() + 1 + IrbWord::COUNT,
+            false => self.irb_count(),
+        }
     }
 
-    /// Whether a sheet has these places: the counts that they follow from, and as many words.
+    /// Whether a sheet has these places: the counts and the pool kind that they follow from, and as many words.
     pub fn fits(&self, sheet: &[u64]) -> bool {
+        if sheet.len() != self.words() {
+            return false;
+        }
+        let places = [Layout::FACTS_COUNT, self.pool_count(), self.tranche_count()];
         let counts = [self.facts, self.rows, self.tranches].map(|count| count as u64);
-        sheet.len() == self.words() && self.counts().map(|place| sheet[place]) == counts
+        let irb = sheet[Layout::fact(Fact::PoolKind)] != pool_kind::SA;
+        places.map(|place| sheet[place]) == counts && irb == self.irb
+    }
+
+    /// The words of the IRB section of a sheet with these places; none where there is no section.
+    pub fn irb_words<'a>(&self, sheet: &'a [u64]) -> Option<&'a [u64; IrbWord::COUNT]> {
+        self.irb
+            .then(|| sheet[self.irb_count() + 1..].first_chunk().expect("six words"))
     }
 
     /// The word of a fact of a sheet with these places; 0 where it is not stated.
@@ -395,7 +524,7 @@ impl Layout {
 
     /// The words of a tranche of a sheet with these places; tranches are counted from 0.
     pub fn tranche_words<'a>(&self, sheet: &'a [u64], tranche: usize) -> &'a [u64; TrancheWord::COUNT] {
-        &sheet[self.tranche(0)..].as_chunks().0[tranche]
+        sheet[self.tranche(tranche)..].first_chunk().expect("a tranche's words")
     }
 
     /// The rows of a sheet with these places.
@@ -426,16 +555,18 @@ mod tests {
             facts: Facts::default(),
             rows: vec![row; ROWS as usize],
             tranches: vec![Tranche::LEAST; TRANCHES as usize],
+            irb: Irb::default(),
         };
         let mut words = Vec::new();
         deal.write(&mut words);
         assert_eq!((Layout::of_sheet(&words), words.len()), (deal.layout(), 4_231));
         deal.facts[Fact::ReportingDate] = 0;
+        deal.facts[Fact::PoolKind] = pool_kind::MIXED;
         deal.write(&mut words);
         assert_eq!(deal.layout().words(), words.len());
         assert_eq!(Layout::of_sheet(&words), deal.layout());
         assert_eq!(deal.layout(), Layout::LARGEST);
-        assert_eq!((file_form(&words).len(), FILE_BYTES), (33_864, 33_864));
+        assert_eq!((file_form(&words).len(), FILE_BYTES), (33_920, 33_920));
     }
 
     /// The fewest facts are stated until a later one is set, be it to 0; a fact that is not stated reads as 0.
@@ -467,17 +598,53 @@ mod tests {
         assert_eq!((FEWEST_FACTS, FACTS, Fact::ReportingDate.number()), (4, 6, 6));
     }
 
-    /// A sheet fits its own places: not with a word more or less, and not with another count.
+    /// A sheet fits its own places: not with a word more or less, not with another count of those that places follow
+    /// from, and not with a pool kind that has no IRB section.
     #[test]
     fn sheets_fit_their_places() {
         let (layout, words) = places_with(6);
         assert!(layout.fits(&words));
         assert!(!layout.fits(&words[1..]) && !layout.fits(&[&words[..], &[0]].concat()) && !layout.fits(&[]));
-        for place in layout.counts() {
+        let with = |place: usize, word| {
             let mut other = words.clone();
-            other[place] += 1;
-            assert!(!layout.fits(&other));
+            other[place] = word;
+            other
+        };
+        for &place in &layout.counts()[..3] {
+            assert!(!layout.fits(&with(place, words[place] + 1)));
         }
+        let kind = Layout::fact(Fact::PoolKind);
+        assert!(layout.fits(&with(kind, pool_kind::MIXED)) && !layout.fits(&with(kind, pool_kind::SA)));
+    }
+
+    /// Before a place the counts that stand there are read, and without all three of them nothing is.
+    #[test]
+    fn places_before_a_place() {
+        let (layout, words) = places_with(5);
+        let counts = layout.counts();
+        assert_eq!((counts.len(), counts[3]), (4, layout.irb_count()));
+        for place in [0, 1, counts[1], counts[2]] {
+            assert_eq!(Layout::before(&words, place), None, "{place}");
+        }
+        for place in [counts[2] + 1, counts[3], words.len()] {
+            assert_eq!(Layout::before(&words, place), Some(layout), "{place}");
+        }
+    }
+
+    /// A deal is under SEC-IRBA from a share of 95% on, with due diligence and as no re-securitisation.
+    #[test]
+    fn deals_under_irba() {
+        let under = |kind, resecuritisation, due_diligence, share| {
+            let mut deal = Deal::default();
+            deal.facts[Fact::PoolKind] = kind;
+            deal.facts[Fact::Resecuritisation] = resecuritisation;
+            deal.facts[Fact::DueDiligence] = due_diligence;
+            deal.irb.share = share;
+            deal.is_under_irba()
+        };
+        assert!(under(pool_kind::MIXED, 0, 1, 950_000) && under(pool_kind::IRB, 0, 1, WHOLE));
+        assert!(!under(pool_kind::MIXED, 0, 1, 949_999) && !under(pool_kind::SA, 0, 1, WHOLE));
+        assert!(!under(pool_kind::IRB, 1, 1, WHOLE) && !under(pool_kind::IRB, 0, 0, WHOLE));
     }
 
     /// Facts, a row's words and a tranche's words stand in document 01's order.
@@ -506,22 +673,37 @@ mod tests {
             held: 33,
             ratings: [34, 35, 36],
         });
+        deal.irb = Irb {
+            charge: 40,
+            loss: 41,
+            loans: 42,
+            retail: 43,
+            share: 44,
+            average: 45,
+        };
         let mut words = Vec::new();
         deal.write(&mut words);
         assert_eq!(words[..12], [6, 10, 11, 12, 13, 14, 15, 1, 20, 21, 22, 23]);
-        assert_eq!(words[12..], [1, 30, 31, 32, 33, 34, 35, 36]);
+        assert_eq!(words[12..20], [1, 30, 31, 32, 33, 34, 35, 36]);
+        assert_eq!(words[20..], [1, 40, 41, 42, 43, 44, 45]);
         assert_eq!(facts.map(|fact| words[Layout::fact(fact)]), [10, 11, 12, 13, 14, 15]);
+        assert_eq!(deal.layout().irb_words(&words), Some(&[40, 41, 42, 43, 44, 45]));
+        deal.facts[Fact::PoolKind] = pool_kind::SA;
+        deal.write(&mut words);
+        assert_eq!((words.len(), deal.layout().irb_words(&words)), (20, None));
     }
 
-    /// A sheet with so many facts, two rows and two tranches; every word but the counts is its place.
+    /// A sheet with so many facts, two rows, two tranches and an IRB section; every word but the counts is its place,
+    /// so that the pool kind is 1.
     fn places_with(facts: usize) -> (Layout, Vec<u64>) {
         let layout = Layout {
             facts,
             rows: 2,
             tranches: 2,
+            irb: true,
         };
         let mut words: Vec<u64> = (0..layout.words() as u64).collect();
-        let counts = [layout.facts, layout.rows, layout.tranches];
+        let counts = [layout.facts, layout.rows, layout.tranches, IRB_COUNT as usize];
         for (place, count) in layout.counts().into_iter().zip(counts) {
             words[place] = count as u64;
         }
@@ -547,6 +729,14 @@ mod tests {
             TrancheWord::SecondRating,
             TrancheWord::ThirdRating,
         ];
+        let irb_words = [
+            IrbWord::Charge,
+            IrbWord::Loss,
+            IrbWord::Loans,
+            IrbWord::Retail,
+            IrbWord::Share,
+            IrbWord::Average,
+        ];
         for facts in 1..9 {
             let (layout, words) = places_with(facts);
             assert_eq!(Layout::of_sheet(&words), layout);
@@ -555,6 +745,9 @@ mod tests {
             assert_eq!(row, [6, 7, 8, 9].map(after_facts));
             let tranche = tranche_words.map(|word| words[layout.tranche_word(1, word)]);
             assert_eq!(tranche, [18, 19, 20, 21, 22, 23, 24].map(after_facts));
+            let irb = irb_words.map(|word| words[layout.irb_word(word)]);
+            assert_eq!(irb, [26, 27, 28, 29, 30, 31].map(after_facts));
+            assert_eq!(layout.irb_words(&words), Some(&irb));
         }
     }
 

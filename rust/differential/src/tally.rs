@@ -3,6 +3,9 @@
 use crate::answer::{refusal, Approach, LineWord};
 use crate::case::Case;
 use crate::date_feature::{DateFeature, DatedLineFeature};
+use crate::irb_feature::{
+    is_under_irba, parameter_names, parameter_place, IrbFeature, IrbLineFeature, IrbRefusal, PARAMETERS,
+};
 use crate::kind::{File, Kind, Relation, Room};
 use crate::lent::Lent;
 use crate::line_feature::{Feature, StcFeature};
@@ -72,6 +75,8 @@ fn names() -> Vec<String> {
     names.extend(refusal::MET.iter().map(|number| format!("refusal {number}")));
     names.extend(SheetFeature::TABLE.map(|(_, name)| name.to_string()));
     names.extend(DateFeature::TABLE.map(|(_, name)| name.to_string()));
+    names.extend(IrbRefusal::TABLE.map(|(_, name)| name.to_string()));
+    names.extend(IrbFeature::TABLE.map(|(_, name)| name.to_string()));
     names.extend(Approach::TABLE.iter().map(|(_, name)| format!("lines: {name}")));
     let statuses = status::TABLE.iter();
     names.extend(statuses.map(|(code, name)| format!("accepted with status {code}, {name}")));
@@ -79,6 +84,8 @@ fn names() -> Vec<String> {
     names.extend(StcFeature::TABLE.map(|(_, name)| name.to_string()));
     names.extend(RatingFeature::TABLE.map(|(_, name)| name.to_string()));
     names.extend(DatedLineFeature::TABLE.map(|(_, name)| name.to_string()));
+    names.extend(IrbLineFeature::TABLE.map(|(_, name)| name.to_string()));
+    names.extend(parameter_names());
     names.extend(COLUMNS.map(|name| format!("lines: rarest grade, {name}")));
     names.extend(FileFeature::TABLE.map(|(_, name)| name.to_string()));
     names
@@ -103,6 +110,10 @@ pub struct Tally {
     pub sheet_features: [u64; SheetFeature::TABLE.len()],
     /// Refused sheets whose dates show each feature.
     pub date_features: [u64; DateFeature::TABLE.len()],
+    /// Refused sheets whose pool kind or IRB section shows each feature.
+    pub irb_refusals: [u64; IrbRefusal::TABLE.len()],
+    /// Accepted sheets whose pool kind and IRB section show each feature.
+    pub irb_features: [u64; IrbFeature::TABLE.len()],
     /// Lines by approach.
     pub approaches: [u64; Approach::TABLE.len()],
     /// Accepted sheets with a row of each status.
@@ -115,6 +126,10 @@ pub struct Tally {
     pub rating_features: [u64; RatingFeature::TABLE.len()],
     /// Lines whose dates show each feature.
     pub dated_line_features: [u64; DatedLineFeature::TABLE.len()],
+    /// Lines that show each feature by the IRB section.
+    pub irb_line_features: [u64; IrbLineFeature::TABLE.len()],
+    /// Lines under SEC-IRBA whose weight the exponentials decide, by row of coefficients, deal and least parameter.
+    pub parameters: [u64; PARAMETERS],
     /// Lines whose weight one grade gives, by column and grade.
     pub grades: [[u64; GRADES]; COLUMNS.len()],
     /// Files that show each feature.
@@ -136,19 +151,30 @@ impl Tally {
             Ok(deal) => {
                 self.accepted += 1;
                 self.note_pool(&case.sheet);
+                self.note_section(&case.sheet, deal);
                 self.note_lines(&case.sheet, deal, lent);
             }
             Err(refused) => {
                 self.refusals[refusal::place(refused.number)] += 1;
-                self.note_refused_dates(&case.sheet, refused);
+                self.note_refused(&case.sheet, refused);
             }
         }
     }
 
-    /// Notes what the dates of a refused sheet show.
-    fn note_refused_dates(&mut self, sheet: &[u64], refused: &Refusal) {
+    /// Notes what the dates, the pool kind and the IRB section of a refused sheet show.
+    fn note_refused(&mut self, sheet: &[u64], refused: &Refusal) {
         for (count, (feature, _)) in self.date_features.iter_mut().zip(DateFeature::TABLE) {
             *count += u64::from(feature.shown(sheet, refused));
+        }
+        for (count, (feature, _)) in self.irb_refusals.iter_mut().zip(IrbRefusal::TABLE) {
+            *count += u64::from(feature.shown(sheet, refused));
+        }
+    }
+
+    /// Notes what the pool kind and the IRB section of an accepted sheet show.
+    fn note_section(&mut self, sheet: &[u64], deal: &Deal) {
+        for (count, (feature, _)) in self.irb_features.iter_mut().zip(IrbFeature::TABLE) {
+            *count += u64::from(feature.shown(sheet, deal));
         }
     }
 
@@ -191,6 +217,12 @@ impl Tally {
         for (count, (feature, _)) in self.dated_line_features.iter_mut().zip(DatedLineFeature::TABLE) {
             *count += u64::from(feature.shown(seen));
         }
+        for (count, (feature, _)) in self.irb_line_features.iter_mut().zip(IrbLineFeature::TABLE) {
+            *count += u64::from(feature.shown(seen));
+        }
+        if let Some(place) = parameter_place(seen) {
+            self.parameters[place] += 1;
+        }
         if let Some((code, months)) = seen.grade() {
             let column = column(seen.kind == DealKind::Stc, seen.senior, months);
             self.grades[column][grade_place(code)] += 1;
@@ -216,11 +248,12 @@ impl Tally {
         self.relations[relation as usize] += 1;
     }
 
-    /// Notes that the cap decided some line of a sheet.
-    pub fn note_cap(&mut self, sheet: &[u64]) {
+    /// Notes that the cap decided some line of a sheet with this answer.
+    pub fn note_cap(&mut self, sheet: &[u64], deal: &Deal) {
         self.features[Feature::CapDecided as usize] += 1;
         let stc = DealKind::of_sheet(sheet) == DealKind::Stc;
         self.stc_features[StcFeature::CapDecided as usize] += u64::from(stc);
+        self.irb_features[IrbFeature::CapDecided as usize] += u64::from(is_under_irba(deal));
     }
 
     /// Adds another tally's counts.
@@ -233,12 +266,16 @@ impl Tally {
         add(&mut self.refusals, &other.refusals);
         add(&mut self.sheet_features, &other.sheet_features);
         add(&mut self.date_features, &other.date_features);
+        add(&mut self.irb_refusals, &other.irb_refusals);
+        add(&mut self.irb_features, &other.irb_features);
         add(&mut self.approaches, &other.approaches);
         add(&mut self.statuses, &other.statuses);
         add(&mut self.features, &other.features);
         add(&mut self.stc_features, &other.stc_features);
         add(&mut self.rating_features, &other.rating_features);
         add(&mut self.dated_line_features, &other.dated_line_features);
+        add(&mut self.irb_line_features, &other.irb_line_features);
+        add(&mut self.parameters, &other.parameters);
         add(self.grades.as_flattened_mut(), other.grades.as_flattened());
         add(&mut self.file_features, &other.file_features);
         self.higher_taken += other.higher_taken;
@@ -256,12 +293,16 @@ impl Tally {
             &self.refusals,
             &self.sheet_features,
             &self.date_features,
+            &self.irb_refusals,
+            &self.irb_features,
             &self.approaches,
             &self.statuses,
             &self.features,
             &self.stc_features,
             &self.rating_features,
             &self.dated_line_features,
+            &self.irb_line_features,
+            &self.parameters,
             &rarest_grades,
             &self.file_features,
         ];
@@ -390,11 +431,22 @@ mod tests {
         tally.refusals[refusal::place(refusal::THIN)] = 1;
         tally.grades[0] = [1; GRADES];
         tally.grades[1][1..].fill(1);
-        tally.note_cap(&[5, 0, 0, 1, 1, 1, 1, 1, 1, 0, 0, 1, 1, 1, 1, 0, 0, 0, 0]);
+        let sheet = [5, 0, 0, 1, 1, 1, 1, 1, 1, 0, 0, 1, 1, 1, 1, 0, 0, 0, 0];
+        let deal = independent::weigh(&sheet, 6).expect("an accepted sheet");
+        tally.note_cap(&sheet, &deal);
         let missing = tally.missing();
         assert_eq!(missing.len(), all - 5);
         let noted = ["refusal 13", "sheets: cap decided", "STC sheets: cap decided"];
         assert!(noted.iter().all(|name| !missing.contains(&name.to_string())));
+        assert!(missing.contains(&"SEC-IRBA: cap decided".to_string()));
+        let sheet = [
+            &[4, 1, 0, 1, 1, 1, 1, 1, 0, 0, 1, 1, 1, 1, 0, 0, 0, 0][..],
+            &[1, 0, 0, 1, 0, 1_000_000, 0],
+        ]
+        .concat();
+        let deal = independent::weigh(&sheet, 6).expect("an accepted sheet");
+        tally.note_cap(&sheet, &deal);
+        assert!(!tally.missing().contains(&"SEC-IRBA: cap decided".to_string()));
         assert!(!missing.contains(&"lines: rarest grade, ordinary, senior, 1 year".to_string()));
     }
 }

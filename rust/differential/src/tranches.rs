@@ -3,7 +3,7 @@
 use crate::answer::LINE_WORDS;
 use crate::kind::Kind;
 use crate::random::Random;
-use crate::sheet::{Deal, Fact, Tranche, LONG_TERM, MONTHS, RATINGS, SHORT_TERM, TRANCHES, TRANCHE_AMOUNT, WHOLE};
+use crate::sheet::{Deal, Tranche, LONG_TERM, MONTHS, RATINGS, SHORT_TERM, TRANCHES, TRANCHE_AMOUNT, WHOLE};
 
 /// How the pool is divided into classes.
 #[derive(Clone, Copy)]
@@ -73,20 +73,19 @@ fn class_count(random: &mut Random) -> u64 {
     }
 }
 
-/// The pool charge of the deal's pool. The independent implementation gives it for a sheet with one tranche under the
-/// fallback.
+/// The charge of the deal, by document 01 or by S-5. The independent implementation gives it for a sheet with one
+/// tranche of class 1, whose points always lie apart.
 fn charge(deal: &Deal) -> u64 {
-    let mut facts = deal.facts;
-    facts[Fact::DueDiligence] = 0;
     let mut words = Vec::new();
     Deal {
-        facts,
+        facts: deal.facts,
         rows: deal.rows.clone(),
         tranches: vec![Tranche::LEAST],
+        irb: deal.irb,
     }
     .write(&mut words);
     let answer = independent::weigh(&words, LINE_WORDS as u64);
-    answer.expect("a sound pool under the fallback is accepted").charge
+    answer.expect("a sound pool with one tranche is accepted").charge
 }
 
 /// Points at the charge or up to three millionths beside it, with some anywhere. Equal ones are mostly left out, since
@@ -287,8 +286,8 @@ fn held(random: &mut Random, amount: u64) -> u64 {
     }
 }
 
-/// Fills the deal with tranches of this kind over its pool, which must be there already. Some classes are split into
-/// tranches that rank pari passu.
+/// Fills the deal with tranches of this kind over its pool. Facts, pool and IRB section must be there already. Some
+/// classes are split into tranches that rank pari passu.
 pub fn fill(kind: Kind, random: &mut Random, deal: &mut Deal) {
     let amounts = Division::draw(kind, random).amounts(random, deal);
     let ratings = Ratings::draw(kind, random);

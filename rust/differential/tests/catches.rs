@@ -3,12 +3,17 @@
 
 use differential::answer::{refusal, Approach, LineWord, LINE_WORDS};
 use differential::sheet::{
-    Fact, Layout, TrancheWord, DAYS, FACTS, FEWEST_FACTS, FILE_BYTES, LONG_TERM, MONTHS, RATINGS, WORD_BYTES,
+    pool_kind, Fact, IrbWord, Layout, TrancheWord, DAYS, FACTS, FEWEST_FACTS, FILE_BYTES, IRB_SHARE, LONG_TERM,
+    MANY_LOANS, MONTHS, RATINGS, WHOLE, WORD_BYTES,
 };
 use differential::{show, Case, Difference, Feature, Found, Library, Part, Reply, Run, Tally, Weigh, WeighFile};
+use independent::approach::{self, Figures};
+use independent::charge::{self, Points};
 use independent::date::Date;
+use independent::formula::{raw_weights, Terms};
+use independent::irba::Sum;
 use independent::rating::{self, Table};
-use independent::sheet::Tranche;
+use independent::sheet::{Irb, Row, Status, Tranche};
 
 /// The seed of the runs.
 const SEED: u64 = 3;
@@ -566,6 +571,508 @@ fn wrong_weight_of_several_ratings() {
     for weigh in wrong {
         assert_eq!(weighed(weigh), Some(Part::Line(LineWord::Weight)));
     }
+}
+
+/// Weighs a refused sheet that has its tranches by another reply, made of the proved one and the sheet's places.
+fn section_refused(sheet: &[u64], results: &mut [u64], change: impl Fn(&Layout, &mut Reply)) -> Reply {
+    let mut reply = proved(sheet, results);
+    if reply.number != 0 {
+        let layout =
+            Layout::before(sheet, reply.place as usize).filter(|places| reply.place as usize >= places.irb_count());
+        if let Some(layout) = layout {
+            change(&layout, &mut reply);
+        }
+    }
+    reply
+}
+
+/// The numbers and places of the IRB section: a figure judged as a fact, as a wrong count, or at the section's count; a
+/// wrong count judged as a figure.
+#[test]
+fn wrong_refusal_of_the_section() {
+    let number: [Weigh; 3] = [
+        |sheet, results| {
+            section_refused(sheet, results, |_, reply| {
+                as_number(reply, refusal::IRB_FIGURE, refusal::FACT)
+            })
+        },
+        |sheet, results| {
+            section_refused(sheet, results, |_, reply| {
+                as_number(reply, refusal::IRB_FIGURE, refusal::COUNT)
+            })
+        },
+        |sheet, results| {
+            section_refused(sheet, results, |_, reply| {
+                as_number(reply, refusal::COUNT, refusal::IRB_FIGURE)
+            })
+        },
+    ];
+    for weigh in number {
+        assert_eq!(weighed(weigh), Some(Part::Number));
+    }
+    let place: Weigh = |sheet, results| {
+        section_refused(sheet, results, |layout, reply| {
+            if reply.number == refusal::IRB_FIGURE {
+                reply.place = layout.irb_count() as u64;
+            }
+        })
+    };
+    assert_eq!(weighed(place), Some(Part::Place));
+}
+
+/// Judges one number as another.
+fn as_number(reply: &mut Reply, number: u64, other: u64) {
+    if reply.number == number {
+        reply.number = other;
+    }
+}
+
+/// Takes this word of the section as good, whatever it is: weighs the sheet with 1 in its place, or the whole for a
+/// share.
+fn unjudged(word: IrbWord, sheet: &[u64], results: &mut [u64]) -> Reply {
+    let reply = proved(sheet, results);
+    let place = reply.place as usize;
+    let layout = Layout::before(sheet, place).filter(|layout| layout.irb_word(word) == place);
+    if reply.number != refusal::IRB_FIGURE || layout.is_none() {
+        return reply;
+    }
+    let mut words = sheet.to_vec();
+    words[place] = if word == IrbWord::Share { WHOLE } else { 1 };
+    proved(&words, results)
+}
+
+/// Each of the section's words, not judged.
+#[test]
+fn words_of_the_section_not_judged() {
+    let wrong: [Weigh; IrbWord::COUNT] = [
+        |sheet, results| unjudged(IrbWord::Charge, sheet, results),
+        |sheet, results| unjudged(IrbWord::Loss, sheet, results),
+        |sheet, results| unjudged(IrbWord::Loans, sheet, results),
+        |sheet, results| unjudged(IrbWord::Retail, sheet, results),
+        |sheet, results| unjudged(IrbWord::Share, sheet, results),
+        |sheet, results| unjudged(IrbWord::Average, sheet, results),
+    ];
+    for weigh in wrong {
+        let part = weighed(weigh);
+        assert!(matches!(part, Some(Part::Outcome | Part::Number)), "{part:?}");
+    }
+}
+
+/// Refuses the kinds of pools other than SA.
+fn sa_pools_only(sheet: &[u64], results: &mut [u64]) -> Reply {
+    let kind = Layout::fact(Fact::PoolKind);
+    match sheet.get(kind) {
+        Some(&(pool_kind::IRB | pool_kind::MIXED)) => Reply::refusing(refusal::FACT, kind as u64),
+        _ => proved(sheet, results),
+    }
+}
+
+/// Takes a re-securitisation that lacks its section.
+fn without_section_taken(sheet: &[u64], results: &mut [u64]) -> Reply {
+    let reply = proved(sheet, results);
+    let layout = Layout::before(sheet, reply.place as usize);
+    let lacks = layout.is_some_and(|layout| layout.irb_count() == sheet.len() && reply.number == refusal::MISSING);
+    if !lacks || sheet[Layout::fact(Fact::Resecuritisation)] == 0 {
+        return reply;
+    }
+    weigh_as_sa_pool(sheet, results)
+}
+
+/// Takes words that follow the section.
+fn words_after_section_taken(sheet: &[u64], results: &mut [u64]) -> Reply {
+    let reply = proved(sheet, results);
+    match Layout::before(sheet, reply.place as usize) {
+        Some(layout) if reply.number == refusal::WORDS_FOLLOW && layout.irb => {
+            proved(&sheet[..layout.words()], results)
+        }
+        _ => reply,
+    }
+}
+
+/// Takes the section of an SA pool.
+fn section_of_sa_pool_taken(sheet: &[u64], results: &mut [u64]) -> Reply {
+    let reply = proved(sheet, results);
+    match Layout::before(sheet, reply.place as usize) {
+        Some(layout) if reply.number == refusal::WORDS_FOLLOW && !layout.irb => {
+            proved(&sheet[..layout.irb_count()], results)
+        }
+        _ => reply,
+    }
+}
+
+/// Sections that are asked for where none is due, or not where one is: pools other than SA refused, a section missing,
+/// words that follow, the section of an SA pool.
+#[test]
+fn wrong_sections_taken() {
+    let wrong: [Weigh; 4] = [
+        sa_pools_only,
+        without_section_taken,
+        words_after_section_taken,
+        section_of_sa_pool_taken,
+    ];
+    for (place, weigh) in wrong.into_iter().enumerate() {
+        let part = weighed(weigh);
+        assert!(matches!(part, Some(Part::Outcome | Part::Number)), "{place}: {part:?}");
+    }
+}
+
+/// Weighs a sheet that has its tranches as one of an SA pool, without a section.
+fn weigh_as_sa_pool(sheet: &[u64], results: &mut [u64]) -> Reply {
+    let mut words = sheet[..Layout::of_sheet(sheet).irb_count()].to_vec();
+    words[Layout::fact(Fact::PoolKind)] = pool_kind::SA;
+    proved(&words, results)
+}
+
+/// Weighs an accepted sheet of a mixed pool with this share as if it were another one; 0 makes it one of an SA pool.
+fn other_share(sheet: &[u64], results: &mut [u64], share: u64, other: u64) -> Reply {
+    accepted_by(sheet, results, |sheet, results| {
+        let layout = Layout::of_sheet(sheet);
+        let mut words = sheet.to_vec();
+        let mixed = layout.fact_word(sheet, Fact::PoolKind) == pool_kind::MIXED;
+        if mixed && words[layout.irb_word(IrbWord::Share)] == share {
+            words[layout.irb_word(IrbWord::Share)] = other;
+        }
+        proved(&words, results)
+    })
+}
+
+/// Which deals are under SEC-IRBA: none, those from one millionth more or less on, and only those whose tranches are
+/// not rated. Found by the charge, by the approach or in the outcome.
+#[test]
+fn wrong_deals_under_irba() {
+    let wrong: [Weigh; 3] = [
+        |sheet, results| accepted_by(sheet, results, weigh_as_sa_pool),
+        |sheet, results| other_share(sheet, results, IRB_SHARE, 0),
+        |sheet, results| other_share(sheet, results, IRB_SHARE - 1, IRB_SHARE),
+    ];
+    for (place, weigh) in wrong.into_iter().enumerate() {
+        let part = weighed(weigh);
+        let found = matches!(
+            part,
+            Some(Part::Outcome | Part::Charge | Part::Line(LineWord::Approach))
+        );
+        assert!(found, "{place}: {part:?}");
+    }
+    let rated: Weigh = |sheet, results| {
+        let reply = proved(sheet, results);
+        let unrated = |tranche: &Tranche| tranche.ratings == [0; RATINGS];
+        change_lines_under_irba(sheet, results, &reply, |tranche, line| {
+            if !unrated(tranche) {
+                line[LineWord::Approach as usize] = Approach::SecErba.word();
+            }
+        });
+        reply
+    };
+    assert_eq!(weighed(rated), Some(Part::Line(LineWord::Approach)));
+    let as_sec_sa: Weigh = |sheet, results| {
+        let reply = proved(sheet, results);
+        change_lines_under_irba(sheet, results, &reply, |_, line| {
+            line[LineWord::Approach as usize] = Approach::SecSa.word();
+        });
+        reply
+    };
+    assert_eq!(weighed(as_sec_sa), Some(Part::Line(LineWord::Approach)));
+}
+
+/// Changes the lines of a deal under SEC-IRBA, given each tranche and its line.
+fn change_lines_under_irba(
+    sheet: &[u64],
+    results: &mut [u64],
+    reply: &Reply,
+    change: impl Fn(&Tranche, &mut [u64; LINE_WORDS]),
+) {
+    if reply.number != 0 {
+        return;
+    }
+    let read = independent::sheet::read(sheet).expect("an accepted sheet");
+    if approach::irb_of(&read).is_some() {
+        let (lines, _) = results.as_chunks_mut::<LINE_WORDS>();
+        read.tranches
+            .iter()
+            .zip(lines)
+            .for_each(|(tranche, line)| change(tranche, line));
+    }
+}
+
+/// How a deal under SEC-IRBA is reworked: its figures, and the parameter of each tranche.
+struct Rework {
+    /// Changes the figures of the deal, given its rows.
+    figures: fn(&[Row], &mut Figures),
+    /// The parameter of a tranche, given the section, the figures and the tranche.
+    parameter: fn(&Irb, &Figures, &Tranche) -> u64,
+}
+
+impl Rework {
+    /// Nothing changed.
+    const RIGHT: Rework = Rework {
+        figures: |_, _| {},
+        parameter: |_, figures, tranche| approach::parameter(figures, tranche),
+    };
+
+    /// The proved weighing, but each sheet with enough room under SEC-IRBA is weighed as this says, by the parts of the
+    /// independent implementation.
+    fn weigh(&self, sheet: &[u64], results: &mut [u64]) -> Reply {
+        let read = match independent::sheet::read(sheet) {
+            Ok(read) if independent::sheet::refuse_short_results(&read, results.len() as u64).is_ok() => read,
+            _ => return proved(sheet, results),
+        };
+        let mut figures = Figures::of(&read);
+        let Some(irb) = figures.irb else {
+            return proved(sheet, results);
+        };
+        (self.figures)(&read.pool, &mut figures);
+        let nominal = charge::nominal_sum(&read.pool);
+        let line = |tranche: &Tranche| {
+            let points = charge::points(nominal, &read.tranches, tranche.class);
+            self.line(irb, &figures, tranche, points)
+        };
+        let lines: Result<Vec<_>, u64> = read.tranches.iter().map(line).collect();
+        match lines {
+            Ok(lines) => {
+                results[..LINE_WORDS * lines.len()].copy_from_slice(lines.as_flattened());
+                Reply::accepting(lines.len() as u64, figures.charge)
+            }
+            Err(place) => Reply::refusing(refusal::THIN, place),
+        }
+    }
+
+    /// The line of a tranche with these points, or the place of one that is refused.
+    fn line(&self, irb: &Irb, figures: &Figures, tranche: &Tranche, points: Points) -> Result<[u64; LINE_WORDS], u64> {
+        let Points { attachment, detachment } = points;
+        if attachment == detachment && detachment > figures.charge {
+            return Err(tranche.place);
+        }
+        let raw = raw_weights(&Terms {
+            charge: figures.charge,
+            attachment,
+            detachment,
+            parameter: (self.parameter)(irb, figures, tranche),
+        });
+        let weight = approach::limited(figures, tranche, raw[0]);
+        let product = u128::from(tranche.held) * u128::from(weight);
+        let [risk_weighted, capital] = [product.div_ceil(10_000), (8 * product).div_ceil(1_000_000)];
+        let approach = Approach::SecIrba.word();
+        Ok([
+            approach,
+            attachment,
+            detachment,
+            weight,
+            risk_weighted as u64,
+            capital as u64,
+        ])
+    }
+}
+
+/// The part in which a run first finds deals under SEC-IRBA different that are reworked with these figures.
+macro_rules! refigured {
+    ($figures:expr) => {
+        weighed(|sheet, results| {
+            let rework = Rework {
+                figures: $figures,
+                ..Rework::RIGHT
+            };
+            rework.weigh(sheet, results)
+        })
+    };
+}
+
+/// The part in which a run first finds deals under SEC-IRBA different that are reworked with this parameter.
+macro_rules! reparametered {
+    ($parameter:expr) => {
+        weighed(|sheet, results| {
+            let rework = Rework {
+                parameter: $parameter,
+                ..Rework::RIGHT
+            };
+            rework.weigh(sheet, results)
+        })
+    };
+}
+
+/// The charge (S-5) of this section over this base charge, before it is divided by the whole and rounded up.
+fn mixed_sum(irb: &Irb, base: u128) -> u128 {
+    let [share, charge] = [irb.share, irb.charge].map(u128::from);
+    share * charge + (u128::from(WHOLE) - share) * base
+}
+
+/// The charge (S-5) of this section over this base charge.
+fn mixed(irb: &Irb, base: u128) -> u64 {
+    mixed_sum(irb, base).div_ceil(WHOLE.into()) as u64
+}
+
+/// The section of figures under SEC-IRBA.
+fn section<'a>(figures: &Figures<'a>) -> &'a Irb {
+    figures.irb.expect("a deal under SEC-IRBA")
+}
+
+/// The base charge of all rows, rounded down.
+fn base_rounded_down(rows: &[Row]) -> u128 {
+    let sum = |of: fn(&Row) -> u64| rows.iter().map(|row| u128::from(of(row))).sum::<u128>();
+    let weighted: u128 = rows
+        .iter()
+        .map(|row| u128::from(row.exposure) * u128::from(row.risk_weight))
+        .sum();
+    800 * weighted / sum(|row| row.exposure)
+}
+
+/// A rework that changes nothing passes, so that each one below is found for its own sake. A charge that is wrong is
+/// found: that of document 01 with its late payers and unknown rows, the IRB charge alone, the base charge alone, over
+/// the known rows or rounded down, and the mixed charge rounded down.
+#[test]
+fn wrong_charge_under_irba() {
+    assert_eq!(refigured!(|_, _| {}), None);
+    let wrong = [
+        refigured!(|rows, figures| figures.charge = charge::pool_charge(rows).charge),
+        refigured!(|_, figures| figures.charge = section(figures).charge),
+        refigured!(|rows, figures| figures.charge = charge::base_charge(rows) as u64),
+        refigured!(|rows, figures| {
+            let known = rows.iter().copied().filter(|row| row.status != Status::Unknown);
+            let known: Vec<Row> = known.collect();
+            if !known.is_empty() {
+                figures.charge = mixed(section(figures), charge::base_charge(&known));
+            }
+        }),
+        refigured!(|rows, figures| figures.charge = mixed(section(figures), base_rounded_down(rows))),
+        refigured!(|rows, figures| {
+            let sum = mixed_sum(section(figures), charge::base_charge(rows));
+            figures.charge = (sum / u128::from(WHOLE)) as u64;
+        }),
+    ];
+    for (place, part) in wrong.into_iter().enumerate() {
+        assert!(matches!(part, Some(Part::Charge | Part::Outcome)), "{place}: {part:?}");
+    }
+}
+
+/// A cap under SEC-IRBA that is wrong: the pool's average, or the IRB average raised to the floor or one higher.
+#[test]
+fn wrong_cap_under_irba() {
+    let wrong = [
+        refigured!(|rows, figures| figures.average_weight = charge::average_risk_weight_times(100, rows) as u64),
+        refigured!(|_, figures| figures.average_weight = figures.average_weight.max(1_500)),
+        refigured!(|_, figures| figures.average_weight += 1),
+    ];
+    for part in wrong {
+        assert_eq!(part, Some(Part::Line(LineWord::Weight)));
+    }
+}
+
+/// A tranche without thickness under SEC-IRBA that is let pass.
+#[test]
+fn wrong_thin_tranche_under_irba() {
+    let let_pass: Weigh = |sheet, results| {
+        let reply = proved(sheet, results);
+        let read = independent::sheet::read(sheet);
+        let irba = read.is_ok_and(|read| approach::irb_of(&read).is_some());
+        match irba && reply.number == refusal::THIN {
+            true => Reply::accepting(0, 0),
+            false => reply,
+        }
+    };
+    assert_eq!(weighed(let_pass), Some(Part::Outcome));
+}
+
+/// The parameter of a tranche by this sum.
+fn by_sum(sum: Sum, figures: &Figures) -> u64 {
+    sum.parameter(figures.facts.stc)
+}
+
+/// The right sum of a tranche with the section changed.
+fn sum_with(irb: Irb, figures: &Figures, tranche: &Tranche) -> Sum {
+    Sum::of(&irb, figures.charge, tranche)
+}
+
+/// The parameter of a tranche with another number of loans in place of one.
+fn with_loans(irb: &Irb, figures: &Figures, tranche: &Tranche, loans: u64, other: u64) -> u64 {
+    let loans = if irb.loans == loans { other } else { irb.loans };
+    by_sum(sum_with(Irb { loans, ..*irb }, figures, tranche), figures)
+}
+
+/// A parameter that is wrong: that of SEC-SA; by the IRB charge; as of the other classes; retail as wholesale; as of
+/// the loans next to the limit; without the loss; without the tranche maturity's rule.
+#[test]
+fn wrong_terms_of_the_parameter() {
+    let wrong = [
+        reparametered!(|_, figures, _| if figures.facts.stc { 500_000 } else { 1_000_000 }),
+        reparametered!(|irb, figures, tranche| by_sum(Sum::of(irb, irb.charge, tranche), figures)),
+        reparametered!(|irb, figures, tranche| {
+            let class = if tranche.class == 1 { 2 } else { 1 };
+            by_sum(sum_with(*irb, figures, &Tranche { class, ..*tranche }), figures)
+        }),
+        reparametered!(|irb, figures, tranche| {
+            let retail = !irb.retail;
+            by_sum(sum_with(Irb { retail, ..*irb }, figures, tranche), figures)
+        }),
+        reparametered!(|irb, figures, tranche| with_loans(irb, figures, tranche, MANY_LOANS, MANY_LOANS - 1)),
+        reparametered!(|irb, figures, tranche| with_loans(irb, figures, tranche, MANY_LOANS - 1, MANY_LOANS)),
+        reparametered!(|irb, figures, tranche| by_sum(sum_with(Irb { loss: 0, ..*irb }, figures, tranche), figures)),
+        reparametered!(|irb, figures, tranche| {
+            let months = (5 * tranche.months / 4).clamp(1, 60);
+            by_sum(sum_with(*irb, figures, &Tranche { months, ..*tranche }), figures)
+        }),
+    ];
+    for (place, part) in wrong.into_iter().enumerate() {
+        assert_eq!(part, Some(Part::Line(LineWord::Weight)), "{place}");
+    }
+}
+
+/// The sum of a tranche in millionths, halved where that is asked for and rounded down.
+fn rounded_down(sum: Sum, half: bool) -> u64 {
+    let denominator = sum.denominator * if half { 2 } else { 1 };
+    u64::try_from(sum.numerator.div_euclid(denominator)).unwrap_or(0)
+}
+
+/// A sum that is rounded, halved or raised wrongly: rounded down; not halved, or halved in every deal; raised to 0.3
+/// before it is halved and not after; not raised at all; a negative one by its size.
+#[test]
+fn wrong_end_of_the_parameter() {
+    let wrong = [
+        reparametered!(|irb, figures, tranche| {
+            let sum = sum_with(*irb, figures, tranche);
+            rounded_down(sum, figures.facts.stc).max(300_000)
+        }),
+        reparametered!(|irb, figures, tranche| sum_with(*irb, figures, tranche).parameter(false)),
+        reparametered!(|irb, figures, tranche| sum_with(*irb, figures, tranche).parameter(true)),
+        reparametered!(|irb, figures, tranche| {
+            let whole = sum_with(*irb, figures, tranche).parameter(false);
+            if figures.facts.stc {
+                whole.div_ceil(2)
+            } else {
+                whole
+            }
+        }),
+        reparametered!(|irb, figures, tranche| {
+            let sum = sum_with(*irb, figures, tranche);
+            match sum.parameter(figures.facts.stc) {
+                300_000 => rounded_down(sum, figures.facts.stc).max(1),
+                above => above,
+            }
+        }),
+        reparametered!(|irb, figures, tranche| {
+            let mut sum = sum_with(*irb, figures, tranche);
+            sum.numerator = sum.numerator.abs();
+            by_sum(sum, figures)
+        }),
+    ];
+    for (place, part) in wrong.into_iter().enumerate() {
+        assert_eq!(part, Some(Part::Line(LineWord::Weight)), "{place}");
+    }
+}
+
+/// The charge of S-5 where SEC-IRBA does not hold: in a re-securitisation, without due diligence, and below the least
+/// share.
+#[test]
+fn charge_of_irba_elsewhere() {
+    let weigh: Weigh = |sheet, results| {
+        let mut reply = proved(sheet, results);
+        if reply.number == 0 {
+            let read = independent::sheet::read(sheet).expect("an accepted sheet");
+            if let Some(irb) = &read.irb {
+                reply.charge = mixed(irb, charge::base_charge(&read.pool));
+            }
+        }
+        reply
+    };
+    assert_eq!(weighed(weigh), Some(Part::Charge));
 }
 
 /// The place of the last line of an accepted sheet in the results.

@@ -2,10 +2,12 @@
 
 use differential::answer::{refusal, Approach, MOST_RESULTS};
 use differential::sheet::{
-    status, Fact, Layout, RowWord, TrancheWord, DAYS, FACTS, FEWEST_FACTS, MONTHS, POOL_AMOUNT, ROWS, TRANCHES,
-    TRANCHE_AMOUNT,
+    pool_kind, status, Fact, IrbWord, Layout, RowWord, TrancheWord, DAYS, FACTS, FEWEST_FACTS, IRB_AVERAGE, IRB_SHARE,
+    LOANS, MANY_LOANS, MONTHS, POOL_AMOUNT, ROWS, TRANCHES, TRANCHE_AMOUNT, WHOLE,
 };
 use differential::{Case, Kind, Relation};
+use independent::approach::Figures;
+use independent::irba::Sum;
 use std::cmp::Ordering;
 use std::collections::BTreeSet;
 
@@ -75,7 +77,7 @@ fn marks_follow_the_kinds() {
 fn marks_on_resecuritisations() {
     let fifth = Layout::fact(Fact::Stc);
     let (mut marked, mut no_code, mut else_good) = (0, 0, 0);
-    for mut sheet in sheets(Kind::StcMark, 10_000) {
+    for mut sheet in sheets(Kind::StcMark, 15_000) {
         let weigh = |sheet: &[u64]| independent::weigh(sheet, MOST_RESULTS as u64);
         let refused = weigh(&sheet).expect_err("a refused mark");
         assert_eq!(refused.place, fifth as u64);
@@ -164,6 +166,180 @@ fn months_have_the_answer_of_their_dates() {
     assert!(accepted > 100 && refused > 25, "{accepted} {refused}");
 }
 
+/// Each sound kind has all pool kinds but those of an IRB pool and a mixed one, which have their own. Kinds that are to
+/// show something else mostly have an SA pool.
+#[test]
+fn pool_kinds_come_in_all_kinds() {
+    let mut met = BTreeSet::new();
+    let [mut of_sa, mut others] = [0, 0];
+    for case in (0..20_000).map(|index| Case::new(18, index)) {
+        if case.kind.is_sound() {
+            let kind = case.sheet[Layout::fact(Fact::PoolKind)];
+            assert_eq!(Layout::of_sheet(&case.sheet).irb, kind != pool_kind::SA);
+            met.insert((case.kind as usize, kind));
+            let count = if kind == pool_kind::SA { &mut of_sa } else { &mut others };
+            *count += 1;
+        }
+    }
+    let own = |kind| match kind {
+        Kind::IrbPool => vec![pool_kind::IRB],
+        Kind::MixedPool => vec![pool_kind::MIXED],
+        _ => vec![pool_kind::SA, pool_kind::IRB, pool_kind::MIXED],
+    };
+    let kinds = Kind::TABLE.iter().filter(|(kind, _, _)| kind.is_sound());
+    let all = kinds.flat_map(|&(kind, _, _)| own(kind).into_iter().map(move |of| (kind as usize, of)));
+    assert_eq!(met, all.collect());
+    assert!(of_sa > others, "{of_sa} {others}");
+}
+
+/// The deals of mixed pools are of every sort: ordinary, STC and re-securitised, each with and without due diligence,
+/// with a date and without one, and on both sides of the least share and at it.
+#[test]
+fn sections_come_in_all_deals() {
+    let (mut forms, mut shares) = (BTreeSet::new(), BTreeSet::new());
+    for sheet in sheets(Kind::MixedPool, 20_000) {
+        let layout = Layout::of_sheet(&sheet);
+        let fact = |fact| layout.fact_word(&sheet, fact);
+        let deal = [fact(Fact::Resecuritisation), fact(Fact::Stc)];
+        forms.insert((deal, fact(Fact::DueDiligence), fact(Fact::ReportingDate) != 0));
+        shares.insert((deal, sheet[layout.irb_word(IrbWord::Share)].cmp(&IRB_SHARE)));
+    }
+    let deals = [[0, 0], [0, 1], [1, 0]];
+    let all = deals.map(|deal| [(0, false), (0, true), (1, false), (1, true)].map(|(held, dated)| (deal, held, dated)));
+    assert_eq!(forms, all.into_iter().flatten().collect());
+    let orders = [Ordering::Less, Ordering::Equal, Ordering::Greater];
+    assert_eq!(
+        shares,
+        deals
+            .into_iter()
+            .flat_map(|deal| orders.map(|order| (deal, order)))
+            .collect()
+    );
+}
+
+/// The words of good sections meet their limits, the shares about 95% and the numbers of loans about 25.
+#[test]
+fn sections_meet_their_limits() {
+    let mut met = BTreeSet::new();
+    for kind in [Kind::IrbPool, Kind::MixedPool, Kind::Limits] {
+        for sheet in sheets(kind, 20_000) {
+            let words = Layout::of_sheet(&sheet).irb_words(&sheet).copied();
+            met.extend(words.into_iter().flat_map(|words| (0..).zip(words)));
+        }
+    }
+    let wanted = [
+        (IrbWord::Charge, vec![0, 1, WHOLE - 1, WHOLE]),
+        (IrbWord::Loss, vec![0, 1, WHOLE - 1, WHOLE]),
+        (IrbWord::Loans, vec![1, 2, MANY_LOANS - 1, MANY_LOANS, LOANS - 1, LOANS]),
+        (IrbWord::Retail, vec![0, 1]),
+        (
+            IrbWord::Share,
+            vec![0, IRB_SHARE - 1, IRB_SHARE, IRB_SHARE + 1, WHOLE - 1, WHOLE],
+        ),
+        (IrbWord::Average, vec![0, 1, IRB_AVERAGE - 1, IRB_AVERAGE]),
+    ];
+    for (word, values) in wanted {
+        let missed: Vec<u64> = values
+            .into_iter()
+            .filter(|&value| !met.contains(&(word as usize, value)))
+            .collect();
+        assert!(missed.is_empty(), "{word:?}: {missed:?}");
+    }
+}
+
+/// Sums of the parameter come within a millionth of 0.3 and of 0.6 on both sides, below 0 and above 2, whether they are
+/// halved or not.
+#[test]
+fn sums_meet_the_least_parameter() {
+    let mut met = BTreeSet::new();
+    for kind in [Kind::IrbPool, Kind::MixedPool] {
+        for sheet in sheets(kind, 20_000) {
+            let read = independent::sheet::read(&sheet).expect("a sound sheet");
+            let figures = Figures::of(&read);
+            for (irb, tranche) in figures
+                .irb
+                .iter()
+                .flat_map(|irb| read.tranches.iter().map(move |of| (irb, of)))
+            {
+                let sum = Sum::of(irb, figures.charge, tranche);
+                let whole = sum.numerator.div_euclid(sum.denominator);
+                met.insert((read.facts.stc, whole.clamp(-1, 2 * WHOLE as i128)));
+            }
+        }
+    }
+    for stc in [false, true] {
+        for sum in [-1, 299_999, 300_000, 599_999, 600_000, 2 * WHOLE as i128] {
+            assert!(met.contains(&(stc, sum)), "{stc} {sum}");
+        }
+    }
+}
+
+/// A bad section is refused at its count by 2, at a word by 18, for a missing word by 1 or for words that follow by 3,
+/// and for nothing else.
+#[test]
+fn bad_sections_are_refused() {
+    let mut met = BTreeSet::new();
+    for sheet in sheets(Kind::BadSection, 10_000) {
+        let refused = independent::weigh(&sheet, MOST_RESULTS as u64).expect_err("a bad section");
+        let layout = Layout::of_sheet(&sheet);
+        let place = refused.place - layout.irb_count() as u64;
+        met.insert((refused.number, place));
+    }
+    let words = 1..=IrbWord::COUNT as u64;
+    let wanted = [(refusal::COUNT, 0), (refusal::MISSING, 0), (refusal::WORDS_FOLLOW, 7)];
+    let wanted = wanted
+        .into_iter()
+        .chain(words.clone().map(|place| (refusal::IRB_FIGURE, place)));
+    let wanted = wanted.chain(words.map(|place| (refusal::MISSING, place)));
+    assert_eq!(met, wanted.collect());
+}
+
+/// Another pool kind is refused for a missing section, for one that follows, for the share or as no code; a mixed pool
+/// in place of an IRB pool is not.
+#[test]
+fn other_pool_kinds_are_judged() {
+    let mut met = BTreeSet::new();
+    for sheet in sheets(Kind::PoolKind, 20_000) {
+        let kind = sheet[Layout::fact(Fact::PoolKind)];
+        let answer = independent::weigh(&sheet, MOST_RESULTS as u64);
+        met.insert((kind, answer.map_or_else(|refused| refused.number, |_| 0)));
+    }
+    let wanted = [
+        (pool_kind::SA, refusal::WORDS_FOLLOW),
+        (pool_kind::IRB, refusal::MISSING),
+        (pool_kind::IRB, refusal::IRB_FIGURE),
+        (pool_kind::MIXED, refusal::MISSING),
+        (pool_kind::MIXED, 0),
+        (pool_kind::MIXED + 1, refusal::FACT),
+    ];
+    assert!(wanted.iter().all(|case| met.contains(case)), "{met:?}");
+}
+
+/// A second sheet of an SA pool, and one with other statuses and ratings under SEC-IRBA, has the independent answer of
+/// the first; the first is of an IRB or mixed pool, under SEC-IRBA or not as the relation says.
+#[test]
+fn unread_words_do_not_matter() {
+    let [mut as_sa_pool, mut under_irba] = [0, 0];
+    for case in (0..10_000).map(|index| Case::new(19, index)) {
+        let relations = [Relation::SaPool, Relation::OtherUnderIrba];
+        if relations.contains(&case.relation) {
+            let [first, second] = [&case.sheet, &case.second].map(|sheet| independent::weigh(sheet, case.room as u64));
+            assert_eq!(first, second);
+            assert_ne!(case.sheet[Layout::fact(Fact::PoolKind)], pool_kind::SA);
+            if let Ok(deal) = first {
+                assert_eq!(is_under_irba(&deal), case.relation == Relation::OtherUnderIrba);
+                let count = if is_under_irba(&deal) {
+                    &mut under_irba
+                } else {
+                    &mut as_sa_pool
+                };
+                *count += u64::from(case.sheet != case.second);
+            }
+        }
+    }
+    assert!(as_sa_pool > 50 && under_irba > 50, "{as_sa_pool} {under_irba}");
+}
+
 /// Facts are added up to each later count.
 #[test]
 fn facts_are_added_up_to_each_count() {
@@ -218,28 +394,36 @@ fn unknown_share_meets_five_percent() {
     assert!(below > 50 && at > 50 && above > 50, "{below} {at} {above}");
 }
 
-/// Points lie at the charge and one millionth to each side of it.
+/// Whether a deal is under SEC-IRBA.
+fn is_under_irba(deal: &independent::Deal) -> bool {
+    deal.lines[0].approach == Approach::SecIrba.word()
+}
+
+/// Points lie at the charge and one millionth to each side of it, under SEC-IRBA too.
 #[test]
 fn points_meet_the_charge() {
     let mut apart = BTreeSet::new();
-    for deal in deals(Kind::AroundCharge, 5_000) {
+    for deal in deals(Kind::AroundCharge, 10_000) {
+        let irba = is_under_irba(&deal);
         let points = deal
             .lines
             .iter()
             .flat_map(|line| [('A', line.attachment), ('D', line.detachment)]);
-        apart.extend(points.map(|(name, point)| (name, point.wrapping_sub(deal.charge) as i64)));
+        apart.extend(points.map(|(name, point)| (irba, name, point.wrapping_sub(deal.charge) as i64)));
     }
-    let wanted = ['A', 'D']
-        .into_iter()
-        .flat_map(|name| [-1, 0, 1].map(|distance| (name, distance)));
-    assert_eq!(wanted.filter(|point| !apart.contains(point)).collect::<Vec<_>>(), []);
+    for irba in [false, true] {
+        for name in ['A', 'D'] {
+            let wanted = [-1, 0, 1].map(|distance| (irba, name, distance));
+            assert!(wanted.iter().all(|point| apart.contains(point)), "{irba} {name}");
+        }
+    }
 }
 
-/// Accepted tranches of 0, 1 and 2 millionths occur, above the charge too where that is allowed.
+/// Accepted tranches of 0, 1 and 2 millionths occur, above the charge too where that is allowed, under each approach.
 #[test]
 fn thin_tranches_are_thin() {
     let mut thick = BTreeSet::new();
-    for deal in deals(Kind::Thin, 5_000) {
+    for deal in deals(Kind::Thin, 10_000) {
         let above = |line: &independent::Line| line.detachment > deal.charge;
         thick.extend(
             deal.lines
@@ -252,6 +436,10 @@ fn thin_tranches_are_thin() {
         (Approach::SecSa, false, 1),
         (Approach::SecSa, true, 1),
         (Approach::SecSa, true, 2),
+        (Approach::SecIrba, false, 0),
+        (Approach::SecIrba, false, 1),
+        (Approach::SecIrba, true, 1),
+        (Approach::SecIrba, true, 2),
         (Approach::SecErba, true, 0),
         (Approach::SecErba, true, 1),
         (Approach::Fallback, true, 0),
@@ -273,23 +461,24 @@ fn overshooting_tranches_have_points_zero() {
     );
 }
 
-/// Charges of 0, of a few millionths and of one million occur where their kinds say so.
+/// Charges of 0, of a few millionths and of one million occur where their kinds say so. Under SEC-IRBA, where statuses
+/// play no part, the first two do.
 #[test]
 fn charges_follow_the_kinds() {
-    let charges = |kind| {
-        let charges: Vec<u64> = deals(kind, 5_000).map(|deal| deal.charge).collect();
+    let charges = |kind, irba| {
+        let deals = deals(kind, 10_000).filter(|deal| is_under_irba(deal) == irba);
+        let charges: Vec<u64> = deals.map(|deal| deal.charge).collect();
         assert!(charges.len() > 10, "{kind:?}: {} deals", charges.len());
-        BTreeSet::from_iter(charges)
+        charges
     };
-    assert_eq!(charges(Kind::ZeroCharge), BTreeSet::from([0]));
-    assert_eq!(charges(Kind::AllUnknown), BTreeSet::from([1_000_000]));
-    assert_eq!(charges(Kind::AllDelinquent), BTreeSet::from([500_000]));
-    assert!(
-        deals(Kind::SmallCharge, 5_000)
-            .filter(|deal| (1..=3).contains(&deal.charge))
-            .count()
-            > 10
-    );
+    let all = |kind, irba| BTreeSet::from_iter(charges(kind, irba));
+    assert_eq!(all(Kind::AllUnknown, false), BTreeSet::from([1_000_000]));
+    assert_eq!(all(Kind::AllDelinquent, false), BTreeSet::from([500_000]));
+    for irba in [false, true] {
+        assert_eq!(all(Kind::ZeroCharge, irba), BTreeSet::from([0]));
+        let small = charges(Kind::SmallCharge, irba);
+        assert!(small.iter().filter(|charge| (1..=3).contains(*charge)).count() > 10);
+    }
 }
 
 /// The limits are met: counts, amounts, and the largest sums.

@@ -35,7 +35,7 @@ fn run_that_misses_something() {
         last.starts_with("differential: 1 sheets, 0 differences, but missing: "),
         "{last}"
     );
-    assert!(last.contains("refusal 13;") && last.contains("refusal 17;"), "{last}");
+    assert!(last.contains("refusal 13;") && last.contains("refusal 18;"), "{last}");
     assert_eq!(output.status.code(), Some(1));
 }
 

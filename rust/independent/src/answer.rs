@@ -14,9 +14,9 @@ pub struct Deal {
     pub lines: Vec<Line>,
 }
 
-/// One tranche's line. Approach is 0 for the fallback, 1 for SEC-ERBA, 2 for SEC-SA. Attachment and detachment are A
-/// and D in millionths. `amounts` lists every triple that the papers admit, in rising order of weight: one triple,
-/// or two where two raw weights pass and still differ after floor and cap.
+/// One tranche's line. Approach is 0 for the fallback, 1 for SEC-ERBA, 2 for SEC-SA, 3 for SEC-IRBA. Attachment and
+/// detachment are A and D in millionths. `amounts` lists every triple that the papers admit, in rising order of
+/// weight: one triple, or two where two raw weights pass and still differ after floor and cap.
 #[derive(Debug, Clone, PartialEq, Eq)]
 pub struct Line {
     pub approach: u64,

@@ -1,46 +1,55 @@
-//! "Which approach, then floor, then cap" of document 01, with the STC deals of S-1. Weights are in hundredths of a
-//! percent.
+//! "Which approach, then floor, then cap" of document 01, with the STC deals of S-1 and SEC-IRBA of S-5. Weights are in
+//! hundredths of a percent.
 
 use crate::answer::{Amounts, Line, Refusal};
-use crate::charge::{average_risk_weight_times, to_word, Points, PoolCharge};
+use crate::charge::{average_risk_weight_times, pool_charge, to_word, Points};
 use crate::formula::{raw_weights, Terms, HIGHEST_WEIGHT};
+use crate::irba;
 use crate::rating::{self, Table};
-use crate::sheet::{Facts, Row, Tranche};
+use crate::sheet::{Facts, Irb, Row, Sheet, Tranche};
 
-/// The number of the refusal of a SEC-SA tranche with A equal to D, above the pool charge.
+/// The number of the refusal of a tranche under the formula with A equal to D, above the charge.
 const NO_THICKNESS: u64 = 13;
 
-/// The three approaches, with the numbers that a line reports.
+/// The four approaches, with the numbers that a line reports.
 #[derive(Debug, Clone, Copy, PartialEq, Eq)]
 pub enum Approach {
     Fallback = 0,
     SecErba = 1,
     SecSa = 2,
+    SecIrba = 3,
 }
 
-/// What differs between an ordinary securitisation, an STC deal and a re-securitisation. The supervisory parameter is
-/// counted in halves, so that 0.5 and 1.5 are whole numbers. Class 1 has a floor of its own.
+impl Approach {
+    /// Whether the weight is that of document 01's formula.
+    fn by_formula(self) -> bool {
+        matches!(self, Approach::SecSa | Approach::SecIrba)
+    }
+}
+
+/// What differs between an ordinary securitisation, an STC deal and a re-securitisation. The supervisory parameter of
+/// SEC-SA is in millionths. Class 1 has a floor of its own.
 struct DealKind {
-    parameter_halves: u64,
+    parameter: u64,
     senior_floor: u64,
     floor: u64,
 }
 
 /// Supervisory parameter 1 and floor 1,500.
 const ORDINARY: DealKind = DealKind {
-    parameter_halves: 2,
+    parameter: 1_000_000,
     senior_floor: 1_500,
     floor: 1_500,
 };
 /// Supervisory parameter 0.5, floor 1,000 for class 1 and 1,500 below.
 const STC: DealKind = DealKind {
-    parameter_halves: 1,
+    parameter: 500_000,
     senior_floor: 1_000,
     floor: 1_500,
 };
 /// Supervisory parameter 1.5 and floor 10,000.
 const RESECURITISATION: DealKind = DealKind {
-    parameter_halves: 3,
+    parameter: 1_500_000,
     senior_floor: 10_000,
     floor: 10_000,
 };
@@ -67,26 +76,68 @@ impl DealKind {
     }
 }
 
-/// The approach, by the first of these that holds: no due diligence, fallback; re-securitisation, SEC-SA; any of the
-/// three ratings present, SEC-ERBA; unknown above 5%, fallback; else SEC-SA.
-pub fn choose(facts: &Facts, tranche: &Tranche, pool: &PoolCharge) -> Approach {
-    if !facts.due_diligence_held {
+/// The least share of exposure with an IRB charge under SEC-IRBA: 95%.
+const IRB_SHARE: u64 = 950_000;
+
+/// The IRB section of a deal under SEC-IRBA; nothing for any other deal. SEC-IRBA holds for all tranches of an ordinary
+/// deal with due diligence whose pool is an IRB pool, or a mixed pool with a share of at least 95%. The share of an IRB
+/// pool is the whole, so the share alone tells.
+pub fn irb_of(sheet: &Sheet) -> Option<&Irb> {
+    let ordinary = sheet.facts.due_diligence_held && !sheet.facts.resecuritisation;
+    sheet.irb.as_ref().filter(|irb| ordinary && irb.share >= IRB_SHARE)
+}
+
+/// The figures that all tranches of a deal share.
+pub struct Figures<'a> {
+    /// The facts.
+    pub facts: &'a Facts,
+    /// The IRB section, where SEC-IRBA holds.
+    pub irb: Option<&'a Irb>,
+    /// The charge: that of S-5 under SEC-IRBA, else document 01's.
+    pub charge: u64,
+    /// Whether the unknown rows are above 5% of all exposure.
+    pub unknown_above_limit: bool,
+    /// The figure of the cap: the IRB average under SEC-IRBA, else the pool's.
+    pub average_weight: u64,
+}
+
+impl<'a> Figures<'a> {
+    /// The figures of a sheet's deal.
+    pub fn of(sheet: &'a Sheet) -> Figures<'a> {
+        let irb = irb_of(sheet);
+        let pool = pool_charge(&sheet.pool);
+        Figures {
+            facts: &sheet.facts,
+            irb,
+            charge: irb.map_or(pool.charge, |irb| irba::charge(irb, &sheet.pool)),
+            unknown_above_limit: pool.unknown_above_limit,
+            average_weight: irb.map_or_else(|| average_weight(&sheet.pool), |irb| irb.average),
+        }
+    }
+}
+
+/// The approach, by the first of these that holds: no due diligence, fallback; re-securitisation, SEC-SA; SEC-IRBA for
+/// the deal, SEC-IRBA; any of the three ratings present, SEC-ERBA; unknown above 5%, fallback; else SEC-SA.
+pub fn choose(figures: &Figures, tranche: &Tranche) -> Approach {
+    if !figures.facts.due_diligence_held {
         Approach::Fallback
-    } else if facts.resecuritisation {
+    } else if figures.facts.resecuritisation {
         Approach::SecSa
+    } else if figures.irb.is_some() {
+        Approach::SecIrba
     } else if tranche.ratings.iter().any(|&code| code != 0) {
         Approach::SecErba
-    } else if pool.unknown_above_limit {
+    } else if figures.unknown_above_limit {
         Approach::Fallback
     } else {
         Approach::SecSa
     }
 }
 
-/// Refusal 13: SEC-SA applies, A equals D, and D is above the pool charge; place of the tranche amount.
+/// Refusal 13: the formula applies, A equals D, and D is above the charge; place of the tranche amount.
 pub fn refuse_no_thickness(approach: Approach, points: &Points, charge: u64, place: u64) -> Result<(), Refusal> {
     let no_thickness = points.attachment == points.detachment;
-    if approach == Approach::SecSa && no_thickness && points.detachment > charge {
+    if approach.by_formula() && no_thickness && points.detachment > charge {
         return Err(Refusal {
             number: NO_THICKNESS,
             place,
@@ -95,45 +146,50 @@ pub fn refuse_no_thickness(approach: Approach, points: &Points, charge: u64, pla
     Ok(())
 }
 
-/// The figure of the cap: 100 x (sum of exposure x risk weight) / (sum of exposure) over all rows, rounded up.
-pub fn average_weight(pool: &[Row]) -> u64 {
+/// The pool's average in the cap: 100 x (sum of exposure x risk weight) / (sum of exposure) over all rows, rounded up.
+fn average_weight(pool: &[Row]) -> u64 {
     to_word(average_risk_weight_times(100, pool))
 }
 
 /// The cap, where it applies: to class 1 of a deal with known composition that is no re-securitisation.
-fn cap(facts: &Facts, tranche: &Tranche, average_weight: u64) -> Option<u64> {
+fn cap(figures: &Figures, tranche: &Tranche) -> Option<u64> {
+    let facts = figures.facts;
     let applies = tranche.class == 1 && !facts.resecuritisation && facts.composition_known;
-    applies.then_some(average_weight)
+    applies.then_some(figures.average_weight)
+}
+
+/// The supervisory parameter of a tranche, in millionths: S-5's under SEC-IRBA, else that of the deal's kind.
+pub fn parameter(figures: &Figures, tranche: &Tranche) -> u64 {
+    match figures.irb {
+        Some(irb) => irba::Sum::of(irb, figures.charge, tranche).parameter(figures.facts.stc),
+        None => DealKind::of(figures.facts).parameter,
+    }
+}
+
+/// The weight that a raw weight of a tranche gives: raised to the floor of its class, then lowered to the cap.
+pub fn limited(figures: &Figures, tranche: &Tranche, raw: u64) -> u64 {
+    let floor = DealKind::of(figures.facts).floor(tranche.class);
+    floor_then_cap(raw, floor, cap(figures, tranche))
 }
 
 /// A tranche's line. The fallback is 125,000, without floor and cap. The other approaches give their raw weights, each of
 /// which is raised to the floor, then lowered to the cap. The raw weights rise, and floor and cap keep that order, so
 /// equal weights stand side by side and one of them is dropped.
-pub fn line(
-    facts: &Facts,
-    tranche: &Tranche,
-    approach: Approach,
-    points: Points,
-    charge: u64,
-    average_weight: u64,
-) -> Line {
+pub fn line(figures: &Figures, tranche: &Tranche, approach: Approach, points: Points) -> Line {
     let Points { attachment, detachment } = points;
-    let kind = DealKind::of(facts);
-    let floor = kind.floor(tranche.class);
-    let cap = cap(facts, tranche, average_weight);
-    let limited = |raw: Vec<u64>| raw.into_iter().map(|raw| floor_then_cap(raw, floor, cap)).collect();
+    let limited = |raw: Vec<u64>| raw.into_iter().map(|raw| limited(figures, tranche, raw)).collect();
     let mut weights: Vec<u64> = match approach {
         Approach::Fallback => vec![HIGHEST_WEIGHT],
         Approach::SecErba => limited(vec![rating::weight(
-            Table::of(facts.stc),
+            Table::of(figures.facts.stc),
             tranche,
             detachment - attachment,
         )]),
-        Approach::SecSa => limited(raw_weights(&Terms {
-            charge,
+        Approach::SecSa | Approach::SecIrba => limited(raw_weights(&Terms {
+            charge: figures.charge,
             attachment,
             detachment,
-            parameter_halves: kind.parameter_halves,
+            parameter: parameter(figures, tranche),
         })),
     };
     weights.dedup();
@@ -168,7 +224,7 @@ fn amounts(held: u64, weight: u64) -> Amounts {
 #[cfg(test)]
 mod tests {
     use super::*;
-    use crate::sheet::Status;
+    use crate::sheet::{PoolKind, Status};
 
     /// Checked deal: rows (2, 100%) and (1, 50%) have cap 8,334. Unknown rows count in it too.
     #[test]
@@ -192,6 +248,7 @@ mod tests {
     /// The facts of a deal with due diligence and known composition.
     fn facts(resecuritisation: bool, stc: bool) -> Facts {
         Facts {
+            pool_kind: PoolKind::Sa,
             resecuritisation,
             due_diligence_held: true,
             composition_known: true,
@@ -206,11 +263,11 @@ mod tests {
     fn parameters_and_floors() {
         let of = |resecuritisation, stc| {
             let kind = DealKind::of(&facts(resecuritisation, stc));
-            (kind.parameter_halves, [1, 2, 32].map(|class| kind.floor(class)))
+            (kind.parameter, [1, 2, 32].map(|class| kind.floor(class)))
         };
-        assert_eq!(of(false, false), (2, [1_500, 1_500, 1_500]));
-        assert_eq!(of(false, true), (1, [1_000, 1_500, 1_500]));
-        assert_eq!(of(true, false), (3, [10_000, 10_000, 10_000]));
+        assert_eq!(of(false, false), (1_000_000, [1_500, 1_500, 1_500]));
+        assert_eq!(of(false, true), (500_000, [1_000, 1_500, 1_500]));
+        assert_eq!(of(true, false), (1_500_000, [10_000, 10_000, 10_000]));
     }
 
     /// Floor first, then cap, also below the floor. Floor after cap would lift the 1,000 to 1,500.
@@ -251,39 +308,108 @@ mod tests {
         );
     }
 
-    /// The five steps of the choice, each with all later ones open. The STC mark decides nothing in it.
+    /// A sheet of one tranche with these facts and ratings, an unknown row above or within 5%, and an IRB section with
+    /// this share, where there is one.
+    fn sheet(facts: Facts, ratings: [u64; 3], unknown_above_limit: bool, share: Option<u64>) -> Sheet {
+        let row = |exposure, status| Row {
+            exposure,
+            nominal: 1,
+            risk_weight: 100,
+            status,
+        };
+        let unknown = if unknown_above_limit { 6 } else { 5 };
+        Sheet {
+            facts,
+            pool: vec![row(95, Status::Paying), row(unknown, Status::Unknown)],
+            tranches: vec![Tranche {
+                amount: 1,
+                class: 1,
+                months: 1,
+                held: 1,
+                ratings,
+                place: 0,
+            }],
+            irb: share.map(|share| Irb {
+                charge: 0,
+                loss: 0,
+                loans: 1,
+                retail: false,
+                share,
+                average: 7,
+            }),
+        }
+    }
+
+    /// The approach of the tranche of such a sheet.
+    fn chosen(facts: Facts, ratings: [u64; 3], unknown_above_limit: bool, share: Option<u64>) -> Approach {
+        let sheet = sheet(facts, ratings, unknown_above_limit, share);
+        choose(&Figures::of(&sheet), &sheet.tranches[0])
+    }
+
+    /// The steps of the choice, each with all later ones open. The STC mark decides nothing in it.
     #[test]
     fn approach_in_order() {
+        let irb = Some(1_000_000);
         for stc in [false, true] {
-            let chosen = |due_diligence_held, resecuritisation, ratings, unknown_above_limit| {
-                let facts = Facts {
-                    due_diligence_held,
-                    ..facts(resecuritisation, stc)
-                };
-                let tranche = Tranche {
-                    amount: 1,
-                    class: 1,
-                    months: 1,
-                    held: 1,
-                    ratings,
-                    place: 0,
-                };
-                choose(
-                    &facts,
-                    &tranche,
-                    &PoolCharge {
-                        charge: 1_000_000,
-                        unknown_above_limit,
-                    },
-                )
+            let without = |resecuritisation| Facts {
+                due_diligence_held: false,
+                ..facts(resecuritisation, stc)
             };
-            assert_eq!(chosen(false, true, [1, 0, 0], true), Approach::Fallback);
-            assert_eq!(chosen(true, true, [1, 0, 0], true), Approach::SecSa);
-            for ratings in [[1, 0, 0], [0, 18, 0], [0, 0, 24]] {
-                assert_eq!(chosen(true, false, ratings, true), Approach::SecErba);
+            for resecuritisation in [false, true] {
+                assert_eq!(
+                    chosen(without(resecuritisation), [1, 0, 0], true, irb),
+                    Approach::Fallback
+                );
             }
-            assert_eq!(chosen(true, false, [0, 0, 0], true), Approach::Fallback);
-            assert_eq!(chosen(true, false, [0, 0, 0], false), Approach::SecSa);
+            assert_eq!(chosen(facts(true, stc), [1, 0, 0], true, irb), Approach::SecSa);
+            let ordinary =
+                |ratings, unknown_above_limit, share| chosen(facts(false, stc), ratings, unknown_above_limit, share);
+            assert_eq!(ordinary([1, 0, 0], true, irb), Approach::SecIrba);
+            for ratings in [[1, 0, 0], [0, 18, 0], [0, 0, 24]] {
+                assert_eq!(ordinary(ratings, true, None), Approach::SecErba);
+            }
+            assert_eq!(ordinary([0, 0, 0], true, None), Approach::Fallback);
+            assert_eq!(ordinary([0, 0, 0], false, None), Approach::SecSa);
         }
+    }
+
+    /// SEC-IRBA holds from a share of 950,000 on; below it the deal has the approach, the charge and the cap of an SA
+    /// pool. So has a re-securitisation and a deal without due diligence, whatever its share.
+    #[test]
+    fn share_of_irb_exposure() {
+        let ordinary = facts(false, false);
+        let without = Facts {
+            due_diligence_held: false,
+            ..ordinary
+        };
+        let figures = |facts, share| {
+            let sheet = sheet(facts, [0; 3], false, share);
+            let Figures {
+                charge, average_weight, ..
+            } = Figures::of(&sheet);
+            (choose(&Figures::of(&sheet), &sheet.tranches[0]), charge, average_weight)
+        };
+        // 5% unknown over a base of 80,000, and with a twentieth of that base over an IRB charge of 0.
+        let (sa_pool, irb) = ((126_000, 10_000), (4_000, 7));
+        assert_eq!(figures(ordinary, Some(950_000)), (Approach::SecIrba, irb.0, irb.1));
+        for share in [None, Some(0), Some(949_999)] {
+            assert_eq!(figures(ordinary, share), (Approach::SecSa, sa_pool.0, sa_pool.1));
+        }
+        for (facts, approach) in [(without, Approach::Fallback), (facts(true, false), Approach::SecSa)] {
+            assert_eq!(figures(facts, Some(1_000_000)), (approach, sa_pool.0, sa_pool.1));
+        }
+    }
+
+    /// Refusal 13 covers the two approaches of the formula, above the charge alone.
+    #[test]
+    fn no_thickness_under_the_formula() {
+        let refused = |approach, attachment, detachment| {
+            let points = Points { attachment, detachment };
+            refuse_no_thickness(approach, &points, 50, 9).is_err()
+        };
+        for approach in [Approach::SecSa, Approach::SecIrba] {
+            assert!(refused(approach, 51, 51) && !refused(approach, 50, 50) && !refused(approach, 51, 52));
+        }
+        assert!(!refused(Approach::Fallback, 51, 51) && !refused(Approach::SecErba, 51, 51));
     }
 }

@@ -1,9 +1,9 @@
 //! "Points and pool charge" of document 01. All shares are in millionths.
 
-use crate::sheet::{Row, Status, Tranche};
+use crate::sheet::{self, Row, Status, Tranche};
 
-/// One whole, in millionths.
-pub const WHOLE: u128 = 1_000_000;
+/// One whole, in millionths, for sums and products.
+pub const WHOLE: u128 = sheet::WHOLE as u128;
 /// The charge of a delinquent part: one half, in millionths.
 const LATE_CHARGE: u128 = 500_000;
 
@@ -76,10 +76,10 @@ fn known_charge(known: &[Row]) -> u128 {
     ((WHOLE - late) * base_charge(known) + LATE_CHARGE * late).div_ceil(WHOLE)
 }
 
-/// The base charge: 800 x (sum of exposure x risk weight) / (sum of exposure), rounded up. A risk weight of 100% gives
-/// 8%, which is 80,000 millionths.
-fn base_charge(known: &[Row]) -> u128 {
-    average_risk_weight_times(800, known)
+/// The base charge of some rows: 800 x (sum of exposure x risk weight) / (sum of exposure), rounded up. A risk weight
+/// of 100% gives 8%, which is 80,000 millionths.
+pub fn base_charge(rows: &[Row]) -> u128 {
+    average_risk_weight_times(800, rows)
 }
 
 /// The late share W: delinquent nominal x 10^6 / nominal, rounded up. Status 3 counts as not delinquent.
@@ -88,8 +88,8 @@ fn late_share(known: &[Row]) -> u128 {
     (sum(late, |row| row.nominal.into()) * WHOLE).div_ceil(nominal_sum(known))
 }
 
-/// `factor` x (sum of exposure x risk weight) / (sum of exposure), rounded up. The base charge takes it with 800 over
-/// the known rows, the cap with 100 over all rows.
+/// `factor` x (sum of exposure x risk weight) / (sum of exposure), rounded up. The base charge takes it with 800, the
+/// cap with 100 over all rows.
 pub fn average_risk_weight_times(factor: u128, rows: &[Row]) -> u128 {
     let weighted = sum(rows.iter(), |row| {
         u128::from(row.exposure) * u128::from(row.risk_weight)

@@ -34,6 +34,7 @@ pub mod rational;
 pub mod series;
 mod terms;
 
+use crate::sheet::WHOLE;
 use fixed::{decay, Fixed};
 pub use terms::{Terms, HIGHEST_WEIGHT};
 
@@ -70,28 +71,29 @@ fn value_rounded_up(terms: &Terms) -> u64 {
 
 /// v rounded up, or nothing where this precision does not decide it.
 ///
-/// With the whole number t = D - A, v x t = 62,500 x (2 x max(K - A, 0) + 2s x (e^(-l/s) - e^(-u/s))). Sums and products
-/// of the bounds are exact, so v x t lies between `low` and `high` (either may be met, as the ends of the exponentials'
-/// bounds may). The difference of the exponentials is above 0, so a lower bound below 0 is replaced by 0.
+/// Lengths in millionths of a millionth are 10^6 times as many, and 125,000 is an eighth of that. So with the whole
+/// number t = 8 x (D - A), v x t = max(K - A, 0) + s x (e^(-l/s) - e^(-u/s)), where s and K - A are counted that way.
+/// Sums and products of the bounds are exact, so v x t lies between `low` and `high` (either may be met, as the ends
+/// of the exponentials' bounds may). The difference of the exponentials is above 0, so a lower bound below 0 is
+/// replaced by 0.
 ///
 /// Let c be high / t rounded up. Then v <= c. Dividing by a whole number, `high` may be rounded up to a whole number first
 /// without changing c. If also low >= (c - 1) x t, then c - 1 <= v <= c, and v is not whole, so c is v rounded up. Since
 /// (c - 1) x t is whole, `low` may be rounded down first.
 ///
 /// A large u/s needs no case of its own. Its exponential lies from 0 to one unit of the last place. For A <= K, `high` is
-/// then the whole number 62,500 x (2 x (K - A) + 2s), and `low` is less than 1 below it: this decides at once, even where
-/// v lies below a whole number by less than e^(-300,000).
+/// then the whole number (K - A) + s, and `low` is less than 1 below it, s being below 2^43: this decides at once, even
+/// where v lies below a whole number by less than e^(-300,000).
 fn rounded_up_within<const LIMBS: usize>(terms: &Terms) -> Option<u64> {
-    let at_attachment = decay::<LIMBS>(2 * terms.l(), terms.twice_s());
-    let at_detachment = decay::<LIMBS>(2 * terms.u(), terms.twice_s());
-    let scaled = |difference: Fixed<LIMBS>| {
-        let below = Fixed::whole(2 * terms.below_charge());
-        below.plus(difference.times(terms.twice_s())).times(HIGHEST_WEIGHT / 2)
-    };
+    let at_attachment = decay::<LIMBS>(terms.l(), terms.s());
+    let at_detachment = decay::<LIMBS>(terms.u(), terms.s());
+    let below = Fixed::whole(terms.below_charge());
+    let scaled = |difference: Fixed<LIMBS>| below.plus(difference.times(terms.s()));
     let high = scaled(at_attachment.high.minus_or_zero(at_detachment.low));
     let low = scaled(at_attachment.low.minus_or_zero(at_detachment.high));
-    let rounded_up = high.rounded_up().div_ceil(terms.thickness());
-    (low.rounded_down() >= (rounded_up - 1) * terms.thickness()).then_some(rounded_up)
+    let t = WHOLE / HIGHEST_WEIGHT * terms.thickness();
+    let rounded_up = high.rounded_up().div_ceil(t);
+    (low.rounded_down() >= (rounded_up - 1) * t).then_some(rounded_up)
 }
 
 #[cfg(test)]

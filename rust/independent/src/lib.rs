@@ -1,16 +1,17 @@
-//! Exact tranche weights: the crate follows document 01 (the scope paper), requests S-1 to S-3 of document 02 (the
-//! paper of later requests) and the rating figures of source document 001 alone, and shares nothing with the proved
-//! code.
+//! Exact tranche weights: the crate follows document 01 (the scope paper), requests S-1 to S-3 and S-5 of document 02
+//! (the paper of later requests) and the rating figures of source document 001 alone, and shares nothing with the
+//! proved code.
 //!
 //! Nothing is rounded but where document 01 names a rounding. Sums and products are whole numbers of 128 bits, where
 //! every intermediate result fits (the largest is about 10^19). The exponentials of the formula are held between two
 //! fixed-point numbers, each rounded outward.
 //!
 //! [`answer`] has the types of the answers, [`date`] the dates of S-3. One module stands for each heading of document
-//! 01, and uses only these two and modules above it in this list:
+//! 01, and one for S-5; each uses only these two and modules above it in this list:
 //! - [`sheet`]: "The deal sheet" and "Refusals, by who can cause them", but for refusal 13;
 //! - [`charge`]: "Points and pool charge";
 //! - [`rating`]: "The rating table";
+//! - [`irba`]: charge and parameter of SEC-IRBA;
 //! - [`formula`]: "The formula and its series";
 //! - [`approach`]: "Which approach, then floor, then cap", and refusal 13.
 #![forbid(unsafe_code)]
@@ -20,6 +21,7 @@ pub mod approach;
 pub mod charge;
 pub mod date;
 pub mod formula;
+pub mod irba;
 pub mod rating;
 pub mod sheet;
 
@@ -32,24 +34,16 @@ pub use answer::{Amounts, Deal, Line, Refusal};
 pub fn weigh(sheet: &[u64], room: u64) -> Result<Deal, Refusal> {
     let sheet = sheet::read(sheet)?;
     sheet::refuse_short_results(&sheet, room)?;
-    let pool = charge::pool_charge(&sheet.pool);
+    let figures = approach::Figures::of(&sheet);
     let nominal = charge::nominal_sum(&sheet.pool);
-    let composition_weight = approach::average_weight(&sheet.pool);
     let lines = sheet.tranches.iter().map(|tranche| {
         let points = charge::points(nominal, &sheet.tranches, tranche.class);
-        let approach = approach::choose(&sheet.facts, tranche, &pool);
-        approach::refuse_no_thickness(approach, &points, pool.charge, tranche.place)?;
-        Ok(approach::line(
-            &sheet.facts,
-            tranche,
-            approach,
-            points,
-            pool.charge,
-            composition_weight,
-        ))
+        let approach = approach::choose(&figures, tranche);
+        approach::refuse_no_thickness(approach, &points, figures.charge, tranche.place)?;
+        Ok(approach::line(&figures, tranche, approach, points))
     });
     Ok(Deal {
-        charge: pool.charge,
+        charge: figures.charge,
         lines: lines.collect::<Result<Vec<Line>, Refusal>>()?,
     })
 }

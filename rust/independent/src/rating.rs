@@ -77,7 +77,7 @@ impl Table {
 }
 
 /// One year in fifths of a month.
-const ONE_YEAR: u64 = 60;
+pub const ONE_YEAR: u64 = 60;
 /// Five years in fifths of a month.
 const FIVE_YEARS: u64 = 300;
 
@@ -102,7 +102,7 @@ fn weight_that_counts(mut weights: Vec<u64>) -> u64 {
 }
 
 /// Tranche maturity in fifths of a month: 4 x months + 12, held within 60 and 300.
-fn maturity(months: u64) -> u64 {
+pub fn maturity(months: u64) -> u64 {
     (4 * months + 12).clamp(ONE_YEAR, FIVE_YEARS)
 }
 

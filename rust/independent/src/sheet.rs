@@ -1,5 +1,5 @@
 //! "The deal sheet" and "Refusals, by who can cause them" of document 01, with the fifth fact and refusal 16 of S-1,
-//! and the sixth fact and refusal 17 of S-3.
+//! the sixth fact and refusal 17 of S-3, and the IRB section and refusal 18 of S-5.
 //!
 //! The words are read from place 0 upward, each judged as it is read, so the first bad word decides at its own place.
 //! A missing word comes after all words that are there, so it is found only when none of those is bad.
@@ -29,8 +29,6 @@ const CLASS: u64 = 9;
 const MATURITY: u64 = 10;
 /// A rating code not listed.
 const RATING: u64 = 11;
-/// Pool kind 1 or 2.
-const POOL_KIND: u64 = 12;
 /// Results shorter than the lines.
 const SHORT_RESULTS: u64 = 14;
 /// The file's length is not a multiple of a word's bytes or over the most.
@@ -39,6 +37,8 @@ const FILE_LENGTH: u64 = 15;
 const STC_RESECURITISATION: u64 = 16;
 /// A date that does not exist or is outside its years, or a maturity not after the reporting date.
 const DATE: u64 = 17;
+/// A figure of the IRB section outside its limits.
+const IRB_FIGURE: u64 = 18;
 
 /// The fewest facts: all but the STC mark and the reporting date.
 pub const FACTS_FEWEST: usize = 4;
@@ -56,17 +56,17 @@ pub const TRANCHES_MOST: usize = 32;
 pub const RATINGS: usize = 3;
 /// The words of a tranche row: amount, class, maturity, amount held, ratings.
 pub const TRANCHE_WORDS: usize = 4 + RATINGS;
+/// The count of the IRB section.
+pub const IRB_COUNT: u64 = 1;
+/// The words of the IRB section, after its count.
+pub const IRB_WORDS: usize = 6;
 /// The bytes of a word in a file.
 const WORD_BYTES: usize = 8;
-/// The most bytes a file may have: the most facts, rows and tranches, and the three counts.
+/// The most bytes a file may have: the most facts, rows and tranches, the IRB section, and the four counts.
 pub const FILE_BYTES: usize =
-    WORD_BYTES * (1 + FACTS_MOST + 1 + ROWS_MOST * ROW_WORDS + 1 + TRANCHES_MOST * TRANCHE_WORDS);
+    WORD_BYTES * (1 + FACTS_MOST + 1 + ROWS_MOST * ROW_WORDS + 1 + TRANCHES_MOST * TRANCHE_WORDS + 1 + IRB_WORDS);
 /// How many result words a tranche takes.
 pub const LINE_WORDS: usize = 6;
-/// The pool kind of an SA pool, the only one that is not refused.
-const SA_POOL: u64 = 0;
-/// The highest pool kind.
-const POOL_KIND_MOST: u64 = 2;
 /// The largest amount of a pool row.
 const POOL_AMOUNT_MOST: u64 = 10_000_000_000;
 /// The highest risk weight.
@@ -75,10 +75,30 @@ const RISK_WEIGHT_MOST: u64 = 1250;
 const TRANCHE_AMOUNT_MOST: u64 = 10_000_000_000_000;
 /// The longest maturity, in months.
 const MONTHS_MOST: u64 = 1200;
+/// One whole, in millionths, as shares and charges are counted.
+pub const WHOLE: u64 = 1_000_000;
+/// The highest effective number of loans.
+const LOANS_MOST: u64 = 1_000_000;
+/// The highest IRB average weight, in hundredths of a percent.
+const AVERAGE_MOST: u64 = 125_000;
 
-/// The facts section without the pool kind, which is 0 in every accepted sheet. No re-securitisation is an STC deal.
+/// The kind of a pool.
+#[derive(Debug, Clone, Copy, PartialEq, Eq)]
+pub enum PoolKind {
+    Sa,
+    Irb,
+    Mixed,
+}
+
+/// The answers by their codes, from 0.
+const ANSWERS: [bool; 2] = [false, true];
+/// The pool kinds by their codes, from 0.
+const POOL_KINDS: [PoolKind; 3] = [PoolKind::Sa, PoolKind::Irb, PoolKind::Mixed];
+
+/// The facts section. No re-securitisation is an STC deal.
 #[derive(Debug, Clone, Copy)]
 pub struct Facts {
+    pub pool_kind: PoolKind,
     pub resecuritisation: bool,
     pub due_diligence_held: bool,
     pub composition_known: bool,
@@ -123,12 +143,26 @@ pub struct Tranche {
     pub place: u64,
 }
 
-/// A sheet in which no word is bad, none is missing and none follows.
+/// The IRB section: IRB charge, average loss given default and share of exposure with an IRB charge in millionths,
+/// effective number of loans, whether the pool is retail, and the IRB average weight in hundredths of a percent.
+#[derive(Debug, Clone, Copy)]
+pub struct Irb {
+    pub charge: u64,
+    pub loss: u64,
+    pub loans: u64,
+    pub retail: bool,
+    pub share: u64,
+    pub average: u64,
+}
+
+/// A sheet in which no word is bad, none is missing and none follows. The IRB section is there just where the pool is
+/// no SA pool.
 #[derive(Debug, Clone)]
 pub struct Sheet {
     pub facts: Facts,
     pub pool: Vec<Row>,
     pub tranches: Vec<Tranche>,
+    pub irb: Option<Irb>,
 }
 
 /// The words and the place of the next one to be read.
@@ -155,9 +189,17 @@ impl Reader<'_> {
             Err(Refusal { number, place })
         }
     }
+
+    /// Reads the next word as a code: the entry of `list` at that place, from 0. A word beyond the list is refused,
+    /// and so is one whose entry is not good.
+    fn code<T: Copy>(&mut self, number: u64, list: &[T], good: impl Fn(T) -> bool) -> Result<T, Refusal> {
+        let entry = |word: u64| list.get(usize::try_from(word).ok()?).copied();
+        let word = self.word(number, |word| entry(word).is_some_and(&good))?;
+        Ok(entry(word).expect("a good code"))
+    }
 }
 
-/// Reads the three sections in their order, then refuses words that follow (refusal 3, at the first of them).
+/// Reads the sections in their order, then refuses words that follow the last (refusal 3, at the first of them).
 pub fn read(words: &[u64]) -> Result<Sheet, Refusal> {
     let mut reader = Reader { words, next: 0 };
     let facts = read_facts(&mut reader)?;
@@ -166,31 +208,30 @@ pub fn read(words: &[u64]) -> Result<Sheet, Refusal> {
         .map(|_| read_row(&mut reader, facts.resecuritisation))
         .collect::<Result<Vec<_>, _>>()?;
     let tranches = read_tranches(&mut reader, facts.reporting_date)?;
+    let irb = read_irb(&mut reader, facts.pool_kind)?;
     if reader.next < words.len() {
         return Err(Refusal {
             number: TOO_LONG,
             place: reader.place(),
         });
     }
-    Ok(Sheet { facts, pool, tranches })
+    Ok(Sheet {
+        facts,
+        pool,
+        tranches,
+        irb,
+    })
 }
 
-/// The facts: their count, pool kind, then answers of 0 or 1, then the reporting date. A pool kind above 2 is outside
-/// its codes (4); kinds 1 and 2 are codes, but the deal is refused for them (12). Both stand at the pool kind's place.
+/// The facts: their count, pool kind, then answers of 0 or 1, then the reporting date.
 fn read_facts(reader: &mut Reader) -> Result<Facts, Refusal> {
     let count = reader.word(COUNT, |count| {
         (FACTS_FEWEST as u64..=FACTS_MOST as u64).contains(&count)
     })?;
-    let place = reader.place();
-    let kind = reader.word(FACT, |kind| kind <= POOL_KIND_MOST)?;
-    if kind != SA_POOL {
-        return Err(Refusal {
-            number: POOL_KIND,
-            place,
-        });
-    }
+    let pool_kind = reader.code(FACT, &POOL_KINDS, |_| true)?;
     let resecuritisation = read_answer(reader)?;
     Ok(Facts {
+        pool_kind,
         resecuritisation,
         due_diligence_held: read_answer(reader)?,
         composition_known: read_answer(reader)?,
@@ -202,9 +243,9 @@ fn read_facts(reader: &mut Reader) -> Result<Facts, Refusal> {
     })
 }
 
-/// An answer: 0 no, 1 yes.
+/// A fact that is an answer: 0 no, 1 yes.
 fn read_answer(reader: &mut Reader) -> Result<bool, Refusal> {
-    Ok(reader.word(FACT, |answer| answer <= 1)? == 1)
+    reader.code(FACT, &ANSWERS, |_| true)
 }
 
 /// The STC mark, an answer like the others (4). A re-securitisation is refused for the answer yes (16), at the same
@@ -240,10 +281,9 @@ fn read_row(reader: &mut Reader, resecuritisation: bool) -> Result<Row, Refusal>
 
 /// A row's status. That of a securitisation tranche stands in every row of a re-securitisation, and in no other.
 fn read_status(reader: &mut Reader, resecuritisation: bool) -> Result<Status, Refusal> {
-    let status_of = |code: u64| STATUSES.get(usize::try_from(code).ok()?).copied();
-    let good = |status| (status == Status::SecuritisationTranche) == resecuritisation;
-    let code = reader.word(STATUS, |code| status_of(code).is_some_and(good))?;
-    Ok(status_of(code).expect("a good status"))
+    reader.code(STATUS, &STATUSES, |status| {
+        (status == Status::SecuritisationTranche) == resecuritisation
+    })
 }
 
 /// The tranches, after their count. The first row has class 1; each next row has the class before it or one more.
@@ -293,6 +333,25 @@ fn read_maturity(reader: &mut Reader, reporting_date: Option<Date>) -> Result<u6
         });
     }
     Ok(months)
+}
+
+/// The IRB section, which every pool but an SA pool has: its count, then IRB charge, average loss given default,
+/// effective number of loans, retail, share of exposure with an IRB charge, IRB average weight. The share of an IRB
+/// pool is the whole.
+fn read_irb(reader: &mut Reader, kind: PoolKind) -> Result<Option<Irb>, Refusal> {
+    if kind == PoolKind::Sa {
+        return Ok(None);
+    }
+    let least_share = if kind == PoolKind::Irb { WHOLE } else { 0 };
+    reader.word(COUNT, |count| count == IRB_COUNT)?;
+    Ok(Some(Irb {
+        charge: reader.word(IRB_FIGURE, |charge| charge <= WHOLE)?,
+        loss: reader.word(IRB_FIGURE, |loss| loss <= WHOLE)?,
+        loans: reader.word(IRB_FIGURE, |loans| (1..=LOANS_MOST).contains(&loans))?,
+        retail: reader.code(IRB_FIGURE, &ANSWERS, |_| true)?,
+        share: reader.word(IRB_FIGURE, |share| (least_share..=WHOLE).contains(&share))?,
+        average: reader.word(IRB_FIGURE, |average| average <= AVERAGE_MOST)?,
+    }))
 }
 
 /// Refusal 14: results shorter than the lines; place 0.

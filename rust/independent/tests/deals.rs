@@ -1,9 +1,9 @@
 //! The checked deals and the misreadings of document 01, the STC deals of S-1, several ratings by S-2, maturities as
-//! dates by S-3, and the largest deal, as whole sheets.
+//! dates by S-3, and the largest deal, as whole sheets. The deals of S-5 stand apart.
 
 mod common;
 
-use common::{file, room, sheet, Facts, Row, Tranche};
+use common::{file, room, sheet, sheet_with, Facts, Row, Tranche};
 use independent::approach::Approach;
 use independent::sheet::{self, FILE_BYTES, ROWS_MOST, TRANCHES_MOST};
 use independent::{weigh, weigh_file, Amounts, Deal, Line};
@@ -456,8 +456,8 @@ fn dates_and_months_give_the_same_lines() {
     }
 }
 
-/// The largest deal: the most facts, rows and tranches, all amounts and weights at their most, fills the largest file. Each
-/// tranche holds the whole pool, so all but the first have A = D = 0.
+/// The largest deal: the most facts, rows and tranches and an IRB section, all amounts and weights at their most, fills
+/// the largest file. Each tranche holds the whole pool, so all but the first have A = D = 0.
 #[test]
 fn largest_amounts() {
     let most = 10_000_000_000;
@@ -465,7 +465,8 @@ fn largest_amounts() {
     let tranches: Vec<Tranche> = (1..=TRANCHES_MOST as u64)
         .map(|class| tranche(ROWS_MOST as u64 * most, class, 21_991_231, 0))
         .collect();
-    let words = sheet(&[0, 0, 1, 1, 1, 20_991_231], &pool, &tranches);
+    let irb = [1_000_000, 1_000_000, 1_000_000, 1, 1_000_000, 125_000];
+    let words = sheet_with(irb, &[2, 0, 1, 1, 1, 20_991_231], &pool, &tranches);
     assert_eq!(file(&words).len(), FILE_BYTES);
     let deal = weigh_file(&file(&words), room(TRANCHES_MOST)).expect("an accepted file");
     assert_eq!((deal.charge, deal.lines.len()), (1_000_000, TRANCHES_MOST));
@@ -477,7 +478,7 @@ fn largest_amounts() {
     assert!(deal
         .lines
         .iter()
-        .all(|line| line.approach == Approach::SecSa as u64 && line.attachment == 0 && line.amounts == [amounts]));
+        .all(|line| line.approach == Approach::SecIrba as u64 && line.attachment == 0 && line.amounts == [amounts]));
     assert!(deal
         .lines
         .iter()

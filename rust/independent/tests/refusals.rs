@@ -2,7 +2,7 @@
 
 mod common;
 
-use common::{file, room, sheet, Facts};
+use common::{file, room, sheet, sheet_with, Facts, Irb};
 use independent::sheet::{FILE_BYTES, ROWS_MOST, TRANCHES_MOST};
 use independent::{weigh, weigh_file, Refusal};
 
@@ -57,7 +57,7 @@ fn limits(words: &[u64], places: &[usize], good: &[u64], bad: &[u64], number: u6
     }
 }
 
-/// Refusals 2, 4 and 12: the counts and the facts. A wrong count is judged before the words it asks for.
+/// Refusals 2 and 4: the counts and the facts. A wrong count is judged before the words it asks for.
 #[test]
 fn counts_and_facts() {
     let words = plain(0, 0);
@@ -65,7 +65,6 @@ fn counts_and_facts() {
     limits(&words, &[5], &[2], &[0, 1_001, MOST], 2);
     limits(&words, &[14], &[3], &[0, 33, MOST], 2);
     limits(&words, &[1], &[0], &[3, MOST], 4);
-    limits(&words, &[1], &[0], &[1, 2], 12);
     limits(&words, &[2], &[0], &[2, MOST], 4);
     limits(&words, &[3, 4], &[0, 1], &[2, MOST], 4);
 }
@@ -78,7 +77,6 @@ fn five_facts() {
     limits(&words, &[6], &[2], &[0, 1_001, MOST], 2);
     limits(&words, &[15], &[3], &[0, 33, MOST], 2);
     limits(&words, &[1], &[0], &[3, MOST], 4);
-    limits(&words, &[1], &[0], &[1, 2], 12);
     limits(&words, &[3, 4, 5], &[0, 1], &[2, MOST], 4);
 }
 
@@ -91,7 +89,6 @@ fn six_facts() {
     limits(&words, &[7], &[2], &[0, 1_001, MOST], 2);
     limits(&words, &[16], &[3], &[0, 33, MOST], 2);
     limits(&words, &[1], &[0], &[3, MOST], 4);
-    limits(&words, &[1], &[0], &[1, 2], 12);
     limits(&words, &[3, 4, 5], &[0, 1], &[2, MOST], 4);
     let maturities = [19, 26, 33];
     limits(&words, &maturities, &[1, 1200], &[0, 1201, 20_300_101, MOST], 10);
@@ -226,7 +223,7 @@ fn mark_on_a_resecuritisation() {
 fn mark_is_judged_in_its_place() {
     let marked = with(&plain_five(1, 3), 5, 1);
     assert_eq!(weigh(&with(&marked, 4, 2), 0), Err(refusal(4, 4)));
-    assert_eq!(weigh(&with(&marked, 1, 1), 0), Err(refusal(12, 1)));
+    assert_eq!(weigh(&with(&marked, 1, 3), 0), Err(refusal(4, 1)));
     assert_eq!(weigh(&with(&marked, 6, 0), 0), Err(refusal(16, 5)));
     assert_eq!(weigh(&with(&marked, 10, 0), 0), Err(refusal(16, 5)));
     assert_eq!(weigh(&marked[..6], 0), Err(refusal(16, 5)));
@@ -246,6 +243,89 @@ fn count_of_facts_decides() {
     for words in [plain_six(0, 72), plain_six(20_240_131, 20_300_131)] {
         assert_eq!(weigh(&with(&words, 0, 5), room(3)), Err(refusal(2, 6)));
     }
+}
+
+/// A section at the least values of a mixed pool, and one at the most values of any.
+const SECTIONS: [Irb; 2] = [
+    [0, 0, 1, 0, 0, 0],
+    [1_000_000, 1_000_000, 1_000_000, 1, 1_000_000, 125_000],
+];
+
+/// A sheet like the plain one, of a pool of kind 1 or 2 with this section: its count stands at 36, its words from 37
+/// on.
+fn plain_irb(kind: u64, resecuritisation: u64, due_diligence: u64, irb: Irb) -> Vec<u64> {
+    let status = 3 * resecuritisation;
+    let words = plain_with(&[kind, resecuritisation, due_diligence, 0], status, 72);
+    [words, vec![1], irb.to_vec()].concat()
+}
+
+/// All such sheets: of both kinds, ordinary or a re-securitisation, with and without due diligence. That of an IRB pool
+/// has the whole as its share.
+fn all_plain_irb() -> Vec<Vec<u64>> {
+    let mut sheets = Vec::new();
+    for (kind, irb) in [(1, SECTIONS[1]), (2, SECTIONS[0]), (2, SECTIONS[1])] {
+        for (resecuritisation, due_diligence) in [(0, 0), (0, 1), (1, 0), (1, 1)] {
+            sheets.push(plain_irb(kind, resecuritisation, due_diligence, irb));
+        }
+    }
+    sheets
+}
+
+/// Refusals 2 and 18 in the IRB section: its count, and each of its words, in any deal.
+#[test]
+fn irb_section() {
+    for words in all_plain_irb() {
+        limits(&words, &[36], &[1], &[0, 2, MOST], 2);
+        limits(&words, &[37, 38], &[0, 1, 1_000_000], &[1_000_001, MOST], 18);
+        limits(&words, &[39], &[1, 24, 25, 1_000_000], &[0, 1_000_001, MOST], 18);
+        limits(&words, &[40], &[0, 1], &[2, MOST], 18);
+        limits(&words, &[42], &[0, 1_500, 125_000], &[125_001, MOST], 18);
+        let shares = [0, 949_999, 950_000, 999_999];
+        let (good, bad) = if words[1] == 1 {
+            (&[][..], &shares[..])
+        } else {
+            (&shares[..], &[][..])
+        };
+        limits(&words, &[41], good, bad, 18);
+        limits(&words, &[41], &[1_000_000], &[1_000_001, MOST], 18);
+    }
+}
+
+/// The section belongs to kinds 1 and 2: without it they lack a word after the tranches; with kind 0 its words follow
+/// the last section; kind 3 is no code.
+#[test]
+fn irb_section_by_the_pool_kind() {
+    for words in all_plain_irb() {
+        assert_eq!(weigh(&with(&words, 1, 0), room(3)), Err(refusal(3, 36)));
+        assert_eq!(weigh(&with(&words, 1, 3), room(3)), Err(refusal(4, 1)));
+        assert_eq!(weigh(&words[..36], room(3)), Err(refusal(1, 36)));
+    }
+    for kind in [1, 2] {
+        assert_eq!(weigh(&with(&plain(0, 0), 1, kind), room(3)), Err(refusal(1, 36)));
+    }
+}
+
+/// The section is judged in its place: after all words before it, word by word, before words that follow and short
+/// results.
+#[test]
+fn irb_section_is_judged_in_its_place() {
+    let words = plain_irb(1, 0, 1, SECTIONS[1]);
+    let bad_at = |places: &[usize]| {
+        places
+            .iter()
+            .fold(words.clone(), |words, &place| with(&words, place, MOST))
+    };
+    assert_eq!(weigh(&bad_at(&[35, 36]), 0), Err(refusal(11, 35)));
+    assert_eq!(weigh(&bad_at(&[36, 37]), 0), Err(refusal(2, 36)));
+    for place in 37..42 {
+        assert_eq!(weigh(&bad_at(&[place, place + 1]), 0), Err(refusal(18, place as u64)));
+        assert_eq!(weigh(&bad_at(&[place])[..place + 1], 0), Err(refusal(18, place as u64)));
+        assert_eq!(weigh(&words[..place], 0), Err(refusal(1, place as u64)));
+    }
+    let follows = |words: &[u64]| weigh(&[words, &[0]].concat(), 0);
+    assert_eq!(follows(&bad_at(&[42])), Err(refusal(18, 42)));
+    assert_eq!(follows(&words), Err(refusal(3, 43)));
+    assert_eq!(weigh(&words, room(3) - 1), Err(refusal(14, 0)));
 }
 
 /// Refusals 5, 6 and 7: the pool rows, in an ordinary deal and in a re-securitisation.
@@ -296,12 +376,13 @@ fn tranche_rows() {
 #[test]
 fn counts_at_their_limits() {
     for (rows, tranches) in [(1, 1), (1, TRANCHES_MOST), (ROWS_MOST, 1), (ROWS_MOST, TRANCHES_MOST)] {
-        let words = sheet(
-            &[0, 0, 0, 0],
-            &vec![[1, 1, 0, 0]; rows],
-            &vec![[1, 1, 1, 0, 0, 0, 0]; tranches],
-        );
-        assert_eq!(weigh(&words, MOST).map(|deal| deal.lines.len()), Ok(tranches));
+        let (pool, list) = (vec![[1, 1, 0, 0]; rows], vec![[1, 1, 1, 0, 0, 0, 0]; tranches]);
+        for words in [
+            sheet(&[0, 0, 0, 0], &pool, &list),
+            sheet_with(SECTIONS[1], &[1, 0, 0, 0], &pool, &list),
+        ] {
+            assert_eq!(weigh(&words, MOST).map(|deal| deal.lines.len()), Ok(tranches));
+        }
     }
 }
 
@@ -313,6 +394,8 @@ fn missing_words() {
         plain_five(0, 0),
         plain_six(0, 72),
         plain_six(20_240_131, 20_300_131),
+        plain_irb(1, 1, 1, SECTIONS[1]),
+        plain_irb(2, 0, 0, SECTIONS[0]),
     ] {
         for length in 0..words.len() {
             assert_eq!(weigh(&words[..length], room(3)), Err(refusal(1, length as u64)));
@@ -340,8 +423,8 @@ fn first_bad_word_decides() {
     };
     assert_eq!(weigh(&bad_at(&[13, 8, 30]), 0), Err(refusal(6, 8)));
     assert_eq!(weigh(&bad_at(&[1, 2]), 0), Err(refusal(4, 1)));
-    assert_eq!(weigh(&with(&bad_at(&[2]), 1, 2), 0), Err(refusal(12, 1)));
-    assert_eq!(weigh(&with(&bad_at(&[0]), 1, 2), 0), Err(refusal(2, 0)));
+    assert_eq!(weigh(&with(&bad_at(&[2]), 1, 2), 0), Err(refusal(4, 2)));
+    assert_eq!(weigh(&bad_at(&[0, 1]), 0), Err(refusal(2, 0)));
     assert_eq!(weigh(&bad_at(&[9])[..12], 0), Err(refusal(7, 9)));
     assert_eq!(weigh(&bad_at(&[14])[..15], 0), Err(refusal(2, 14)));
     assert_eq!(weigh(&[bad_at(&[35]), vec![0]].concat(), 0), Err(refusal(11, 35)));
@@ -393,6 +476,28 @@ fn no_thickness() {
     assert_eq!(weigh(&thin(&[0, 0, 1, 1, 0, 0], 0, 0), room(3)), Err(refusal(13, 27)));
 }
 
+/// Refusal 13 under SEC-IRBA, with and without a rating, by the charge of S-5: A equals D at 999,899 millionths, which
+/// an IRB charge meets or not. A share below 950,000 leaves document 01's charge and the ratings; a re-securitisation
+/// that charge alone.
+#[test]
+fn no_thickness_under_sec_irba() {
+    let judged = |facts: [u64; 4], rating, charge, share| {
+        let words = thin(&facts, 3 * facts[1], rating);
+        let section = [1, charge, 0, 1, 0, share, 0];
+        weigh(&[&words[..], &section].concat(), room(3)).map(|deal| deal.charge)
+    };
+    for rating in [0, 18] {
+        assert_eq!(judged([1, 0, 1, 1], rating, 999_898, 1_000_000), Err(refusal(13, 25)));
+        assert_eq!(judged([1, 0, 1, 1], rating, 999_899, 1_000_000), Ok(999_899));
+        // (950,000 x 10^6 + 50,000 x 8,000) / 10^6, below the points.
+        assert_eq!(judged([2, 0, 1, 1], rating, 1_000_000, 950_000), Err(refusal(13, 25)));
+        assert_eq!(judged([1, 1, 1, 1], rating, 1_000_000, 1_000_000), Err(refusal(13, 25)));
+        assert_eq!(judged([1, 0, 0, 1], rating, 0, 1_000_000), Ok(8_000));
+    }
+    assert_eq!(judged([2, 0, 1, 1], 0, 1_000_000, 949_999), Err(refusal(13, 25)));
+    assert_eq!(judged([2, 0, 1, 1], 18, 1_000_000, 949_999), Ok(8_000));
+}
+
 /// A equal to D at the charge is accepted, one millionth above the charge it is refused.
 #[test]
 fn no_thickness_at_the_charge() {
@@ -418,7 +523,7 @@ fn no_thickness_at_the_charge() {
     assert_eq!(deal(1_000_010_001), Err(refusal(13, 18)));
 }
 
-/// Refusal 15: a length that is not a multiple of 8 or over the most, which is 33,864 bytes, before all others, at
+/// Refusal 15: a length that is not a multiple of 8 or over the most, which is 33,920 bytes, before all others, at
 /// place 0.
 #[test]
 fn file_lengths() {
@@ -429,7 +534,7 @@ fn file_lengths() {
         assert_eq!(weigh_file(&bytes[..length], 0), Err(refusal(15, 0)));
     }
     assert_eq!(weigh_file(&bytes[..16], 0), Err(refusal(1, 2)));
-    assert_eq!(FILE_BYTES, 33_864);
+    assert_eq!(FILE_BYTES, 33_920);
     assert_eq!(weigh_file(&[255; FILE_BYTES], 0), Err(refusal(2, 0)));
     assert_eq!(weigh_file(&[255; FILE_BYTES + 8], 0), Err(refusal(15, 0)));
     assert_eq!(weigh_file(&[255; FILE_BYTES - 1], 0), Err(refusal(15, 0)));

@@ -194,7 +194,8 @@ const SERIES_SHARE: u64 = 16;
 ///
 /// For q of at least the number of bits after the point: e is above 2, so e^(-q) < 2^(-q), at most one unit of the last
 /// place; and it is above 0. Else e^(-q) is the square of e^(-q/2), taken as often as it takes to bring q to 1/16. The
-/// denominator is below 2^22 and grows by less than 2^15 here and by the number of terms in the series: no overflow.
+/// numerator is below 2^40 and the denominator below 2^43; this one grows here to less than 2^45, and by the number of
+/// terms in the series, below 2^9: no overflow.
 pub fn decay<const LIMBS: usize>(numerator: u64, denominator: u64) -> Bounds<LIMBS> {
     let bits = 64 * (LIMBS as u64 - 1);
     if numerator / denominator >= bits {

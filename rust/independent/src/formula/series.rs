@@ -3,6 +3,7 @@
 
 use super::rational::{Natural, Ratio};
 use super::terms::{Terms, HIGHEST_WEIGHT};
+use crate::sheet::WHOLE;
 
 /// Low(k) and Up(k) for q = numerator / denominator. Low(k) is the sum of q^i / i! for i from 0 to k. Up(k) is
 /// Low(k) + 2 x q^(k+1) / (k+1)!. Both are worked over the common denominator of their terms.
@@ -33,8 +34,8 @@ impl End {
     /// e^(-u/s).
     pub fn new(terms: &Terms, at_attachment: &Ratio, at_detachment: &Ratio) -> Self {
         let scale = Ratio::of_words(HIGHEST_WEIGHT, terms.thickness());
-        let s = Ratio::of_words(terms.twice_s(), 2);
-        let below_charge = Ratio::of_words(terms.below_charge(), 1);
+        let s = Ratio::of_words(terms.s(), WHOLE);
+        let below_charge = Ratio::of_words(terms.below_charge(), WHOLE);
         Self {
             gain: scale.times(&below_charge.plus(&s.times(at_attachment))),
             loss: scale.times(&s.times(at_detachment)),
@@ -66,13 +67,12 @@ impl Ends {
     /// e^(-q) lies between 1/Up and 1/Low. The upper end takes the larger bound for e^(-l/s) and the smaller for
     /// e^(-u/s); the lower end takes them the other way round.
     pub fn new(terms: &Terms, k: u64) -> Option<Self> {
-        let twice_s = terms.twice_s();
-        let admitted = |distance: u64| (k + 2) * twice_s >= 2 * (2 * distance); // k + 2 >= 2q, q = 2 x distance / 2s
+        let admitted = |distance: u64| (k + 2) * terms.s() >= 2 * distance; // k + 2 >= 2q, q = distance / s
         if !(admitted(terms.l()) && admitted(terms.u())) {
             return None;
         }
-        let (low_l, up_l) = low_and_up(2 * terms.l(), twice_s, k);
-        let (low_u, up_u) = low_and_up(2 * terms.u(), twice_s, k);
+        let (low_l, up_l) = low_and_up(terms.l(), terms.s(), k);
+        let (low_u, up_u) = low_and_up(terms.u(), terms.s(), k);
         Some(Self {
             upper: End::new(terms, &low_l.inverse(), &up_u.inverse()),
             lower: End::new(terms, &up_l.inverse(), &low_u.inverse()),

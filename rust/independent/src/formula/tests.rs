@@ -10,14 +10,14 @@ fn ordinary(charge: u64, attachment: u64, detachment: u64) -> Terms {
         charge,
         attachment,
         detachment,
-        parameter_halves: 2,
+        parameter: 1_000_000,
     }
 }
 
 /// The terms of an STC deal.
 fn stc(charge: u64, attachment: u64, detachment: u64) -> Terms {
     Terms {
-        parameter_halves: 1,
+        parameter: 500_000,
         ..ordinary(charge, attachment, detachment)
     }
 }
@@ -25,7 +25,7 @@ fn stc(charge: u64, attachment: u64, detachment: u64) -> Terms {
 /// The terms of a re-securitisation.
 fn resecuritisation(charge: u64, attachment: u64, detachment: u64) -> Terms {
     Terms {
-        parameter_halves: 3,
+        parameter: 1_500_000,
         ..ordinary(charge, attachment, detachment)
     }
 }
@@ -85,15 +85,15 @@ fn next_number(state: &mut u64) -> u64 {
 }
 
 /// Terms of every kind whose exponent u/s is at most `most`: large and small charges, A below, at and above K, whole
-/// thickness down to one millionth, all three parameters.
+/// thickness down to one millionth, the three parameters of SEC-SA and some of SEC-IRBA.
 fn varied_terms(count: u64, most: u64) -> Vec<Terms> {
     let mut state = 0x9E37_79B9_7F4A_7C15;
     let mut terms = Vec::new();
     for round in 0..count {
         let mut below = |limit: u64| next_number(&mut state) % limit;
         let charge = 1 + below([999_999, 100_000, 1_000, 30, 1][round as usize % 5]);
-        let parameter_halves = 1 + round % 3;
-        let reach = (1_000_000 - charge).min(charge * parameter_halves * most / 2);
+        let parameter = [500_000, 1_000_000, 1_500_000, 300_000, 300_001 + below(3_450_000)][round as usize % 6 % 5];
+        let reach = (1_000_000 - charge).min(charge * parameter * most / 1_000_000);
         let detachment = charge + 1 + below(reach);
         let attachment = match round % 7 {
             0 => 0,
@@ -107,7 +107,7 @@ fn varied_terms(count: u64, most: u64) -> Vec<Terms> {
             charge,
             attachment,
             detachment,
-            parameter_halves,
+            parameter,
         });
     }
     terms
@@ -144,7 +144,7 @@ fn edge_terms() -> Vec<Terms> {
 fn agrees_with_series(terms: &Terms) {
     let quick = raw_weights(terms);
     let near = quick[0].saturating_sub(3)..=quick[0] + 3;
-    let first = (4 * terms.u()).div_ceil(terms.twice_s()); // k + 2 >= 2q
+    let first = (2 * terms.u()).div_ceil(terms.s()); // k + 2 >= 2q
     for added in [0, 4, 30, 60, 120] {
         let ends = Ends::new(terms, first + added).expect("k is admitted");
         let slow: Vec<u64> = near.clone().filter(|&weight| ends.pass(weight)).collect();
@@ -175,10 +175,10 @@ fn quick_decision_agrees_with_series() {
 fn agrees_with_bound(terms: &Terms) {
     let j = 160;
     let lowest = raw_weights(terms)[0];
-    let (low_l, up_l) = low_and_up(2 * terms.l(), terms.twice_s(), j);
-    let (low_u, _) = low_and_up(2 * terms.u(), terms.twice_s(), j);
+    let (low_l, up_l) = low_and_up(terms.l(), terms.s(), j);
+    let (low_u, _) = low_and_up(terms.u(), terms.s(), j);
     let zero = Ratio::of_words(0, 1);
-    let admitted = (j + 2) * terms.twice_s() >= 4 * terms.l();
+    let admitted = (j + 2) * terms.s() >= 2 * terms.l();
     let least_l = if admitted { up_l.inverse() } else { zero.clone() };
     let upper = End::new(terms, &low_l.inverse(), &zero);
     let lower = End::new(terms, &least_l, &low_u.inverse());
@@ -243,12 +243,12 @@ fn more_precision_changes_nothing() {
 fn rounding_down_falls_short() {
     let terms = ordinary(500_000, 600_000, 600_001);
     let rounded_down = |distance: u64, bits: u64| {
-        let exponential = decay::<3>(2 * distance, terms.twice_s()).low;
+        let exponential = decay::<3>(distance, terms.s()).low;
         u128::from(exponential.times(1 << bits).rounded_down()) << (60 - bits)
     };
     let difference = rounded_down(terms.l(), 32) - rounded_down(terms.u(), 60);
-    let factor = u128::from(HIGHEST_WEIGHT / 2 * terms.twice_s());
-    let misread = (difference * factor).div_ceil(u128::from(terms.thickness()) << 60);
+    let t = u128::from(WHOLE / HIGHEST_WEIGHT * terms.thickness());
+    let misread = (difference * u128::from(terms.s())).div_ceil(t << 60);
     assert!(misread + 1 < raw_weights(&terms)[0].into());
     assert!(misread + 100 > raw_weights(&terms)[0].into());
 }
