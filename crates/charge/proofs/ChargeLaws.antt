@@ -1,12 +1,14 @@
--- The pool charge at its ends: above the limit of 5% unknown exposure, where the status of every row is known, and where no row is delinquent.
--- No axioms.
+-- The pool charge at its ends: above the limit of 5% unknown exposure, where the status of every row is known, and where no row is delinquent; under approach 3 what it
+-- reads, and the average. No axioms.
 use mathlib.Core.Bool.{false}
-use mathlib.Core.Path.{_≡_, ap}
+use mathlib.Core.Path.{_≡_, refl, ap}
 use Prim.Native.Nat.{_+_, _*_, _-_, _≤_}
 use native.Mathlib.Omega.{arith}
 use borrow.Author.Tests.{le-leb}
 use Rattle.numbers.proofs.RoundingLaws.{rounded-up-is, rounded-up-zero}
 use Rattle.charge.specs.PoolCharge.{baseCharge, lateShare, knownCharge, unknownExposure, mostlyKnown, poolCharge}
+use Rattle.irba.specs.declared.IrbFigures.{IrbFigures}
+use Rattle.charge.specs.Figures.{mixedFigures}
 use Rattle.charge.specs.declared.Sums.{Sums}
 use Rattle.charge.specs.declared.Totals.{Totals}
 
@@ -32,3 +34,13 @@ none-late q none =
     let share : lateShare q ≡ 0 = rw none (rounded-up-zero (q .known .nominal)) in
     rounded-up-is ((1000000 - lateShare q) * baseCharge (q .known) + 500000 * lateShare q) 1000000 (baseCharge (q .known)) (omega arith)
     (rw share (omega arith)) (rw share (omega arith))
+
+-- ---- approach 3
+
+-- "late payers play no part", nor does which rows are known: two pools of the same totals over all rows have the same charge
+pub status-plays-no-part : (f : IrbFigures) (q q′ : Sums) → q′ .all ≡ q .all → mixedFigures f q′ .charge ≡ mixedFigures f q .charge
+status-plays-no-part f q q′ same = rw same
+
+-- "the IRB average takes the place of the pool average in the cap"
+pub irba-average : (f : IrbFigures) (q : Sums) → mixedFigures f q .average ≡ f .average
+irba-average f q = refl

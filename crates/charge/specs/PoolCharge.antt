@@ -1,6 +1,6 @@
--- 01, "Points and pool charge" (d374 paragraphs 79 and 80 for the base charge, 81 to 83 for delinquency and unknown status), and 02, S-5 (source document 000, paragraph 9,
--- and d374 paragraph 47 for mixed pools): the pool charge, from the pool's sums; and the average risk weight of "Which approach, then floor, then cap". Shares and charges are counted in millionths, amounts in whole
--- currency units, risk weights of rows in percent and their average in hundredths of a percent.
+-- 01, "Points and pool charge" (d374 paragraphs 79 and 80 for the base charge, 81 to 83 for delinquency and unknown status), and 02, S-5 (source document 000, paragraph 14,
+-- and d374 paragraph 47 for mixed pools): the pool charge, from the pool's sums; and the average risk weight of "Which approach, then floor, then cap". Shares and charges
+-- are counted in millionths, amounts in whole currency units, risk weights of rows in percent and their average in hundredths of a percent.
 use mathlib.Core.Bool.{Bool, cond}
 use Prim.Native.Nat.{ℕ, _+_, _*_, _-_}
 use lib.Dec.{leb}

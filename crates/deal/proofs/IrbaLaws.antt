@@ -20,7 +20,8 @@ use Rattle.judgement.specs.Refusals.{judged}
 use Rattle.judgement.specs.declared.Verdict.the-variants.{Sound}
 use Rattle.judgement.proofs.SheetLimits.{irb-loans-within}
 use Rattle.pool.specs.PoolSums.{poolSums}
-use Rattle.weights.specs.ApproachFloorCap.{parameter}
+use Rattle.weights.specs.ApproachFloorCap.{approach, parameter}
+use Rattle.weights.proofs.WeightLaws.{irba-approach, irba-parameter-is}
 use Rattle.deal.specs.Lines.{terms, tranche}
 use Rattle.deal.proofs.TermsLaws.{charge-at-most-million}
 
@@ -70,6 +71,10 @@ irba-ordinary s by =
     let deal = both-true (dueDiligence s) (not (resecuritisation s)) (pool .0) in
     (deal .0, not-true (resecuritisation s) (deal .1))
 
+-- and then every tranche is under it: "ratings and late payers play no part"
+pub irba-for-all : (s : List ℕ) (i : ℕ) → terms s .irba ≡ true → approach (tranche s i) (terms s) ≡ 3
+irba-for-all s i by = irba-approach (tranche s i) (terms s) (irba-ordinary s by .0) (irba-ordinary s by .1) by
+
 -- it applies to no sheet without the section
 pub irba-has-section : (s : List ℕ) → terms s .irba ≡ true → hasIrb s ≡ true
 unfolding terms layout
@@ -98,7 +103,7 @@ unfolding tranche terms layout
 read-parameter s i = refl
 
 pub irba-parameter : (s : List ℕ) (i : ℕ) → terms s .irba ≡ true → parameter (tranche s i) (terms s) ≡ irbaParameterOf s i
-irba-parameter s i by = rw (irba-ordinary s by .1, by) (read-parameter s i)
+irba-parameter s i by = irba-parameter-is (tranche s i) (terms s) (irba-ordinary s by .1) by ∙ read-parameter s i
 
 fifths-most : (n : ℕ) → maturityFifths n ≤ 300
 fifths-most n = omega arith

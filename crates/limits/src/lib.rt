@@ -25,8 +25,11 @@ pub const IRB_SIZE: usize = 6;
 pub const LINE_SIZE: usize = 6;
 
 // The most words that a sheet has: four counts, facts, pool rows, tranches and the IRB section.
-pub const WORD_LIMIT: usize =
-    4 + FACTS_MOST + ROW_SIZE * ROWS_MOST + TRANCHE_SIZE * TRANCHES_MOST + IRB_SIZE * IRB_ROWS;
+pub const WORD_LIMIT: usize = 4
+    + FACTS_MOST
+    + ROW_SIZE * ROWS_MOST
+    + TRANCHE_SIZE * TRANCHES_MOST
+    + IRB_SIZE * IRB_ROWS;
 
 // The most bytes that a sheet's file has, eight for each word.
 pub const BYTE_LIMIT: usize = 8 * WORD_LIMIT;

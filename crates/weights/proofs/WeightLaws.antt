@@ -15,6 +15,7 @@ use Rattle.formula.specs.Formula.{WithinLimits}
 use Rattle.formula.specs.FixedPoint.{withinLimits, rawWeight}
 use Rattle.formula.proofs.RawWeightLaw.{raw-weight-is}
 use Rattle.formula.proofs.Limits.{limits-of-test}
+use Rattle.irba.specs.Parameter.{parameter as irbaParameter}
 use Rattle.irba.specs.declared.IrbFigures.{IrbFigures}
 use Rattle.irba.proofs.ParameterLimits.{parameter-least, parameter-most}
 use Rattle.ratings.specs.RatingTable.{maturityFifths, ordinaryFigures, figuresOf, pick, weightByRatings}
@@ -91,6 +92,15 @@ resecuritisation-first t d e = (simp e, simp e)
 
 -- ---- SEC-IRBA
 
+-- where it applies to an ordinary deal, due diligence being held, every tranche is under it, whatever its ratings and the status of the pool's rows, with its own parameter
+pub irba-approach : (t : Tranche) (d : Terms) → d .diligence ≡ true → d .resecuritisation ≡ false → d .irba ≡ true → approach t d ≡ 3
+irba-approach t d held ordinary by = rw (held, ordinary, by)
+
+pub irba-parameter-is :
+    (t : Tranche) (d : Terms) → d .resecuritisation ≡ false → d .irba ≡ true →
+    parameter t d ≡ irbaParameter (t .senior) (d .stc) (d .charge) (maturityFifths (t .months)) (d .irb)
+irba-parameter-is t d ordinary by = rw (ordinary, by)
+
 -- S-5: "ratings ... play no part": two tranches of the same points and months, both senior or neither, have the same approach and weight
 pub ratings-not-used-by-irba :
     (t t′ : Tranche) (d : Terms) → d .irba ≡ true → t′ .attachment ≡ t .attachment → t′ .detachment ≡ t .detachment →
@@ -131,9 +141,10 @@ parameter-within t d =
     (λ _. (omega arith, omega arith))
     (λ _.
     at-cond (λ p. (300000 ≤ p) × (p < 5000000)) (d .irba) _ _
-    (λ _.
-    (parameter-least (t .senior) (d .stc) (d .charge) (maturityFifths (t .months)) (d .irb),
-    parameter-most (t .senior) (d .stc) (d .charge) (maturityFifths (t .months)) (d .irb)))
+    (λ _. (
+      parameter-least (t .senior) (d .stc) (d .charge) (maturityFifths (t .months)) (d .irb),
+      parameter-most (t .senior) (d .stc) (d .charge) (maturityFifths (t .months)) (d .irb),
+    ))
     (λ _.
     at-cond (λ p. (300000 ≤ p) × (p < 5000000)) (d .stc) _ _
     (λ _. (omega arith, omega arith))

@@ -118,13 +118,8 @@ fn parameter(t: Tranche, d: Terms) -> u64
         return Resecuritisation::PARAMETER;
     }
     if d.irba {
-        return irba::parameter(
-            t.senior,
-            d.stc,
-            d.charge,
-            ratings::maturity_fifths(t.months),
-            d.irb,
-        );
+        let fifths = ratings::maturity_fifths(t.months);
+        return irba::parameter(t.senior, d.stc, d.charge, fifths, d.irb);
     }
     if d.stc {
         return Stc::PARAMETER;
