@@ -4,11 +4,11 @@
 use mathlib.Core.Bool.{Bool, true, false, cond}
 use mathlib.Core.List.{List, _∷_, map}
 use mathlib.Core.Logic.{⊎-elim}
-use mathlib.Core.Path.{_≡_, refl, _∙_}
+use mathlib.Core.Path.{_≡_, refl, sym, _∙_}
 use Prim.Native.Nat.{ℕ, _-_, _≤_, _<_}
 use native.Mathlib.Nat.{eq-zero-or-pos, le-refl}
 use native.Mathlib.Omega.{arith}
-use lib.Dec.{eqb}
+use lib.Dec.{ltb, eqb}
 use borrow.Author.Tests.{ltb-false, eqb-true, eq-eqb, ne-eqb}
 use Rattle.numbers.proofs.Tests.{at-cond, cond-le, either-true}
 use Rattle.formula.specs.Formula.{WithinLimits}
@@ -237,10 +237,13 @@ pick-then-floor-and-cap t d = pick-of-rising (afterFloorAndCap t d) (after-floor
 
 -- ---- thickness
 
--- a tranche of no thickness that is not too thin for the formula is not above the pool charge
+-- under the formula a tranche of no thickness is too thin where it is above the pool charge
+pub thin-above-charge :
+    (t : Tranche) (d : Terms) → byFormula t d ≡ true → t .attachment ≡ t .detachment → thin t d ≡ ltb (d .charge) (t .detachment)
+unfolding thin
+thin-above-charge t d by same = simp (by, eq-eqb (t .attachment) (t .detachment) same)
+
+-- so one that is not too thin is not above it
 pub thick-where :
     (t : Tranche) (d : Terms) → byFormula t d ≡ true → t .attachment ≡ t .detachment → thin t d ≡ false → t .detachment ≤ d .charge
-unfolding thin
-thick-where t d by same e =
-    let last = rw (by, eq-eqb (t .attachment) (t .detachment) same) at e in
-    omega (arith, ltb-false, last)
+thick-where t d by same e = ltb-false (d .charge) (t .detachment) (sym (thin-above-charge t d by same) ∙ e)

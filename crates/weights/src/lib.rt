@@ -209,15 +209,15 @@ pub fn weight(t: Tranche, d: Terms) -> u64
     after_floor_and_cap(t, d, table_weight(t, d))
 }
 
-// Whether the formula applies to a tranche of no thickness above the pool charge.
+// Whether the formula applies to a tranche of no thickness above the pool charge. The thickness is asked first: most tranches have one, and need no approach here.
 pub fn is_thin(t: Tranche, d: Terms) -> bool
     ensures { λ r. ⌜ r ≡ thin t d ⌝ }
 {
-    if !formula_approach(approach(t, d)) {
-        return false;
-    }
     if t.attachment != t.detachment {
         return false;
     }
-    d.charge < t.detachment
+    if t.detachment <= d.charge {
+        return false;
+    }
+    formula_approach(approach(t, d))
 }
