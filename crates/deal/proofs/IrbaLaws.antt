@@ -1,5 +1,5 @@
--- Approach 3: to which deals it applies, which charge and average they have and which the others, that its parameter is read of the sheet, and what it is: of no accepted
--- sheet are the figures outside the limits of the parameter. No axioms.
+-- Approach 3: to which deals it applies, which charge and average they have and which the others, that its parameter is read of the sheet, and what it is: of no
+-- accepted sheet under it are the figures outside the limits of the parameter. No axioms.
 use mathlib.Core.Bool.{Bool, true, false, not, _&&_}
 use mathlib.Core.List.{List}
 use mathlib.Core.Path.{_≡_, refl, sym, _∙_}
@@ -8,7 +8,7 @@ use native.Mathlib.Omega.{arith}
 use lib.Dec.{eqb}
 use borrow.Author.Tests.{not-true, not-false, ne-eqb, lt-leb, le-leb, eqb-true}
 use Rattle.numbers.proofs.Tests.{both-true, within-is}
-use Rattle.irba.specs.IrbPool.{irbPool, irbaApplies}
+use Rattle.irba.specs.IrbaDeals.{coversPool, irbaApplies}
 use Rattle.irba.specs.Parameter.{withinLimits, parameter as irbaParameter}
 use Rattle.irba.specs.ParameterMeans.{IsParameter}
 use Rattle.irba.specs.declared.IrbFigures.{IrbFigures}
@@ -67,7 +67,7 @@ other-charge s by = (rw by, rw by)
 pub irba-ordinary : (s : List ℕ) → terms s .irba ≡ true → (terms s .diligence ≡ true) × (terms s .resecuritisation ≡ false)
 unfolding terms layout
 irba-ordinary s by =
-    let pool = both-true (dueDiligence s && not (resecuritisation s)) (irbPool (poolKind s) (irbFigures s .share)) by in
+    let pool = both-true (dueDiligence s && not (resecuritisation s)) (coversPool (poolKind s) (irbFigures s .share)) by in
     let deal = both-true (dueDiligence s) (not (resecuritisation s)) (pool .0) in
     (deal .0, not-true (resecuritisation s) (deal .1))
 

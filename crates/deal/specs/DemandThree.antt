@@ -1,5 +1,5 @@
--- 01, "The formula and its series", demand 3: what the results hold for every accepted SEC-SA tranche with K at least 1 and D above K, where the rules
--- leave the raw weight open. The parameter is the deal's own; S-1 of 02 for STC deals: "The exact value is then taken with 0.5." S-5: "what demand 3 and 01 say of SEC-SA lines
+-- 01, "The formula and its series", demand 3: what the results hold for every accepted tranche by the formula with K at least 1 and D above K, where the rules
+-- leave the raw weight open. The parameter is that of the tranche and its deal; S-1 of 02 for STC deals: "The exact value is then taken with 0.5." S-5: "what demand 3 and 01 say of SEC-SA lines
 -- holds for approach 3 lines too", and "the exact value read[s] this charge and parameter".
 use mathlib.Core.Bool.{true}
 use mathlib.Core.List.{List}

@@ -8,7 +8,7 @@ use Rattle.numbers.specs.Rounding.{roundedUp}
 use Rattle.weights.specs.ApproachFloorCap.{approach, weight}
 use Rattle.weights.specs.declared.Terms.{Terms}
 use Rattle.weights.specs.declared.Tranche.{Tranche}
-use Rattle.irba.specs.IrbPool.{irbaApplies}
+use Rattle.irba.specs.IrbaDeals.{irbaApplies}
 use Rattle.charge.specs.Figures.{poolFigures, mixedFigures}
 use Rattle.charge.specs.declared.Figures.{Figures}
 use Rattle.charge.specs.declared.Sums.{Sums}

@@ -4,7 +4,7 @@ use mathlib.Core.Bool.{Bool, true, false}
 use mathlib.Core.Path.{_≡_, refl}
 use Prim.Native.Nat.{ℕ}
 use Rattle.irba.specs.declared.IrbFigures.{IrbFigures}
-use Rattle.irba.specs.IrbPool.{irbaApplies}
+use Rattle.irba.specs.IrbaDeals.{irbaApplies}
 use Rattle.irba.specs.Parameter.{sumParameter, parameter}
 
 -- the figures that the parameter reads; the others have values that it must not read

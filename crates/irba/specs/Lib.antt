@@ -1,4 +1,4 @@
-pub mod IrbPool
+pub mod IrbaDeals
 pub mod Parameter
 pub mod ParameterMeans
 pub mod SmallCoefficients

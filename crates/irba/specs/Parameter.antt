@@ -74,11 +74,11 @@ sumParameter senior stc charge fifths f =
 
 -- ---- the parameter on all inputs
 
--- charge and loss of at most 1, a tranche maturity of at most five years, and 1 to 10^6 loans, as every sheet with good words has them
+-- charge and loss of at most 1, a tranche maturity of at most five years, and 1 to 10^6 loans, as every sheet with good words and an IRB section has them
 abbrev pub withinLimits : ℕ → ℕ → IrbFigures → Bool
 withinLimits charge fifths f =
     leb charge 1000000 && leb fifths 300 && leb (f .loss) 1000000 && within 1 1000000 (f .loans)
 
--- within the limits the sum's; outside them, where no sheet's figures are, the highest that the formula takes, so that nobody gets one that is too low
+-- within the limits the sum's; outside them, where no such sheet's figures are, the highest that the formula takes, so that nobody gets one that is too low
 unfoldable pub parameter : Bool → Bool → ℕ → ℕ → IrbFigures → ℕ
 parameter senior stc charge fifths f = cond (withinLimits charge fifths f) (sumParameter senior stc charge fifths f) 4999999

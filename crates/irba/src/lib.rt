@@ -5,7 +5,7 @@ ghost use mathlib.Core.Path.{_≡_};
 ghost use Prim.Native.Nat.{_*_, _≤_, _<_};
 ghost use lib.IntN.{pos, _+ℤ_, _*ℤ_};
 ghost use lib.Signed.{mag};
-ghost use Rattle.irba.specs.IrbPool.{irbPool, irbaApplies};
+ghost use Rattle.irba.specs.IrbaDeals.{coversPool, irbaApplies};
 ghost use Rattle.irba.specs.Parameter.{wholesaleSenior, wholesaleNonSenior, retailPool, coefficients, signedSum, denominator, signedRoundedUp, raisedTo, withinLimits, parameter};
 ghost use Rattle.irba.specs.SmallCoefficients.{SmallTerm, SmallCoefficients};
 use numbers::rounded_up;
@@ -34,7 +34,7 @@ struct Coefficients {
 // 1 in the units of shares, charges and losses, millionths.
 const MILLION: u64 = 1000000;
 
-// A mixed pool counts as an IRB pool from this share on.
+// SEC-IRBA covers a mixed pool from this share on.
 const LEAST_SHARE: u64 = 950000;
 
 // A pool of fewer loans has coefficients of its own.
@@ -46,9 +46,9 @@ const LEAST: i64 = 300000;
 // The highest parameter that the formula takes.
 const HIGHEST: u64 = 4999999;
 
-// Whether the pool counts as an IRB pool: kind 1, or kind 2 with a share that is large enough.
-fn irb_pool(kind: u64, share: u64) -> bool
-    ensures { λ r. ⌜ r ≡ irbPool kind share ⌝ }
+// Whether SEC-IRBA covers the pool: kind 1, or kind 2 with a share that is large enough.
+fn covers_pool(kind: u64, share: u64) -> bool
+    ensures { λ r. ⌜ r ≡ coversPool kind share ⌝ }
 {
     if kind == 1 {
         return true;
@@ -59,7 +59,7 @@ fn irb_pool(kind: u64, share: u64) -> bool
     LEAST_SHARE <= share
 }
 
-// Whether SEC-IRBA applies to a deal: due diligence is held, it is no re-securitisation, and its pool counts as an IRB pool.
+// Whether SEC-IRBA applies to a deal: due diligence is held, it is no re-securitisation, and SEC-IRBA covers its pool.
 pub fn applies(diligence: bool, resecuritised: bool, kind: u64, share: u64) -> bool
     ensures { λ r. ⌜ r ≡ irbaApplies diligence resecuritised kind share ⌝ }
 {
@@ -69,7 +69,7 @@ pub fn applies(diligence: bool, resecuritised: bool, kind: u64, share: u64) -> b
     if resecuritised {
         return false;
     }
-    irb_pool(kind, share)
+    covers_pool(kind, share)
 }
 
 // The coefficients for the senior class of a wholesale pool, by whether its loans are few.
@@ -225,7 +225,7 @@ fn within_limits(charge: u64, fifths: u64, f: IrbFigures) -> bool
 }
 
 // The supervisory parameter of SEC-IRBA in millionths, from the class, the pool's charge, the tranche's maturity in fifths of a month and the pool's figures; the
-// highest where these are outside their limits, which no sheet's are, so that no caller gets one that is too low.
+// highest where these are outside their limits, which those of no sheet with an IRB section are, so that no caller gets one that is too low.
 pub fn parameter(senior: bool, stc: bool, charge: u64, fifths: u64, f: IrbFigures) -> u64
     ensures { λ r. ⌜ r ≡ parameter senior stc charge fifths f ⌝ }
 {

@@ -191,7 +191,7 @@ accepted-words s g =
 pub sheet-within : (s : List ℕ) → WordsGood s → length s ≤ wordLimit
 sheet-within s g = omega (arith, g .none-follows, needed-at-most s (good-judged s (needed s) (g .good)))
 
--- ---- the numbers: no word's fault has the number 13 or 14, and so no refusal by the words has
+-- ---- the numbers: no word's fault has the number 12, 13 or 14, and so no refusal by the words has
 
 pub fault-number : (s : List ℕ) (p : ℕ) → WordNumber (fault s p)
 unfolding fault
@@ -213,6 +213,6 @@ words-number s r (first-bad b) = at-place (b .here)
   where
     at-place : BadHere s r → WordNumber (r .number)
     at-place (bad w) = rw (← (w .fault-is)) (fault-number s (r .place))
-    at-place (missing number place) = record { not-thin = λ e. omega arith; not-room = λ e. omega arith }
+    at-place (missing number place) = record { not-pool-kind = λ e. omega arith; not-thin = λ e. omega arith; not-room = λ e. omega arith }
 words-number s r (words-follow w) =
-    record { not-thin = λ e. omega (arith, w .number-is); not-room = λ e. omega (arith, w .number-is) }
+    record { not-pool-kind = λ e. omega (arith, w .number-is); not-thin = λ e. omega (arith, w .number-is); not-room = λ e. omega (arith, w .number-is) }

@@ -1,5 +1,5 @@
 -- 01, "The deal sheet", and 02, S-1, for the fifth fact, S-3, for the sixth and for maturities, and S-5, for the fourth section: where each word of a sheet stands. Places are counted from 0. A
--- count is read as it stands, however wrong: a wrong count is itself the first fault of its sheet (Refusals.antt).
+-- count is read as it stands, however wrong: a wrong count is itself the first fault of its sheet (Refusals.antt). The fourth section has one row, whatever its count says.
 use mathlib.Core.Bool.{Bool, cond, not}
 use mathlib.Core.List.{List}
 use Prim.Native.Nat.{ℕ, _+_, _*_}
@@ -140,7 +140,7 @@ irbFigures s = record {
   average = irbWord s 5;
 }
 
--- ---- how many words the sheet needs by its counts: all up to the end of its last section. Proofs go by the order of the sections in it (NeededLaws.antt).
+-- ---- how many words the sheet needs by its counts and its pool's kind: all up to the end of its last section. Proofs go by the order of the sections in it (NeededLaws.antt).
 
 -- the words of the fourth section with its count
 abbrev pub irbWords : List ℕ → ℕ

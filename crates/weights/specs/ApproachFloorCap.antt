@@ -1,5 +1,5 @@
 -- 01, "Which approach, then floor, then cap", and 02, S-1, "STC deals", and S-5, "SEC-IRBA" (d374 paragraph 31 for due diligence, 42 to 47 for the order of approaches, which
--- CRE40.41 to CRE40.47 give; 85 and 94 for the parameter, 87 and 96 for the floor, 88, 89 and 97 for the cap; CRE42.14 for the floors of STC deals): approach
+-- CRE40.41 to CRE40.47 give; 56, 85, 94, 115 and 118 for the parameter, 64, 87, 96 and 114 for the floor, 88, 89 and 97 for the cap; CRE42.14 for the floors of STC deals): approach
 -- and weight of a tranche, as functions of the tranche's own inputs and of the deal's terms alone. Weights are counted in hundredths of a percent.
 use mathlib.Core.Bool.{Bool, cond, not, _&&_, _||_}
 use mathlib.Core.Option.{Option·getD}
@@ -21,7 +21,7 @@ abbrev pub rated : Tranche → Bool
 rated t = present (t .first) || present (t .second) || present (t .third)
 
 -- 0 fallback, 1 SEC-ERBA, 2 SEC-SA, 3 SEC-IRBA. "In order: no due diligence, fallback. Re-securitisation, SEC-SA. Any of the tranche's three ratings present,
--- SEC-ERBA. Unknown above 5%, fallback. Else SEC-SA." S-5: where SEC-IRBA applies to the deal (`irbaApplies`, IrbPool.antt of `irba`), "approach 3: ... ratings and late payers
+-- SEC-ERBA. Unknown above 5%, fallback. Else SEC-SA." S-5: where SEC-IRBA applies to the deal (`irbaApplies`, IrbaDeals.antt of `irba`), "approach 3: ... ratings and late payers
 -- play no part"
 abbrev pub approach : Tranche → Terms → ℕ
 approach t d =

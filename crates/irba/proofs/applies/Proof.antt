@@ -10,11 +10,11 @@ returns c = simp (not-true (c .before .args .diligence) (c .if1 .taken))
 returns-2 : tie.Need-returns-2
 returns-2 c = simp (not-false (c .before .before .args .diligence) (c .before .if1 .left), c .if2 .taken)
 
-irb-pool-requires : tie.Need-irb-pool-requires
-irb-pool-requires c κs = search needs
+covers-pool-requires : tie.Need-covers-pool-requires
+covers-pool-requires c κs = search needs
 
 returns-3 : tie.Need-returns-3
-returns-3 c = simp (not-false (c .before .before .before .args .diligence) (c .before .before .if1 .left), c .before .if2 .left, c .irb-pool .ensures)
+returns-3 c = simp (not-false (c .before .before .before .args .diligence) (c .before .before .if1 .left), c .before .if2 .left, c .covers-pool .ensures)
 
 pub applies-spec : {M : Type 1} → statement M
-applies-spec = tie.close (tie.spec returns returns-2 irb-pool-requires returns-3)
+applies-spec = tie.close (tie.spec returns returns-2 covers-pool-requires returns-3)

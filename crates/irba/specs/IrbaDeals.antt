@@ -4,9 +4,9 @@ use Prim.Native.Nat.{ℕ}
 use lib.Dec.{leb, eqb}
 
 -- "Kind 2 below 950,000 goes on as an SA pool.": the kinds of pool are 0 SA, 1 IRB, 2 mixed, and the share is that of exposure with an IRB charge, in millionths
-abbrev pub irbPool : ℕ → ℕ → Bool
-irbPool kind share = eqb kind 1 || (eqb kind 2 && leb 950000 share)
+abbrev pub coversPool : ℕ → ℕ → Bool
+coversPool kind share = eqb kind 1 || (eqb kind 2 && leb 950000 share)
 
 -- "Otherwise, given due diligence and an ordinary deal, approach 3"; "A re-securitisation keeps SEC-SA."
 abbrev pub irbaApplies : Bool → Bool → ℕ → ℕ → Bool
-irbaApplies diligence resecuritised kind share = diligence && not resecuritised && irbPool kind share
+irbaApplies diligence resecuritised kind share = diligence && not resecuritised && coversPool kind share

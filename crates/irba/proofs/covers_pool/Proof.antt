@@ -1,7 +1,7 @@
--- `irb_pool`: each return by the tests that led there. No axioms.
+-- `covers_pool`: each return by the tests that led there. No axioms.
 use borrow.Author.Tests.{eq-eqb, ne-eqb}
-use Rattle.irba.proofs.irb_pool.Statement.{statement}
-use Rattle.irba.proofs.irb_pool.Tie as tie
+use Rattle.irba.proofs.covers_pool.Statement.{statement}
+use Rattle.irba.proofs.covers_pool.Tie as tie
 
 returns : tie.Need-returns
 returns c = simp (eq-eqb _ _ (c .if1 .taken))
@@ -12,5 +12,5 @@ returns-2 c = simp (ne-eqb _ _ (c .before .if1 .left), ne-eqb _ _ (c .if2 .taken
 returns-3 : tie.Need-returns-3
 returns-3 c = simp (ne-eqb _ _ (c .before .if1 .left), eq-eqb _ _ (c .if2 .left))
 
-pub irb-pool-spec : {M : Type 1} → statement M
-irb-pool-spec = tie.close (tie.spec returns returns-2 returns-3)
+pub covers-pool-spec : {M : Type 1} → statement M
+covers-pool-spec = tie.close (tie.spec returns returns-2 returns-3)
