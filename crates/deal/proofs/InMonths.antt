@@ -18,7 +18,7 @@ use Rattle.judgement.specs.declared.Verdict.the-variants.{Sound}
 use Rattle.judgement.proofs.GoodSheetLaw.{good-sheet, good-sheet-words}
 use Rattle.judgement.proofs.JudgedLaws.{words-accepted, accepted-words}
 use Rattle.judgement.proofs.NeededLaws.{tranches-at-past-rows, irb-at-past-tranches}
-use Rattle.judgement.proofs.SameLayout.{SameCounts, same-counts, same-irb-at, same-needed, SameFacts, same-facts, same-irb-figures}
+use Rattle.judgement.proofs.SameLayout.{SameCounts, same-counts, same-irb-at, same-needed, SameFacts, same-facts, same-irb-figures, same-good-row}
 use Rattle.pool.specs.PoolSums.{poolSums}
 use Rattle.pool.proofs.SameSums.{same-sums-in-order}
 use Rattle.deal.specs.Lines.{terms, tranche}
@@ -108,15 +108,7 @@ module _ (s s′ : List ℕ) (r : InMonths s s′) (words : wordsVerdict s ≡ S
 
   row-in-months : (i : ℕ) → i < rows s → GoodRowOf s′ i
   row-in-months i row =
-      rw (
-        facts .same-resecuritisation,
-        counts .pool-at,
-        simp add-zero at (same-row-word i 0 row (omega arith)),
-        same-row-word i 1 row (omega arith),
-        same-row-word i 2 row (omega arith),
-        same-row-word i 3 row (omega arith),
-      )
-      (good .each-row i row)
+      same-good-row s s′ i (facts .same-resecuritisation) (counts .pool-at) (λ c column. same-row-word i c row column) (good .each-row i row)
 
   -- a tranche's words stay good where its maturity is its months and there is no reporting date
   by-months : (i : ℕ) → i < trancheCount s → GoodTranche 0 (amount s i) (months s i) (held s i) (firstRating s i) (secondRating s i) (thirdRating s i)

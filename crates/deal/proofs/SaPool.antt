@@ -17,7 +17,7 @@ use Rattle.judgement.specs.declared.Verdict.the-variants.{Sound}
 use Rattle.judgement.proofs.GoodSheetLaw.{good-sheet, good-sheet-words}
 use Rattle.judgement.proofs.JudgedLaws.{words-accepted, accepted-words}
 use Rattle.judgement.proofs.NeededLaws.{has-no-irb, no-irb-words, needed-is, tranches-at-past-rows, irb-at-past-tranches}
-use Rattle.judgement.proofs.SameLayout.{SameCounts, same-counts, same-irb-at, SameFacts, same-facts, same-reporting-date}
+use Rattle.judgement.proofs.SameLayout.{SameCounts, same-counts, same-irb-at, SameFacts, same-facts, same-reporting-date, same-good-row}
 use Rattle.pool.specs.PoolSums.{poolSums}
 use Rattle.pool.proofs.SameSums.{same-sums-in-order}
 use Rattle.weights.specs.ApproachFloorCap.{thin}
@@ -92,15 +92,7 @@ module _ (s s′ : List ℕ) (r : AsSaPool s s′) (words : wordsVerdict s ≡ S
 
   row-of-sa : (i : ℕ) → i < rows s → GoodRowOf s′ i
   row-of-sa i row =
-      rw (
-        facts .same-resecuritisation,
-        counts .pool-at,
-        simp add-zero at (same-row-word i 0 row (omega arith)),
-        same-row-word i 1 row (omega arith),
-        same-row-word i 2 row (omega arith),
-        same-row-word i 3 row (omega arith),
-      )
-      (good .each-row i row)
+      same-good-row s s′ i (facts .same-resecuritisation) (counts .pool-at) (λ c column. same-row-word i c row column) (good .each-row i row)
 
   tranche-of-sa : (i : ℕ) → i < trancheCount s → GoodTrancheOf s′ i
   tranche-of-sa i row =

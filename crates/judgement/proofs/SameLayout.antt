@@ -1,13 +1,15 @@
--- Two sheets whose counts are the same have their sections at the same places; two whose words before the pool's count are the same have the same facts; and two of the same
--- pool kind whose IRB sections have the same words have the same figures, wherever these words stand. No axioms.
+-- Two sheets whose counts are the same have their sections at the same places; two whose words before the pool's count are the same have the same facts; a pool row of the same
+-- words at the same place stays good; and two of the same pool kind whose IRB sections have the same words have the same figures, wherever these words stand. No axioms.
 use mathlib.Core.List.{List}
 use mathlib.Core.Path.{_≡_, sym, ap, _∙_}
 use Prim.Native.Nat.{ℕ, _+_, _≤_, _<_}
+use native.Mathlib.Nat.{add-zero}
 use native.Mathlib.Omega.{arith}
 use borrow.Author.Tests.{leb-true, leb-false, lt-leb}
 use Rattle.numbers.proofs.Tests.{at-cond}
 use Rattle.limits.specs.SheetSize.{factsLeast}
-use Rattle.judgement.specs.DealSheet.{word, poolKind, resecuritisation, dueDiligence, compositionKnown, hasFact, fact, stc, reportingDate, poolAt, rows, tranchesAt, trancheCount, irbAt, irbPlace, irbFigures, needed}
+use Rattle.judgement.specs.DealSheet.{word, poolKind, resecuritisation, dueDiligence, compositionKnown, hasFact, fact, stc, reportingDate, poolAt, rows, rowAt, tranchesAt, trancheCount, irbAt, irbPlace, irbFigures, needed}
+use Rattle.judgement.specs.GoodSheet.{GoodRowOf}
 use Rattle.judgement.proofs.NeededLaws.{irb-at-past-tranches, needed-is}
 
 pub record SameCounts (s s′ : List ℕ) : Type 0 where
@@ -91,3 +93,19 @@ same-facts s s′ before facts =
 pub same-reporting-date :
     (s s′ : List ℕ) → ((p : ℕ) → (p ≡ 1 → ⊥) → p < poolAt s → word s′ p ≡ word s p) → factsLeast < poolAt s → reportingDate s′ ≡ reportingDate s
 same-reporting-date s s′ before facts = same-listed-fact s s′ 6 (before 0 (λ e. omega arith) (omega arith)) (before 6 (λ e. omega arith))
+
+-- ---- a pool row
+
+pub same-good-row :
+    (s s′ : List ℕ) (i : ℕ) → resecuritisation s′ ≡ resecuritisation s → poolAt s′ ≡ poolAt s →
+    ((c : ℕ) → c < 4 → word s′ (rowAt s i + c) ≡ word s (rowAt s i + c)) → GoodRowOf s i → GoodRowOf s′ i
+same-good-row s s′ i resecuritised place alike good =
+    rw (
+      resecuritised,
+      place,
+      simp add-zero at (alike 0 (omega arith)),
+      alike 1 (omega arith),
+      alike 2 (omega arith),
+      alike 3 (omega arith),
+    )
+    good
