@@ -20,7 +20,8 @@
  * - A later version may add facts, sections, refusals and approaches, and words at the end of a line, and so change the limits and lengths below; it may no longer
  *   give a refusal that is listed here, and it may give a sheet another weight where the rules have changed. A refusal's number, an approach's word and the place of a
  *   word in the line keep their meaning in all versions, and a number that is no longer given is not used again. So a program that goes by the names below, and
- *   takes a refusal or an approach that it does not know for what it is, need only be compiled anew.
+ *   takes a refusal or an approach that it does not know for what it is, need only be compiled anew. The name of a refusal that is no longer given goes with it; a
+ *   program that has it must leave it out.
  * - Each function's name in the archive ends in the version. A header and an archive of two versions do not link: the linker names the function that is missing.
  */
 #ifndef TRANCHE_WEIGHTS_H

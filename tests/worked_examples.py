@@ -5,9 +5,9 @@ Exact fractions, exponentials to a hundred digits, Python's own calendar.
     python3 tests/worked_examples.py | cmp - crates/checked_examples/stdout
 
 Where two raw weights pass, this prints the lower, the exact value rounded up. It fails where a figure of the rating tables is missing from the examples' weights,
-where a case of one, two or three ratings, of dates or of the IRB section is met by no example, where no line of the examples depends on a coefficient of SEC-IRBA,
-where a weight published in source document 004 is not enclosed, or where a deal in dates has other lines than the same deal in months. It needs Python's standard
-library and is no part of the gate.
+where a case of one, two or three ratings, of dates, of the IRB section or of SEC-IRBA is met by no example, where no line of the examples depends on a coefficient
+of SEC-IRBA, where a weight published in source document 004 is not enclosed, or where a deal in dates has other lines than the same deal in months. It needs Python's
+standard library and is no part of the gate.
 """
 import os
 import sys
@@ -115,6 +115,11 @@ def maturity_fault(word, reporting):
 # ---- the sheet, judged word by word
 
 
+def irb_limits(kind):
+    """The least and the most of each word of the IRB section of a pool of this kind."""
+    return Irb((0, MILLION), (0, MILLION), (1, MILLION), (0, 1), (MILLION if kind == IRB_POOL else 0, MILLION), (0, TOP))
+
+
 def judged(words):
     """The deal of a sheet, or the first fault of a word, then 3."""
     place = 0
@@ -153,9 +158,7 @@ def judged(words):
     irb = None
     if kind != SA_POOL:
         take(within(1, 1, 2))
-        share_least = MILLION if kind == IRB_POOL else 0
-        limits = Irb((0, MILLION), (0, MILLION), (1, MILLION), (0, 1), (share_least, MILLION), (0, TOP))
-        irb = Irb(*(take(within(*limit, 18)) for limit in limits))
+        irb = Irb(*(take(within(*limits, 18)) for limits in irb_limits(kind)))
     if place < len(words):
         raise Refused(3, place)
     return Deal(resecuritised, diligence, composition, stc, rows, tranches, irb)
@@ -168,6 +171,11 @@ def point(rows, tranches, counted):
     """What is left of the pool's nominal after the tranches of the classes that count, in millionths, rounded down."""
     nominal = sum(n for _, n, _, _ in rows)
     return max(0, nominal - sum(t[1] for t in tranches if counted(t[2]))) * MILLION // nominal
+
+
+def points(deal, own):
+    """The attachment and the detachment point of a class."""
+    return point(deal.rows, deal.tranches, lambda rank: rank <= own), point(deal.rows, deal.tranches, lambda rank: rank < own)
 
 
 def mean_weight(rows, scale):
@@ -343,11 +351,7 @@ def report(words):
     try:
         deal = judged(words)
         charge, known = (mixed_charge(deal), True) if by_irba(deal) else pool_charge(deal.rows)
-        lines = []
-        for t in deal.tranches:
-            a = point(deal.rows, deal.tranches, lambda rank: rank <= t[2])
-            d = point(deal.rows, deal.tranches, lambda rank: rank < t[2])
-            lines.append(line(t, a, d, charge, known, deal))
+        lines = [line(t, *points(deal, t[2]), charge, known, deal) for t in deal.tranches]
     except Refused as r:
         return "refused %d at %d" % r.args
     text = ["charge %d tranches %d" % (charge, len(lines))]
@@ -577,22 +581,56 @@ def check_same_lines(texts):
 # ---- the cases of the IRB section
 
 
-def section_cases(words, text):
-    """What a sheet of an IRB or a mixed pool is an example of: the refusal at its IRB section, or the approaches where SEC-IRBA does not apply."""
-    if words[1:2] not in ([IRB_POOL], [MIXED_POOL]):
-        return
-    if not refusal_of(text):
-        deal = judged(words)
-        if not by_irba(deal):
-            reason = "no due diligence" if not deal.diligence else "re-securitisation" if deal.resecuritised else "share %d" % deal.irb.share
-            yield from ("pool kind %d, %s, approach %s" % (words[1], reason, l.split()[1]) for l in text.splitlines()[1:-1])
-        return
-    number, place = refusal_of(text)
+def not_by_irba(resecuritised, diligence, share):
+    """Why SEC-IRBA does not apply to a deal with an IRB section; None where it does."""
+    if not diligence:
+        return "no due diligence"
+    if resecuritised:
+        return "re-securitisation"
+    return "share %d" % share if share < SHARE_LEAST else None
+
+
+def thin_cases(deal, place):
+    """What 13 under SEC-IRBA is an example of, by the place of the tranche's amount."""
+    tranche = next(t for t in deal.tranches if t[0] == place)
+    if any(tranche[5]):
+        yield "13 under SEC-IRBA, a rated tranche"
+    if mixed_charge(deal) == 0:
+        yield "13 under SEC-IRBA, charge 0"
+    if points(deal, tranche[2])[1] <= pool_charge(deal.rows)[0]:
+        yield "13 under SEC-IRBA, D not above the charge of 01"
+
+
+def refused_section_cases(words, number, place):
+    """What a refused sheet of an IRB or a mixed pool is an example of: the refusal at its IRB section, with the reason where SEC-IRBA does not apply, or 13
+    under SEC-IRBA."""
+    if number == 13 and by_irba(judged(words)):
+        yield from thin_cases(judged(words), place)
     found = dict(enumerate(words))
     tranches_at = words[0] + 2 + ROW_SIZE * found.get(words[0] + 1, 0)
     section_at = tranches_at + 1 + TRANCHE_SIZE * found.get(tranches_at, 0)
     if place >= section_at:
-        yield "pool kind %d, %d at word %d, %s" % (words[1], number, place - section_at, found.get(place, "missing"))
+        share = found.get(section_at + 5, MILLION) if words[1] == MIXED_POOL else MILLION
+        reason = not_by_irba(words[2], words[3], share)
+        case = "pool kind %d, %d at word %d, %s" % (words[1], number, place - section_at, found.get(place, "missing"))
+        yield "%d at the section, %s" % (number, reason) if reason else case
+
+
+def accepted_section_cases(deal, kind, text):
+    """What an accepted sheet of an IRB or a mixed pool is an example of: the words of its IRB section, and the approaches where SEC-IRBA does not apply."""
+    yield from ("word %d of the section %d" % word for word in enumerate(deal.irb, 1))
+    reason = not_by_irba(deal.resecuritised, deal.diligence, deal.irb.share)
+    if reason:
+        yield from ("pool kind %d, %s, approach %s" % (kind, reason, l.split()[1]) for l in text.splitlines()[1:-1])
+
+
+def section_cases(words, text):
+    """What a sheet and the report on it are an example of, by its IRB section; of an SA pool, that the words which follow its tranches are a section."""
+    number, place = refusal_of(text) or (0, 0)
+    if words[1:2] in ([IRB_POOL], [MIXED_POOL]):
+        yield from refused_section_cases(words, number, place) if number else accepted_section_cases(judged(words), words[1], text)
+    elif number == 3 and words[place] == 1 and len(words) == place + 1 + IRB_SIZE:
+        yield "3 at a section"
 
 
 def coefficient_cases(deal, tranche, a, d, charge):
@@ -674,11 +712,15 @@ def check_irba(sheets, texts):
             met.update(cases(*line_inputs))
     kinds = IRB_POOL, MIXED_POOL
     due = ["pool kind %d, 1 at word 0, missing" % kind for kind in kinds] + ["pool kind 1, 1 at word %d, missing" % n for n in (1, 6)]
-    due += ["pool kind 1, 2 at word 0, 0", "pool kind 2, 2 at word 0, 2", "pool kind 1, 3 at word 7, 0", "pool kind 2, 3 at word 7, 1"]
+    due += ["pool kind 1, 2 at word 0, 0", "pool kind 1, 2 at word 0, 6", "pool kind 2, 2 at word 0, 2", "pool kind 1, 3 at word 7, 0", "pool kind 2, 3 at word 7, 1"]
     outside = [(1, MILLION + 1), (2, MILLION + 1), (3, 0), (4, 2), (5, 0), (5, MILLION - 1), (5, MILLION + 1), (6, TOP + 1)]
     due += ["pool kind 1, 18 at word %d, %d" % case for case in outside]
     due += ["pool kind 2, 18 at word %d, %d" % case for case in ((3, MILLION + 1), (5, MILLION + 1))]
     due += ["pool kind 2, 18 at word %d, %d" % (n, 2**64 - 1) for n in (1, 6)]
+    due += ["%d at the section, re-securitisation" % number for number in (1, 2, 18)] + ["%d at the section, no due diligence" % number for number in (1, 18)]
+    due += ["18 at the section, share 500000", "3 at a section"]
+    due += ["13 under SEC-IRBA, %s" % case for case in ("a rated tranche", "charge 0", "D not above the charge of 01")]
+    due += ["word %d of the section %d" % (n, word) for n, limits in enumerate(irb_limits(MIXED_POOL), 1) for word in limits]
     due += ["pool kind %d, re-securitisation, approach 2" % kind for kind in kinds] + ["pool kind %d, no due diligence, approach 0" % kind for kind in kinds]
     due += ["pool kind 2, share %d, approach %d" % case for case in ((SHARE_LEAST - 1, ERBA), (SHARE_LEAST - 1, SA), (0, FALLBACK))]
     due += ["%s: %s" % (name, what) for name in COEFFICIENTS for what in ("constant", "per 1/number", "per charge", "per loss", "per year")]

@@ -65,8 +65,8 @@
 //!   re-securitisation is; each 0 for no and 1 for yes; then the reporting date (0 for none, else [`Date::word`]). A
 //!   fact that is left out at the end counts as 0;
 //! - the number of pool rows, 1 to [`MOST_ROWS`], then for each: exposure amount and nominal amount (1 to 10^10), risk
-//!   weight in percent (0 to 1250), status (0 paying, 1 delinquent, 2 not known; 3, a securitisation tranche, in a
-//!   re-securitisation and only there);
+//!   weight in percent (0 to 1250; under the standardised approach, whatever the pool kind), status (0 paying, 1
+//!   delinquent, 2 not known; 3, a securitisation tranche, in a re-securitisation and only there);
 //! - the number of tranches, 1 to [`MOST_TRANCHES`], then for each: amount (1 to 10^13), class, final legal maturity (1 to
 //!   1200 months; in a deal with a reporting date, a date that is so many months after it by [`Date::months_to`]), amount
 //!   held (0 to the amount), [`MOST_RATINGS`] rating codes (0 for none, else [`Rating::code`]), in any order;
@@ -94,7 +94,8 @@
 //!
 //! Types that are marked non-exhaustive get cases and fields in later versions, and lines get words. A program that
 //! makes facts and rows by `new` and `with_…`, has an arm for all other cases in each `match`, and counts the words
-//! that it lends by [`LINE_WORDS`] and [`RESULT_WORDS`], goes on with those too.
+//! that it lends by [`LINE_WORDS`] and [`RESULT_WORDS`], goes on with those too. The name of a refusal that is no longer
+//! given goes with it; a program that has it must leave it out.
 
 #![deny(missing_docs)]
 #![deny(unsafe_code)]
@@ -124,7 +125,7 @@ pub use limits::{
     BYTES_PER_WORD, FEWEST_FACTS, FILE_BYTES, IRB_WORDS, LINE_WORDS, MOST_FACTS, MOST_RATINGS, MOST_ROWS,
     MOST_TRANCHES, NUMBER_DIGITS, RESULT_WORDS, ROW_WORDS, SHEET_WORDS, TEXT_ROOM, TRANCHE_WORDS,
 };
-pub use numbers::{AverageWeight, Loans, Months, PoolAmount, RiskWeight, Share, TrancheAmount};
+pub use numbers::{AverageWeight, Loans, Millionths, Months, PoolAmount, RiskWeight, TrancheAmount};
 pub use pool::{Row, Status};
 pub use pool_kind::{IrbFigures, PoolKind};
 pub use rating::{LongTerm, Rating, ShortTerm};

@@ -79,8 +79,8 @@ pub(crate) const TRANCHE_AMOUNT: (u64, u64) = (1, 10_000_000_000_000);
 /// The lowest and the highest maturity of a tranche, in months.
 pub(crate) const MONTHS: (u64, u64) = (1, 1200);
 
-/// The lowest and the highest share, in millionths.
-pub(crate) const SHARE: (u64, u64) = (0, 1_000_000);
+/// The lowest and the highest figure in millionths.
+pub(crate) const MILLIONTHS: (u64, u64) = (0, 1_000_000);
 
 /// The lowest and the highest effective number of loans.
 pub(crate) const LOANS: (u64, u64) = (1, 1_000_000);

@@ -82,8 +82,8 @@ limited! {
 }
 
 limited! {
-    /// A share in millionths, 0 to 10^6: 10^6 is all, 80,000 is 8%.
-    Share, limits::SHARE
+    /// A figure in millionths, 0 to 10^6: 10^6 is 100%, 80,000 is 8%.
+    Millionths, limits::MILLIONTHS
 }
 
 limited! {

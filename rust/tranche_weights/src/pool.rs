@@ -14,7 +14,7 @@ pub struct Row {
     pub exposure: PoolAmount,
     /// Nominal amount, in whole currency units.
     pub nominal: PoolAmount,
-    /// Risk weight, in whole percent.
+    /// Risk weight, in whole percent, under the standardised approach, whatever the pool kind.
     pub risk_weight: RiskWeight,
 }
 

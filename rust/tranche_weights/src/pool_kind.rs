@@ -1,7 +1,7 @@
 //! The pool kind and the figures of the IRB section (document 01, "The deal sheet"; document 02, S-5).
 
 use crate::limits::IRB_WORDS;
-use crate::numbers::{AverageWeight, Loans, Share};
+use crate::numbers::{AverageWeight, Loans, Millionths};
 
 /// The approach to credit risk that the pool's loans are under: the standardised one (SA), the internal ratings-based
 /// one (IRB), or some under each. The list is whole.
@@ -12,19 +12,19 @@ use crate::numbers::{AverageWeight, Loans, Share};
 ///
 /// ```
 /// use tranche_weights::{
-///     Approach, AverageWeight, Facts, IrbFigures, Loans, Months, PoolAmount, PoolKind, RiskWeight, Row, Share,
+///     Approach, AverageWeight, Facts, IrbFigures, Loans, Millionths, Months, PoolAmount, PoolKind, RiskWeight, Row,
 ///     SheetBuilder, Status, Tranche, TrancheAmount,
 /// };
 ///
 /// # fn main() -> Result<(), Box<dyn std::error::Error>> {
 /// let figures = IrbFigures {
-///     charge: Share::new(150_000)?,
-///     loss: Share::new(450_000)?,
+///     charge: Millionths::new(150_000)?,
+///     loss: Millionths::new(450_000)?,
 ///     loans: Loans::new(25)?,
 ///     retail: false,
 ///     average: AverageWeight::new(12_000)?,
 /// };
-/// let share = Share::new(950_000)?;
+/// let share = Millionths::new(950_000)?;
 /// let hundred = PoolAmount::new(100)?;
 /// let loans = Row::new(hundred, hundred, RiskWeight::new(100)?);
 ///
@@ -57,7 +57,7 @@ pub enum PoolKind {
     /// 2: some loans are under the IRB approach.
     Mixed {
         /// Share of the pool's exposure with an IRB charge.
-        share: Share,
+        share: Millionths,
         /// The other figures.
         figures: IrbFigures,
     },
@@ -77,7 +77,7 @@ impl PoolKind {
     pub(crate) const fn irb_words(&self) -> Option<[u64; IRB_WORDS]> {
         match self {
             PoolKind::Sa => None,
-            PoolKind::Irb(figures) => Some(figures.words(Share::HIGHEST)),
+            PoolKind::Irb(figures) => Some(figures.words(Millionths::HIGHEST)),
             PoolKind::Mixed { share, figures } => Some(figures.words(share.get())),
         }
     }
@@ -87,9 +87,9 @@ impl PoolKind {
 #[derive(Debug, Clone, Copy, PartialEq, Eq, Hash)]
 pub struct IrbFigures {
     /// IRB charge: the capital charge under the IRB approach of the loans that have one, per unit of their exposure.
-    pub charge: Share,
+    pub charge: Millionths,
     /// Average loss given default.
-    pub loss: Share,
+    pub loss: Millionths,
     /// Effective number of loans. The supervisory parameter depends on it where the pool is not retail, with other
     /// coefficients under 25 loans.
     pub loans: Loans,

@@ -29,8 +29,8 @@ pub enum Reason {
     Maturity,
     /// 11: a rating code that is not listed.
     Rating,
-    /// 13: a tranche under the formula (SEC-SA or SEC-IRBA) whose attachment and detachment points are equal, above the
-    /// pool charge; the place of its amount.
+    /// 13: a tranche under the formula (by SEC-SA an unrated one, or any in a re-securitisation; by SEC-IRBA any) whose
+    /// attachment and detachment points are equal, above the pool charge; the place of its amount.
     ThinTranche,
     /// 14: fewer result words lent than the tranches' lines take; place 0.
     Room,
@@ -108,8 +108,9 @@ const LISTED: &[(Reason, &str)] = &[
     (Reason::Rating, "a rating that is not in the list"),
     (
         Reason::ThinTranche,
-        "a tranche under the formula (SEC-SA or SEC-IRBA) whose class is so thin that its \
-         attachment and detachment points are equal, above the pool charge; the place of its amount",
+        "a tranche under the formula (by SEC-SA an unrated one, or any in a re-securitisation; by SEC-IRBA any) whose \
+         class is so thin that its attachment and detachment points are equal, above the pool charge; the place of its \
+         amount",
     ),
     (Reason::Room, "the calling program lent too few result words; place 0"),
     (

@@ -55,8 +55,8 @@ pub enum SheetError {
     MonthsWithReportingDate(Months),
     /// A maturity as a date in a deal without a reporting date: the date given (refusal 10).
     DateWithoutReportingDate(Date),
-    /// A share above 10^6 millionths: the share given (refusal 18).
-    Share(u64),
+    /// A figure in millionths above 10^6: the figure given (refusal 18).
+    Millionths(u64),
     /// An effective number of loans outside 1 to 10^6: the number given (refusal 18).
     Loans(u64),
     /// An average weight above 125,000 hundredths of a percent: the weight given (refusal 18).
@@ -112,7 +112,7 @@ impl fmt::Display for SheetError {
                     "a maturity is in months in a deal without a reporting date, not {given}"
                 )
             }
-            SheetError::Share(given) => outside(f, "a share in millionths", given, limits::SHARE),
+            SheetError::Millionths(given) => outside(f, "a figure in millionths", given, limits::MILLIONTHS),
             SheetError::Loans(given) => outside(f, "an effective number of loans", given, limits::LOANS),
             SheetError::AverageWeight(given) => outside(
                 f,

@@ -1,5 +1,5 @@
 //! What the typed way in lets through and what it answers with an error (document 01, "The deal sheet"; document 02,
-//! S-1 and S-3).
+//! S-1, S-3 and S-5).
 
 use crate::checked_deal::{ordinary, row, tranche};
 use crate::dates::maturing;
@@ -298,8 +298,8 @@ fn errors_say_what_is_admitted() {
         ),
         (SheetError::Months(1201), "a maturity in months is 1 to 1200, not 1201"),
         (
-            SheetError::Share(1_000_001),
-            "a share in millionths is 0 to 1000000, not 1000001",
+            SheetError::Millionths(1_000_001),
+            "a figure in millionths is 0 to 1000000, not 1000001",
         ),
         (
             SheetError::Loans(0),

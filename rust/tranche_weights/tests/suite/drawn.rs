@@ -7,9 +7,9 @@ use crate::places::{
 };
 use crate::texts::text_of;
 use tranche_weights::{
-    report, weigh_file, AverageWeight, Date, Facts, IrbFigures, Loans, Months, PoolAmount, PoolKind, Rating, Reason,
-    RiskWeight, Row, Share, Sheet, SheetBuilder, SheetError, Status, Tranche, TrancheAmount, MOST_ROWS, MOST_TRANCHES,
-    ROW_WORDS, TRANCHE_WORDS,
+    report, weigh_file, AverageWeight, Date, Facts, IrbFigures, Loans, Millionths, Months, PoolAmount, PoolKind,
+    Rating, Reason, RiskWeight, Row, Sheet, SheetBuilder, SheetError, Status, Tranche, TrancheAmount, MOST_ROWS,
+    MOST_TRANCHES, ROW_WORDS, TRANCHE_WORDS,
 };
 
 /// The statuses of an ordinary pool, by status word.
@@ -144,14 +144,14 @@ impl Generator {
     fn irb(&mut self, words: &mut Vec<u64>) {
         let share = match (words[POOL_KIND], self.below(2)) {
             (0, _) => return,
-            (2, 0) => self.within(Share::LOWEST, Share::HIGHEST),
-            (2, _) => Share::HIGHEST - self.below(50_001),
-            _ => Share::HIGHEST,
+            (2, 0) => self.within(Millionths::LOWEST, Millionths::HIGHEST),
+            (2, _) => Millionths::HIGHEST - self.below(50_001),
+            _ => Millionths::HIGHEST,
         };
         words.extend([
             1,
-            self.within(Share::LOWEST, Share::HIGHEST),
-            self.within(Share::LOWEST, Share::HIGHEST),
+            self.within(Millionths::LOWEST, Millionths::HIGHEST),
+            self.within(Millionths::LOWEST, Millionths::HIGHEST),
             self.within(Loans::LOWEST, Loans::HIGHEST),
             self.below(2),
             share,
@@ -197,8 +197,8 @@ fn pool_kind_of(words: &[u64]) -> Result<PoolKind, SheetError> {
         return Ok(PoolKind::Sa);
     };
     let figures = IrbFigures {
-        charge: Share::new(charge)?,
-        loss: Share::new(loss)?,
+        charge: Millionths::new(charge)?,
+        loss: Millionths::new(loss)?,
         loans: Loans::new(loans)?,
         retail: retail == 1,
         average: AverageWeight::new(average)?,
@@ -206,7 +206,7 @@ fn pool_kind_of(words: &[u64]) -> Result<PoolKind, SheetError> {
     if words[POOL_KIND] == 1 {
         Ok(PoolKind::Irb(figures))
     } else {
-        let share = Share::new(share)?;
+        let share = Millionths::new(share)?;
         Ok(PoolKind::Mixed { share, figures })
     }
 }

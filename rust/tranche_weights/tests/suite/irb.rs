@@ -8,7 +8,7 @@ use crate::places::{first_figure, ratings, statuses, with_irb, AVERAGE, COMPOSIT
 use crate::results::weighed;
 use std::error::Error;
 use tranche_weights::{
-    report, Approach, AverageWeight, Date, Deal, Facts, IrbFigures, Loans, Months, PoolKind, Reply, Share,
+    report, Approach, AverageWeight, Date, Deal, Facts, IrbFigures, Loans, Millionths, Months, PoolKind, Reply,
     SheetBuilder, SheetError, Status, Tranche, TrancheAmount, IRB_WORDS, LINE_WORDS,
 };
 
@@ -18,8 +18,8 @@ pub const FIGURES: [u64; IRB_WORDS] = [140_000, 450_000, 24, 0, 950_000, 9_000];
 /// The same figures, typed, with the number of loans and retail given.
 fn figures(loans: u64, retail: bool) -> Result<IrbFigures, SheetError> {
     Ok(IrbFigures {
-        charge: Share::new(140_000)?,
-        loss: Share::new(450_000)?,
+        charge: Millionths::new(140_000)?,
+        loss: Millionths::new(450_000)?,
         loans: Loans::new(loans)?,
         retail,
         average: AverageWeight::new(9_000)?,
@@ -28,7 +28,7 @@ fn figures(loans: u64, retail: bool) -> Result<IrbFigures, SheetError> {
 
 /// The pool kind of a mixed pool with this share, in millionths.
 fn mixed(share: u64, figures: IrbFigures) -> Result<PoolKind, SheetError> {
-    let share = Share::new(share)?;
+    let share = Millionths::new(share)?;
     Ok(PoolKind::Mixed { share, figures })
 }
 
@@ -83,8 +83,8 @@ fn every_deal_can_have_the_section() -> Result<(), SheetError> {
 /// The first of the standard's published deals under SEC-IRBA (d374, Annex 1, A), with tranches of so many months.
 fn published(months: u64) -> Result<Deal, Box<dyn Error>> {
     let figures = IrbFigures {
-        charge: Share::new(212_400)?,
-        loss: Share::new(818_700)?,
+        charge: Millionths::new(212_400)?,
+        loss: Millionths::new(818_700)?,
         loans: Loans::new(100)?,
         retail: false,
         average: AverageWeight::new(26_550)?,

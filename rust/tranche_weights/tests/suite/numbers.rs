@@ -1,6 +1,6 @@
 //! The limited numbers (document 01, "The deal sheet"; document 02, S-5).
 
-use tranche_weights::{AverageWeight, Loans, Months, PoolAmount, RiskWeight, Share, SheetError, TrancheAmount};
+use tranche_weights::{AverageWeight, Loans, Millionths, Months, PoolAmount, RiskWeight, SheetError, TrancheAmount};
 
 /// Holds a limited number to its limits: both are taken and given back, what is beyond them is answered with the
 /// number's own error.
@@ -20,7 +20,7 @@ fn numbers_keep_their_limits() {
     hold_limits::<RiskWeight>([0, 1250], SheetError::RiskWeight);
     hold_limits::<TrancheAmount>([1, 10_000_000_000_000], SheetError::TrancheAmount);
     hold_limits::<Months>([1, 1200], SheetError::Months);
-    hold_limits::<Share>([0, 1_000_000], SheetError::Share);
+    hold_limits::<Millionths>([0, 1_000_000], SheetError::Millionths);
     hold_limits::<Loans>([1, 1_000_000], SheetError::Loans);
     hold_limits::<AverageWeight>([0, 125_000], SheetError::AverageWeight);
 }
@@ -32,7 +32,7 @@ fn limits_can_be_read() {
     assert_eq!([RiskWeight::LOWEST, RiskWeight::HIGHEST], [0, 1250]);
     assert_eq!([TrancheAmount::LOWEST, TrancheAmount::HIGHEST], [1, 10_000_000_000_000]);
     assert_eq!([Months::LOWEST, Months::HIGHEST], [1, 1200]);
-    assert_eq!([Share::LOWEST, Share::HIGHEST], [0, 1_000_000]);
+    assert_eq!([Millionths::LOWEST, Millionths::HIGHEST], [0, 1_000_000]);
     assert_eq!([Loans::LOWEST, Loans::HIGHEST], [1, 1_000_000]);
     assert_eq!([AverageWeight::LOWEST, AverageWeight::HIGHEST], [0, 125_000]);
     assert_eq!(Months::new(60).map(Months::get), Ok(60));
