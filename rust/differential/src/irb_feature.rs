@@ -3,7 +3,9 @@
 
 use crate::answer::{refusal, Approach};
 use crate::seen::{DealKind, Seen};
-use crate::sheet::{pool_kind, status, Fact, IrbWord, Layout, RowWord, IRB_COUNT, IRB_SHARE, MANY_LOANS, WHOLE};
+use crate::sheet::{
+    pool_kind, status, Fact, IrbWord, Layout, RowWord, IRB_AVERAGE, IRB_COUNT, IRB_SHARE, LOANS, MANY_LOANS, WHOLE,
+};
 use independent::approach::irb_of;
 use independent::irba::Sum;
 use independent::sheet::Irb;
@@ -12,10 +14,15 @@ use independent::{Deal, Refusal};
 /// What must be met on some refused sheet.
 #[derive(Debug, Clone, Copy, PartialEq, Eq)]
 pub enum IrbRefusal {
-    /// A word of the section is outside its limits.
-    Figure(IrbWord),
-    /// The share of an IRB pool is below the whole.
-    ShareOfIrbPool,
+    /// A word of the section has this value, the first outside its limits.
+    Figure(IrbWord, u64),
+    /// The share has this value, the first outside the limits of a pool of this kind.
+    Share {
+        /// The pool kind.
+        kind: u64,
+        /// The value.
+        value: u64,
+    },
     /// A word of the section is outside its limits, in a re-securitisation.
     FigureOfResecuritisation,
     /// A word of the section is outside its limits, without due diligence.
@@ -46,14 +53,46 @@ pub enum IrbRefusal {
 
 impl IrbRefusal {
     /// All features with their names.
-    pub(crate) const TABLE: [(IrbRefusal, &'static str); 20] = [
-        (IrbRefusal::Figure(IrbWord::Charge), "refusal 18 for the IRB charge"),
-        (IrbRefusal::Figure(IrbWord::Loss), "refusal 18 for the loss"),
-        (IrbRefusal::Figure(IrbWord::Loans), "refusal 18 for the number of loans"),
-        (IrbRefusal::Figure(IrbWord::Retail), "refusal 18 for retail"),
-        (IrbRefusal::Figure(IrbWord::Share), "refusal 18 for the share"),
-        (IrbRefusal::Figure(IrbWord::Average), "refusal 18 for the IRB average"),
-        (IrbRefusal::ShareOfIrbPool, "refusal 18 for the share of an IRB pool"),
+    pub(crate) const TABLE: [(IrbRefusal, &'static str); 22] = [
+        (
+            IrbRefusal::Figure(IrbWord::Charge, WHOLE + 1),
+            "refusal 18 for an IRB charge of 1,000,001",
+        ),
+        (
+            IrbRefusal::Figure(IrbWord::Loss, WHOLE + 1),
+            "refusal 18 for a loss of 1,000,001",
+        ),
+        (IrbRefusal::Figure(IrbWord::Loans, 0), "refusal 18 for 0 loans"),
+        (
+            IrbRefusal::Figure(IrbWord::Loans, LOANS + 1),
+            "refusal 18 for 1,000,001 loans",
+        ),
+        (IrbRefusal::Figure(IrbWord::Retail, 2), "refusal 18 for retail 2"),
+        (
+            IrbRefusal::Figure(IrbWord::Average, IRB_AVERAGE + 1),
+            "refusal 18 for an IRB average of 125,001",
+        ),
+        (
+            IrbRefusal::Share {
+                kind: pool_kind::IRB,
+                value: WHOLE - 1,
+            },
+            "refusal 18 for a share of 999,999, IRB pool",
+        ),
+        (
+            IrbRefusal::Share {
+                kind: pool_kind::IRB,
+                value: WHOLE + 1,
+            },
+            "refusal 18 for a share of 1,000,001, IRB pool",
+        ),
+        (
+            IrbRefusal::Share {
+                kind: pool_kind::MIXED,
+                value: WHOLE + 1,
+            },
+            "refusal 18 for a share of 1,000,001, mixed pool",
+        ),
         (
             IrbRefusal::FigureOfResecuritisation,
             "refusal 18 in a re-securitisation",
@@ -106,12 +145,11 @@ impl IrbRefusal {
         let at_count = |of_number| (number, place) == (of_number, layout.irb_count());
         let word = sheet.get(place).copied();
         let figure = number == refusal::IRB_FIGURE;
+        let figure_is = |of, value| figure && place == layout.irb_word(of) && word == Some(value);
         let fact_is = |fact, word| layout.fact_word(sheet, fact) == word;
         match self {
-            IrbRefusal::Figure(of) => figure && place == layout.irb_word(of),
-            IrbRefusal::ShareOfIrbPool => {
-                figure && place == layout.irb_word(IrbWord::Share) && word.is_some_and(|share| share < WHOLE)
-            }
+            IrbRefusal::Figure(of, value) => figure_is(of, value),
+            IrbRefusal::Share { kind, value } => fact_is(Fact::PoolKind, kind) && figure_is(IrbWord::Share, value),
             IrbRefusal::FigureOfResecuritisation => figure && fact_is(Fact::Resecuritisation, 1),
             IrbRefusal::FigureWithoutDiligence => figure && fact_is(Fact::DueDiligence, 0),
             IrbRefusal::CountNone => at_count(refusal::COUNT) && word == Some(0),
@@ -230,7 +268,7 @@ impl IrbFeature {
 }
 
 /// Whether a deal is under SEC-IRBA: all its lines are, if one is.
-pub(crate) fn is_under_irba(deal: &Deal) -> bool {
+pub fn is_under_irba(deal: &Deal) -> bool {
     deal.lines[0].approach == Approach::SecIrba.word()
 }
 
@@ -487,7 +525,7 @@ pub(crate) fn parameter_place(seen: &Seen) -> Option<usize> {
 mod tests {
     use super::*;
     use crate::answer::LINE_WORDS;
-    use crate::sheet::{TrancheWord, DAYS, LOANS};
+    use crate::sheet::{TrancheWord, DAYS};
 
     /// Features are counted by the enums' order, so the tables must follow it; those of refusals stand once.
     #[test]
@@ -566,34 +604,35 @@ mod tests {
         })
     }
 
-    /// Words outside their limits count by the word, by the deal, and for the share of an IRB pool.
+    /// The first values outside the limits count by the word, those of the share by the pool kind too; the next ones do
+    /// not. Any value outside counts by the deal.
     #[test]
     fn figures_are_counted() {
-        let facts = &[2, 0, 1, 0];
+        let of = |kind, word, value| refused(&with_section(&[kind, 0, 1, 0], 0, section(word, value)));
         for (word, value) in [
-            (IrbWord::Charge, WHOLE + 1),
-            (IrbWord::Loss, WHOLE + 1),
-            (IrbWord::Loans, 0),
+            (IrbWord::Charge, 1_000_001),
+            (IrbWord::Loss, 1_000_001),
+            (IrbWord::Loans, 1_000_001),
             (IrbWord::Retail, 2),
-            (IrbWord::Share, WHOLE + 1),
             (IrbWord::Average, 125_001),
         ] {
-            let sheet = with_section(facts, 0, section(word, value));
-            assert_eq!(refused(&sheet), [IrbRefusal::Figure(word)]);
+            assert_eq!(
+                [1, 2].map(|kind| of(kind, word, value)),
+                [[IrbRefusal::Figure(word, value)]; 2]
+            );
+            assert_eq!(of(1, word, value + 1), []);
         }
-        let share = section(IrbWord::Share, 950_000);
-        assert_eq!(
-            refused(&with_section(&[1, 0, 1, 0], 0, share)),
-            [IrbRefusal::Figure(IrbWord::Share), IrbRefusal::ShareOfIrbPool]
-        );
+        assert_eq!(of(2, IrbWord::Loans, 0), [IrbRefusal::Figure(IrbWord::Loans, 0)]);
+        for (kind, value) in [(1, 999_999), (1, 1_000_001), (2, 1_000_001)] {
+            assert_eq!(of(kind, IrbWord::Share, value), [IrbRefusal::Share { kind, value }]);
+        }
+        assert!([950_000, 999_998, 1_000_002]
+            .into_iter()
+            .all(|share| of(1, IrbWord::Share, share).is_empty()));
         let charge = section(IrbWord::Charge, u64::MAX);
         assert_eq!(
             refused(&with_section(&[1, 1, 0, 0], 3, charge)),
-            [
-                IrbRefusal::Figure(IrbWord::Charge),
-                IrbRefusal::FigureOfResecuritisation,
-                IrbRefusal::FigureWithoutDiligence
-            ]
+            [IrbRefusal::FigureOfResecuritisation, IrbRefusal::FigureWithoutDiligence]
         );
     }
 

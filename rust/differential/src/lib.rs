@@ -40,7 +40,7 @@ pub use case::Case;
 pub use check::check;
 pub use date_feature::{DateFeature, DatedLineFeature};
 pub use difference::{Difference, Part};
-pub use irb_feature::{IrbFeature, IrbLineFeature, IrbRefusal};
+pub use irb_feature::{is_under_irba, IrbFeature, IrbLineFeature, IrbRefusal};
 pub use kind::{File, Kind, Relation, Room};
 pub use lent::Lent;
 pub use library::{Library, Reply, Weigh, WeighFile};

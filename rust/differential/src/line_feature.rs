@@ -4,7 +4,8 @@ use crate::answer::Approach;
 use crate::seen::{DealKind, Seen};
 use independent::formula::HIGHEST_WEIGHT;
 
-/// What must be met on lines of any deal. Features of the formula are met under SEC-SA; SEC-IRBA has its own.
+/// What must be met on lines of any deal that is not under SEC-IRBA, which has features of its own. Those of the formula
+/// are met under SEC-SA.
 #[derive(Debug, Clone, Copy, PartialEq, Eq)]
 pub enum Feature {
     /// The floor of an ordinary securitisation decided a weight.
@@ -56,25 +57,29 @@ impl Feature {
     /// Whether a line shows the feature. Whether the cap decided and how much is unknown are not told from the line
     /// alone.
     pub(crate) fn shown(self, seen: &Seen) -> bool {
-        let standardised = seen.is(Approach::SecSa);
+        !seen.is(Approach::SecIrba) && self.shown_by_other(seen)
+    }
+
+    /// Whether a line under another approach than SEC-IRBA shows the feature.
+    fn shown_by_other(self, seen: &Seen) -> bool {
         match self {
             Feature::OrdinaryFloor => seen.kind == DealKind::Ordinary && seen.floor_decided(),
             Feature::ResecuritisationFloor => seen.kind == DealKind::Resecuritisation && seen.floor_decided(),
             Feature::CapDecided | Feature::UnknownAtLimit => false,
             Feature::CapBelowFloor => seen.capped_below_floor(),
             Feature::AtSenior => seen.kind == DealKind::Ordinary && seen.at_senior(),
-            Feature::BelowCharge => standardised && seen.below_charge(),
-            Feature::ZeroCharge => standardised && seen.zero_charge(),
-            Feature::ZeroChargeAndPoint => standardised && seen.zero_charge_and_point(),
-            Feature::AcrossCharge => standardised && seen.across_charge(),
-            Feature::FromCharge => standardised && seen.starts_at_charge(),
-            Feature::ThinAboveCharge => standardised && seen.thin_above_charge(),
+            Feature::BelowCharge => seen.below_charge(),
+            Feature::ZeroCharge => seen.zero_charge(),
+            Feature::ZeroChargeAndPoint => seen.zero_charge_and_point(),
+            Feature::AcrossCharge => seen.across_charge(),
+            Feature::FromCharge => seen.starts_at_charge(),
+            Feature::ThinAboveCharge => seen.thin_above_charge(),
             Feature::TwoWeights => seen.two_weights(),
         }
     }
 }
 
-/// What must be met on lines of STC deals.
+/// What must be met on lines of STC deals that are not under SEC-IRBA.
 #[derive(Debug, Clone, Copy, PartialEq, Eq)]
 pub enum StcFeature {
     /// Class 1 under the fallback.
@@ -137,10 +142,10 @@ impl StcFeature {
 
     /// Whether a line shows the feature. Whether the cap decided is not told from the line alone.
     pub(crate) fn shown(self, seen: &Seen) -> bool {
-        seen.kind == DealKind::Stc && self.shown_by_stc(seen)
+        seen.kind == DealKind::Stc && !seen.is(Approach::SecIrba) && self.shown_by_stc(seen)
     }
 
-    /// Whether a line of an STC deal shows the feature.
+    /// Whether a line of an STC deal that is not under SEC-IRBA shows the feature.
     fn shown_by_stc(self, seen: &Seen) -> bool {
         match self {
             StcFeature::SeniorFallback => seen.senior && seen.is(Approach::Fallback),
@@ -168,6 +173,7 @@ impl StcFeature {
 #[cfg(test)]
 mod tests {
     use super::*;
+    use crate::answer::LINE_WORDS;
     use independent::sheet::Tranche;
     use independent::{Amounts, Line};
 
@@ -223,5 +229,54 @@ mod tests {
         assert!(!thin(formula, 50, 49, 50) && !thin(formula, 50, 60, 62));
         assert!(!thin(formula, 0, 60, 61) && !thin(Approach::SecErba, 50, 60, 61));
         assert!(!thin(Approach::SecIrba, 50, 60, 61));
+    }
+
+    /// What the line of a tranche shows that covers a pool of this risk weight down to 12% of it, by its own features
+    /// and by those of STC deals; and whether it has two weights, its floor decided, and its cap decided below the
+    /// floor. The pool kind, the composition and the mark are as given. An IRB section gives the charge and the average
+    /// of the pool.
+    fn shown([pool_kind, composition, stc]: [u64; 3], risk_weight: u64) -> (Vec<Feature>, Vec<StcFeature>, [bool; 3]) {
+        let facts = [5, pool_kind, 0, 1, composition, stc];
+        let rows = [1, 1_000_000, 1_000_000, risk_weight, 0];
+        let tranches = [1, 880_000, 1, 36, 0, 0, 0, 0];
+        let section = [1, 800 * risk_weight, 1_000_000, 1, 0, 1_000_000, 100 * risk_weight];
+        let section = if pool_kind == 0 { &[][..] } else { &section };
+        let sheet = [&facts[..], &rows, &tranches, section].concat();
+        let deal = independent::weigh(&sheet, LINE_WORDS as u64).expect("an accepted sheet");
+        let seen = Seen::new(&sheet, &deal, 0);
+        let features = Feature::TABLE.map(|(feature, _)| feature).into_iter();
+        let stc_features = StcFeature::TABLE.map(|(feature, _)| feature).into_iter();
+        (
+            features.filter(|feature| feature.shown(&seen)).collect(),
+            stc_features.filter(|feature| feature.shown(&seen)).collect(),
+            [seen.two_weights(), seen.floor_decided(), seen.capped_below_floor()],
+        )
+    }
+
+    /// Two weights, floors and caps below the floor count under SEC-SA. Under SEC-IRBA the line has them too and none
+    /// counts.
+    #[test]
+    fn lines_under_irba_are_not_counted() {
+        let senior = StcFeature::SeniorSecSa;
+        let two_weights = [true, false, false];
+        let features = vec![Feature::TwoWeights];
+        assert_eq!(shown([0, 0, 0], 100), (features.clone(), vec![], two_weights));
+        let stc = vec![senior, StcFeature::TwoWeights];
+        assert_eq!(shown([0, 0, 1], 100), (features, stc, two_weights));
+        let floor = [false, true, false];
+        let features = vec![Feature::OrdinaryFloor, Feature::ZeroCharge];
+        assert_eq!(shown([0, 0, 0], 0), (features, vec![], floor));
+        let stc = vec![senior, StcFeature::SeniorFloorSecSa];
+        assert_eq!(shown([0, 0, 1], 0), (vec![Feature::ZeroCharge], stc, floor));
+        let capped = [false, false, true];
+        let features = vec![Feature::CapBelowFloor];
+        assert_eq!(shown([0, 1, 0], 9), (features.clone(), vec![], capped));
+        let stc = vec![senior, StcFeature::CapBelowFloor];
+        assert_eq!(shown([0, 1, 1], 9), (features, stc, capped));
+        for stc in [0, 1] {
+            assert_eq!(shown([1, 0, stc], 100), (vec![], vec![], two_weights));
+            assert_eq!(shown([1, 0, stc], 0), (vec![], vec![], floor));
+            assert_eq!(shown([1, 1, stc], 9), (vec![], vec![], capped));
+        }
     }
 }

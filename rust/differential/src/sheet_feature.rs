@@ -4,6 +4,7 @@
 use crate::answer::refusal;
 use crate::seen::DealKind;
 use crate::sheet::{Fact, Layout, FACTS, FEWEST_FACTS, FILE_BYTES, WORD_BYTES};
+use independent::approach::irb_of;
 use independent::{Deal, Refusal};
 
 /// What must be met on some sheet.
@@ -37,7 +38,7 @@ pub enum SheetFeature {
     FifthAboveOne,
     /// A fifth fact above 1 in a re-securitisation.
     ResecuritisationFifthAboveOne,
-    /// An STC deal refused for a tranche without thickness.
+    /// An STC deal refused for a tranche without thickness under SEC-SA.
     StcThin,
 }
 
@@ -48,7 +49,7 @@ impl SheetFeature {
         (SheetFeature::FiveFacts, "accepted with a fifth fact of 0"),
         (
             SheetFeature::ResecuritisationFiveFacts,
-            "accepted with a date, re-securitisation",
+            "accepted with that fact, re-securitisation",
         ),
         (SheetFeature::Stc, "accepted as an STC deal"),
         (SheetFeature::SixFacts, "accepted with a sixth fact of 0"),
@@ -56,7 +57,7 @@ impl SheetFeature {
         (SheetFeature::StcDated, "accepted with a date, STC deal"),
         (
             SheetFeature::ResecuritisationDated,
-            "accepted with that date, re-securitisation",
+            "accepted with a date, re-securitisation",
         ),
         (SheetFeature::ThreeFacts, "refusal 2 for 3 facts"),
         (SheetFeature::SevenFacts, "refusal 2 for 7 facts"),
@@ -67,7 +68,7 @@ impl SheetFeature {
             SheetFeature::ResecuritisationFifthAboveOne,
             "refusal 4 for it, re-securitisation",
         ),
-        (SheetFeature::StcThin, "refusal 13 in an STC deal"),
+        (SheetFeature::StcThin, "refusal 13 in an STC deal, SEC-SA"),
     ];
 
     /// Whether a sheet with this answer shows the feature.
@@ -110,10 +111,17 @@ impl SheetFeature {
             SheetFeature::SixthMissing => refused_at(refusal::MISSING, sixth) && counts(FACTS),
             SheetFeature::FifthAboveOne => refused_at(refusal::FACT, fifth) && !resecuritisation(),
             SheetFeature::ResecuritisationFifthAboveOne => refused_at(refusal::FACT, fifth) && resecuritisation(),
-            SheetFeature::StcThin => refused.number == refusal::THIN && DealKind::of_sheet(sheet) == DealKind::Stc,
+            SheetFeature::StcThin => refused.number == refusal::THIN && is_stc_under_sa(sheet),
             _ => false,
         }
     }
+}
+
+/// Whether a sheet that is refused for a tranche without thickness, so that all its words are good, is of an STC deal
+/// under SEC-SA: SEC-IRBA alone is the other approach with that refusal.
+fn is_stc_under_sa(sheet: &[u64]) -> bool {
+    let read = independent::sheet::read(sheet).expect("a sheet of good words");
+    read.facts.stc && irb_of(&read).is_none()
 }
 
 /// What must be met on some file.
@@ -235,6 +243,9 @@ mod tests {
             [SheetFeature::ResecuritisationFifthAboveOne]
         );
         assert_eq!(shown(&sheet(&[0, 0, 1, 0, 1], 0)), [SheetFeature::StcThin]);
+        let with_section = |share| [&sheet(&[2, 0, 1, 0, 1], 0)[..], &[1, 8_000, 0, 1, 0, share, 0]].concat();
+        assert_eq!(shown(&with_section(949_999)), [SheetFeature::StcThin]);
+        assert_eq!(shown(&with_section(950_000)), []);
         for other in [
             &[][..],
             &[8],

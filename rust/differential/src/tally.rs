@@ -150,7 +150,7 @@ impl Tally {
         match answer {
             Ok(deal) => {
                 self.accepted += 1;
-                self.note_pool(&case.sheet);
+                self.note_pool(&case.sheet, deal);
                 self.note_section(&case.sheet, deal);
                 self.note_lines(&case.sheet, deal, lent);
             }
@@ -179,8 +179,8 @@ impl Tally {
     }
 
     /// Notes the pool of an accepted sheet: which statuses it has, and whether the unknown exposure is 5% of all
-    /// ("Points and pool charge").
-    fn note_pool(&mut self, sheet: &[u64]) {
+    /// ("Points and pool charge") in a deal that is not under SEC-IRBA, where statuses play no part.
+    fn note_pool(&mut self, sheet: &[u64], deal: &Deal) {
         let [mut exposures, mut present] = [[0; status::TABLE.len()]; 2];
         for row in Layout::of_sheet(sheet).pool(sheet) {
             let code = row[RowWord::Status as usize] as usize;
@@ -189,7 +189,7 @@ impl Tally {
         }
         add(&mut self.statuses, &present);
         let at_limit = 20 * exposures[status::NOT_KNOWN as usize] == exposures.iter().sum::<u64>();
-        self.features[Feature::UnknownAtLimit as usize] += u64::from(at_limit);
+        self.features[Feature::UnknownAtLimit as usize] += u64::from(at_limit && !is_under_irba(deal));
     }
 
     /// Notes the lines of an accepted sheet, with the weights that were written.
@@ -248,12 +248,15 @@ impl Tally {
         self.relations[relation as usize] += 1;
     }
 
-    /// Notes that the cap decided some line of a sheet with this answer.
+    /// Notes that the cap decided some line of a sheet with this answer. SEC-IRBA is counted apart.
     pub fn note_cap(&mut self, sheet: &[u64], deal: &Deal) {
+        if is_under_irba(deal) {
+            self.irb_features[IrbFeature::CapDecided as usize] += 1;
+            return;
+        }
         self.features[Feature::CapDecided as usize] += 1;
         let stc = DealKind::of_sheet(sheet) == DealKind::Stc;
         self.stc_features[StcFeature::CapDecided as usize] += u64::from(stc);
-        self.irb_features[IrbFeature::CapDecided as usize] += u64::from(is_under_irba(deal));
     }
 
     /// Adds another tally's counts.
@@ -341,7 +344,8 @@ impl fmt::Display for Tally {
 #[cfg(test)]
 mod tests {
     use super::*;
-    use crate::sheet::{Row, FILE_BYTES, WORD_BYTES};
+    use crate::answer::LINE_WORDS;
+    use crate::sheet::{pool_kind, Fact, Irb, Row, Tranche, FILE_BYTES, WHOLE, WORD_BYTES};
 
     /// Each grade has a place of its own, in the order of the codes.
     #[test]
@@ -395,30 +399,43 @@ mod tests {
         assert_eq!(names().len(), Tally::default().counts().len());
     }
 
-    /// The counts of statuses and of an unknown exposure of 5% after one sheet, whose rows have these exposures and
-    /// statuses.
-    fn pool_counts(rows: &[(u64, u64)]) -> ([u64; status::TABLE.len()], u64) {
+    /// The counts of statuses and of an unknown exposure of 5% after one sheet with due diligence, whose pool is of this
+    /// kind and has rows of these exposures and statuses.
+    fn pool_counts(kind: u64, rows: &[(u64, u64)]) -> ([u64; status::TABLE.len()], u64) {
         let mut deal = crate::sheet::Deal::default();
+        deal.facts[Fact::PoolKind] = kind;
+        deal.facts[Fact::Resecuritisation] = u64::from(rows[0].1 == status::TRANCHE);
+        deal.facts[Fact::DueDiligence] = 1;
         deal.rows.extend(rows.iter().map(|&(exposure, status)| Row {
             exposure,
             nominal: 1,
             risk_weight: 100,
             status,
         }));
+        deal.tranches.push(Tranche::LEAST);
+        deal.irb = Irb {
+            loans: 1,
+            share: WHOLE,
+            ..Irb::default()
+        };
         let mut sheet = Vec::new();
         deal.write(&mut sheet);
+        let answer = independent::weigh(&sheet, LINE_WORDS as u64).expect("an accepted sheet");
         let mut tally = Tally::default();
-        tally.note_pool(&sheet);
+        tally.note_pool(&sheet, &answer);
         (tally.statuses, tally.features[Feature::UnknownAtLimit as usize])
     }
 
-    /// A status counts once for a sheet; the unknown exposure counts at 5% and neither above nor below it.
+    /// A status counts once for a sheet; the unknown exposure counts at 5% and neither above nor below it, and not
+    /// under SEC-IRBA.
     #[test]
     fn pools_are_counted() {
-        assert_eq!(pool_counts(&[(90, 0), (3, 2), (5, 1), (2, 2)]), ([1, 1, 1, 0], 1));
-        assert_eq!(pool_counts(&[(95, 0), (6, 2)]), ([1, 0, 1, 0], 0));
-        assert_eq!(pool_counts(&[(96, 1), (5, 2)]), ([0, 1, 1, 0], 0));
-        assert_eq!(pool_counts(&[(100, 3), (1, 3)]), ([0, 0, 0, 1], 0));
+        let at_limit = [(90, 0), (3, 2), (5, 1), (2, 2)];
+        assert_eq!(pool_counts(pool_kind::SA, &at_limit), ([1, 1, 1, 0], 1));
+        assert_eq!(pool_counts(pool_kind::IRB, &at_limit), ([1, 1, 1, 0], 0));
+        assert_eq!(pool_counts(pool_kind::SA, &[(95, 0), (6, 2)]), ([1, 0, 1, 0], 0));
+        assert_eq!(pool_counts(pool_kind::SA, &[(96, 1), (5, 2)]), ([0, 1, 1, 0], 0));
+        assert_eq!(pool_counts(pool_kind::SA, &[(100, 3), (1, 3)]), ([0, 0, 0, 1], 0));
     }
 
     /// An empty run misses every count but the one that is only printed, and each count that occurs is no longer
@@ -431,22 +448,39 @@ mod tests {
         tally.refusals[refusal::place(refusal::THIN)] = 1;
         tally.grades[0] = [1; GRADES];
         tally.grades[1][1..].fill(1);
-        let sheet = [5, 0, 0, 1, 1, 1, 1, 1, 1, 0, 0, 1, 1, 1, 1, 0, 0, 0, 0];
-        let deal = independent::weigh(&sheet, 6).expect("an accepted sheet");
-        tally.note_cap(&sheet, &deal);
+        tally.features[Feature::CapDecided as usize] = 1;
+        tally.stc_features[StcFeature::CapDecided as usize] = 1;
+        tally.irb_features[IrbFeature::CapDecided as usize] = 1;
         let missing = tally.missing();
-        assert_eq!(missing.len(), all - 5);
-        let noted = ["refusal 13", "sheets: cap decided", "STC sheets: cap decided"];
+        let noted = [
+            "refusal 13",
+            "lines: rarest grade, ordinary, senior, 1 year",
+            "sheets: cap decided",
+            "STC sheets: cap decided",
+            "SEC-IRBA: cap decided",
+        ];
+        assert_eq!(missing.len(), all - 1 - noted.len());
         assert!(noted.iter().all(|name| !missing.contains(&name.to_string())));
-        assert!(missing.contains(&"SEC-IRBA: cap decided".to_string()));
-        let sheet = [
-            &[4, 1, 0, 1, 1, 1, 1, 1, 0, 0, 1, 1, 1, 1, 0, 0, 0, 0][..],
-            &[1, 0, 0, 1, 0, 1_000_000, 0],
-        ]
-        .concat();
-        let deal = independent::weigh(&sheet, 6).expect("an accepted sheet");
-        tally.note_cap(&sheet, &deal);
-        assert!(!tally.missing().contains(&"SEC-IRBA: cap decided".to_string()));
-        assert!(!missing.contains(&"lines: rarest grade, ordinary, senior, 1 year".to_string()));
+    }
+
+    /// A cap that decided counts by the deal: for an STC deal also as one, under SEC-IRBA apart from all others.
+    #[test]
+    fn caps_are_counted() {
+        let counts = |pool_kind, stc, section: &[u64]| {
+            let facts = [5, pool_kind, 0, 1, 1, stc];
+            let sheet = [&facts[..], &[1, 1, 1, 1, 0], &[1, 1, 1, 1, 0, 0, 0, 0], section].concat();
+            let deal = independent::weigh(&sheet, LINE_WORDS as u64).expect("an accepted sheet");
+            let mut tally = Tally::default();
+            tally.note_cap(&sheet, &deal);
+            [
+                tally.features[Feature::CapDecided as usize],
+                tally.stc_features[StcFeature::CapDecided as usize],
+                tally.irb_features[IrbFeature::CapDecided as usize],
+            ]
+        };
+        let section = |share| [1, 0, 0, 1, 0, share, 0];
+        assert_eq!([0, 1].map(|stc| counts(0, stc, &[])), [[1, 0, 0], [1, 1, 0]]);
+        assert_eq!([0, 1].map(|stc| counts(1, stc, &section(WHOLE))), [[0, 0, 1]; 2]);
+        assert_eq!(counts(2, 1, &section(949_999)), [1, 1, 0]);
     }
 }

@@ -1391,7 +1391,8 @@ fn words(amounts: &independent::Amounts) -> [u64; 3] {
     [amounts.weight, amounts.risk_weighted, amounts.capital]
 }
 
-/// Where two weights are admitted, both the lower and the higher pass, and it is counted which one was taken.
+/// Where two weights are admitted, both the lower and the higher pass, and it is counted which one was taken. Lines under
+/// SEC-IRBA with two weights are those whose parameters are counted.
 #[test]
 fn either_admitted_weight_passes() {
     let lower: Weigh = |sheet, results| chosen(sheet, results, |admitted| words(&admitted[0]));
@@ -1405,8 +1406,13 @@ fn either_admitted_weight_passes() {
     };
     let (lower, higher) = (tally(lower), tally(higher));
     assert_eq!(lower.higher_taken, 0);
-    assert_eq!(higher.higher_taken, higher.features[Feature::TwoWeights as usize]);
-    assert!(higher.higher_taken > 100);
+    let under_irba = higher.parameters.iter().sum::<u64>();
+    assert_eq!(
+        higher.higher_taken,
+        higher.features[Feature::TwoWeights as usize] + under_irba
+    );
+    assert!(under_irba > 100);
+    assert!(higher.higher_taken > under_irba + 100);
 }
 
 /// The higher weight with the lower one's risk-weighted amount and capital is no admitted triple.

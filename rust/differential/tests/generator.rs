@@ -5,7 +5,7 @@ use differential::sheet::{
     pool_kind, status, Fact, IrbWord, Layout, RowWord, TrancheWord, DAYS, FACTS, FEWEST_FACTS, IRB_AVERAGE, IRB_SHARE,
     LOANS, MANY_LOANS, MONTHS, POOL_AMOUNT, ROWS, TRANCHES, TRANCHE_AMOUNT, WHOLE,
 };
-use differential::{Case, Kind, Relation};
+use differential::{is_under_irba, Case, Kind, Relation};
 use independent::approach::Figures;
 use independent::irba::Sum;
 use std::cmp::Ordering;
@@ -392,11 +392,6 @@ fn unknown_share_meets_five_percent() {
         }
     }
     assert!(below > 50 && at > 50 && above > 50, "{below} {at} {above}");
-}
-
-/// Whether a deal is under SEC-IRBA.
-fn is_under_irba(deal: &independent::Deal) -> bool {
-    deal.lines[0].approach == Approach::SecIrba.word()
 }
 
 /// Points lie at the charge and one millionth to each side of it, under SEC-IRBA too.

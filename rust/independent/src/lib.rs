@@ -2,7 +2,7 @@
 //! (the paper of later requests) and the rating figures of source document 001 alone, and shares nothing with the
 //! proved code.
 //!
-//! Nothing is rounded but where document 01 names a rounding. Sums and products are whole numbers of 128 bits, where
+//! Nothing is rounded but where the papers name a rounding. Sums and products are whole numbers of 128 bits, where
 //! every intermediate result fits (the largest is about 10^19). The exponentials of the formula are held between two
 //! fixed-point numbers, each rounded outward.
 //!

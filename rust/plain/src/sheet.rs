@@ -239,8 +239,8 @@ impl<'a> Reader<'a> {
         Ok(())
     }
 
-    /// The words of the IRB section. All loans of an IRB pool have an IRB charge. Sheets without the section are read
-    /// more quickly where this is a function of its own.
+    /// The words of the IRB section. All loans of an IRB pool have an IRB charge. Not inlined: sheets without the section
+    /// need none of it.
     #[inline(never)]
     fn irb(&mut self, kind: u64) -> Result<&'a [u64; IRB_WORDS], Refusal> {
         self.within(IRB_SECTIONS..=IRB_SECTIONS, refusal::COUNT)?;

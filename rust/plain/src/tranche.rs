@@ -150,8 +150,8 @@ impl Terms {
         }
     }
 
-    /// The supervisory parameter of a tranche under SEC-IRBA; that of the kind where SEC-IRBA does not apply. In a
-    /// function of its own it does not slow the other approaches.
+    /// The supervisory parameter of a tranche under SEC-IRBA; that of the kind where SEC-IRBA does not apply. Not
+    /// inlined: the other approaches need none of it.
     #[inline(never)]
     fn irba_parameter(&self, tranche: &Tranche) -> f64 {
         match &self.irba {
