@@ -6,8 +6,8 @@ use mathlib.Core.Path.{_≡_, refl, sym, _∙_}
 use Prim.Native.Nat.{ℕ, _≤_, _<_}
 use native.Mathlib.Omega.{arith}
 use lib.Dec.{eqb}
-use borrow.Author.Tests.{not-true, not-false, ne-eqb, lt-leb, le-leb, eqb-true}
-use Rattle.numbers.proofs.Tests.{both-true, within-is}
+use borrow.Author.Tests.{not-true, ne-eqb, lt-leb, le-leb, eqb-true}
+use Rattle.numbers.proofs.Tests.{true-not-false, both-true, within-is}
 use Rattle.irba.specs.IrbaDeals.{coversPool, irbaApplies}
 use Rattle.irba.specs.Parameter.{withinLimits, parameter as irbaParameter}
 use Rattle.irba.specs.ParameterMeans.{IsParameter}
@@ -80,14 +80,11 @@ pub irba-has-section : (s : List ℕ) → terms s .irba ≡ true → hasIrb s �
 unfolding terms layout
 irba-has-section s by = by-kind (eqb (poolKind s) 0) refl
   where
-    false-not-true : false ≡ true → ⊥
-    false-not-true z = let y : _≡_ {A = ℕ} 0 1 = cc in omega arith
-
     by-kind : (none : Bool) → eqb (poolKind s) 0 ≡ none → hasIrb s ≡ true
     by-kind true is =
         absurd
-        (false-not-true
-        (sym (sa-pool-not-irba (dueDiligence s) (resecuritisation s) (poolKind s) (irbFigures s .share) (eqb-true (poolKind s) 0 is)) ∙ by))
+        (true-not-false
+        (sym by ∙ sa-pool-not-irba (dueDiligence s) (resecuritisation s) (poolKind s) (irbFigures s .share) (eqb-true (poolKind s) 0 is)))
     by-kind false is = rw is
 
 -- ---- the parameter

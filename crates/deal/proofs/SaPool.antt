@@ -8,6 +8,7 @@ use native.Mathlib.Nat.{add-zero, le-refl}
 use native.Mathlib.Omega.{arith}
 use lib.Dec.{eqb}
 use borrow.Author.Tests.{eqb-true, eqb-false}
+use Rattle.numbers.proofs.Tests.{true-not-false}
 use Rattle.limits.specs.SheetSize.{factsLeast}
 use Rattle.faults.specs.GoodWords.{GoodFact}
 use Rattle.judgement.specs.DealSheet.{word, poolKind, resecuritisation, dueDiligence, reportingDate, poolAt, rows, rowAt, tranchesAt, trancheCount, trancheAt, hasIrb, irbFigures, layout}
@@ -69,10 +70,7 @@ module _ (s s′ : List ℕ) (r : AsSaPool s s′) (words : wordsVerdict s ≡ S
   no-irb = has-no-irb s′ (r .sa)
 
   no-irb-either : hasIrb s′ ≡ true → ⊥
-  no-irb-either has = false-not-true (sym no-irb ∙ has)
-    where
-      false-not-true : false ≡ true → ⊥
-      false-not-true z = let y : _≡_ {A = ℕ} 0 1 = cc in omega arith
+  no-irb-either has = true-not-false (sym has ∙ no-irb)
 
   fact-of-sa : (p : ℕ) → 1 ≤ p → p < poolAt s → GoodFact (resecuritisation s′) p (word s′ p)
   fact-of-sa p least before = by-place (eqb p 1) refl

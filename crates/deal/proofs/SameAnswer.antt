@@ -1,7 +1,7 @@
 -- Two sheets whose words are good, with as many tranches at the same places, whose charge is the same and whose tranches are thin alike and have the same lines, get the
 -- same answer and leave the same results. No axioms.
 use mathlib.Core.List.{List}
-use mathlib.Core.Path.{_≡_, refl, _∙_}
+use mathlib.Core.Path.{_≡_, refl}
 use Prim.Native.Nat.{ℕ, _<_}
 use lib.ListN.{length}
 use Rattle.judgement.specs.DealSheet.{tranchesAt, trancheCount}

@@ -7,7 +7,7 @@ use Prim.Native.Nat.{ℕ, _-_, _≤_, _<_}
 use native.Mathlib.Nat.{eq-zero-or-pos}
 use native.Mathlib.Omega.{arith}
 use borrow.Author.Tests.{ne-eqb}
-use Rattle.numbers.proofs.Tests.{within-is}
+use Rattle.numbers.proofs.Tests.{true-not-false, within-is}
 use Rattle.dates.specs.Calendar.{namesDay, Day}
 use Rattle.dates.specs.Maturity.{monthsBetween, maturityMonths, maturityAllowed}
 use Rattle.dates.proofs.MonthsLaws.{months-least}
@@ -45,12 +45,9 @@ ten-means false good e = absurd (omega arith)
 above-most : (n : ℕ) → 1 ≤ n → monthsInLimits n ≡ false → 1200 < n
 above-most n least e =
     ⊎-elim
-    (λ within. absurd (clash (sym (within-is 1 1200 n least (omega arith)) ∙ e)))
+    (λ within. absurd (true-not-false (sym (within-is 1 1200 n least (omega arith)) ∙ e)))
     (λ above. omega arith)
     (eq-zero-or-pos (n - 1200))
-  where
-    clash : true ≡ false → ⊥
-    clash z = let y : _≡_ {A = ℕ} 0 1 = cc in omega arith
 
 pub too-many-months : (reportingDate w : ℕ) → Day reportingDate → maturityFault reportingDate w ≡ 10 → 1200 < maturityMonths reportingDate w
 too-many-months reportingDate w from e =

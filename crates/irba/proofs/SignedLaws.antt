@@ -14,7 +14,7 @@ use mir.Val.{Fits, SFits, toZ, ofZ}
 use mir.ValLaws.{toZ-ofZ}
 use borrow.Author.Tests.{ltb-true, ltb-false}
 use Rattle.numbers.proofs.RoundingLaws.{rounded-up-zero}
-use Rattle.numbers.proofs.Tests.{at-cond}
+use Rattle.numbers.proofs.Tests.{true-not-false, at-cond}
 use Rattle.numbers.specs.Rounding.{roundedUp}
 use Rattle.irba.specs.Parameter.{signedRoundedUp, raisedTo}
 use Rattle.irba.specs.SmallCoefficients.{SmallTerm}
@@ -72,16 +72,13 @@ one-more {n} {x} {z} w s h k =
 
 -- ---- a test of the sign or of the order, and what is picked by it
 
-never : {X : Type 0} → true ≡ false → X
-never e = absurd (subst T e tt)
-
 pub rounded-up-below-zero : (z : ℤ) (d : ℕ) → ltZ z (pos 0) ≡ true → quotZ z (pos d) ≡ signedRoundedUp z d
 rounded-up-below-zero (pos a) d e = absurd (let h = ltb-true a 0 e in omega arith)
 rounded-up-below-zero (negsuc a) d e = refl
 
 pub rounded-up-from-zero : (z : ℤ) (d : ℕ) → ltZ z (pos 0) ≡ false → pos (roundedUp (natAbs z) d) ≡ signedRoundedUp z d
 rounded-up-from-zero (pos a) d e = refl
-rounded-up-from-zero (negsuc a) d e = never e
+rounded-up-from-zero (negsuc a) d e = absurd (true-not-false e)
 
 pub raised-from-below : (least : ℕ) (z : ℤ) → ltZ z (pos least) ≡ true → least ≡ raisedTo least z
 raised-from-below least (pos a) e = omega (arith, ltb-true a least e)
@@ -89,17 +86,17 @@ raised-from-below least (negsuc a) e = refl
 
 pub raised-as-it-is : (least : ℕ) (z : ℤ) → ltZ z (pos least) ≡ false → natAbs z ≡ raisedTo least z
 raised-as-it-is least (pos a) e = omega (arith, ltb-false a least e)
-raised-as-it-is least (negsuc a) e = never e
+raised-as-it-is least (negsuc a) e = absurd (true-not-false e)
 
 -- ---- a number that is no lower than one from 0 up
 
 pub mag-from-zero : (least : ℕ) (z : ℤ) → ltZ z (pos least) ≡ false → natAbs z ≡ mag z
 mag-from-zero least (pos a) e = refl
-mag-from-zero least (negsuc a) e = never e
+mag-from-zero least (negsuc a) e = absurd (true-not-false e)
 
 pub cast-from-zero : (least : ℕ) (z : ℤ) → ltZ z (pos least) ≡ false → SFits w64 z → T (nonNeg z) × Fits w64 (natAbs z)
 cast-from-zero least (pos a) e fits = (tt, record { fits = omega (arith, fits .sfits) })
-cast-from-zero least (negsuc a) e fits = never e
+cast-from-zero least (negsuc a) e fits = absurd (true-not-false e)
 
 -- ---- the part above 0
 

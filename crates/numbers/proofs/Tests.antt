@@ -1,13 +1,16 @@
--- Laws of tests and of what they pick: both, neither or either of two, two tests that say the same, numbers that were raised alike, and a picked number. No axioms.
+-- Laws of tests and of what they pick: no test both holds and fails, both, neither or either of two, two tests that say the same, numbers that were raised alike, and a picked number. No axioms.
 use mathlib.Core.Bool.{Bool, true, false, cond, _&&_, _||_}
 use mathlib.Core.Logic.{_⊎_, inl, inr, ⊎-elim}
-use mathlib.Core.Path.{_≡_, refl, _∙_, sym, ap}
+use mathlib.Core.Path.{_≡_, refl, _∙_, sym, ap, subst}
 use Prim.Native.Nat.{ℕ, suc, _+_, _-_, _≤_, _<_}
 use native.Mathlib.Nat.{eq-zero-or-pos, lt-of-not-le, not-le-of-lt}
 use native.Mathlib.Omega.{arith}
 use lib.Dec.{T, leb, ltb, eqb}
 use Rattle.numbers.specs.Limits.{within}
 use borrow.Author.Tests.{leb-true, eqb-true, eqb-false, le-leb, lt-leb, eq-eqb, ne-eqb}
+
+pub true-not-false : true ≡ false → ⊥
+true-not-false e = subst T e tt
 
 pub and-both : (a b : Bool) → T (a && b) → T a × T b
 and-both true b t = (tt, t)

@@ -1,7 +1,7 @@
 -- `approach`: each return by the tests that led there. No axioms.
 use native.Mathlib.Omega.{arith}
 use borrow.Author.Needs.{needs}
-use borrow.Author.Tests.{not-true, not-false}
+use borrow.Author.Tests.{not-true}
 use Rattle.weights.proofs.approach.Statement.{statement}
 use Rattle.weights.proofs.approach.Tie as tie
 

@@ -1,5 +1,5 @@
 -- `end_of`: by the pool's kind the sheet ends with its tranches or with the IRB section. No axioms.
-use mathlib.Core.Path.{_≡_, sym, _∙_}
+use mathlib.Core.Path.{sym, _∙_}
 use native.Mathlib.Omega.{arith}
 use borrow.Author.Needs.{needs}
 use Rattle.judgement.proofs.NeededLaws.{has-irb, has-no-irb, needed-is, irb-words, no-irb-words}

@@ -1,6 +1,5 @@
 -- `irb_figures`: by the pool's kind zeros, or the words of the section's row. No axioms.
-use mathlib.Core.Path.{_≡_, sym, _∙_}
-use native.Mathlib.Omega.{arith}
+use mathlib.Core.Path.{sym, _∙_}
 use borrow.Author.Needs.{needs}
 use Rattle.judgement.specs.DealSheet.{irbFigures}
 use Rattle.judgement.proofs.NeededLaws.{has-irb, has-no-irb}
