@@ -1,4 +1,6 @@
--- Over sums within their limits no charge and no share is above 1,000,000, and no average is above 125,000. No axioms.
+-- Over sums within their limits no charge and no share is above 1,000,000, and no average is above 125,000; the base charge of a mixed one is rounded up first. No axioms.
+use mathlib.Core.Bool.{false}
+use mathlib.Core.Path.{_≡_, refl}
 use Prim.Native.Nat.{ℕ, _+_, _*_, _-_, _≤_}
 use native.Mathlib.Nat.{le-refl, mul-le-mul-left}
 use native.Mathlib.Omega.{arith}
@@ -39,6 +41,12 @@ pool-charge-at-most-million q l =
     rounded-up-at-most (q .known .exposure * knownCharge q + unknownExposure q * 1000000) (q .all .exposure) 1000000
     (omega (arith, mul-le-mul-left (q .known .exposure) (known-charge-at-most-million q l))))
     (λ e. le-refl 1000000)
+
+-- the base charge is rounded up before it is mixed in: 20.5 millionths count as 21, of which a rest of 5% is 1.05
+pub base-rounded-first :
+    mixedCharge (record { charge = 0; loss = 0; loans = 1; retail = false; share = 950000; average = 0 }) (record { exposure = 1600; nominal = 1; weighted = 41 }) ≡ 2
+unfolding mixedCharge
+base-rounded-first = refl
 
 pub mixed-charge-at-most-million : (f : IrbFigures) (t : Totals) → TotalsLimits t → f .share ≤ 1000000 → f .charge ≤ 1000000 → mixedCharge f t ≤ 1000000
 unfolding mixedCharge

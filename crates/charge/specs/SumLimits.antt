@@ -1,5 +1,5 @@
--- Limits on a pool's sums, under which nothing overflows: as the test that the code makes, and in plain relations. That both say the same is proved in
--- proofs/SumLimitsLaw.antt; that the sums of every sheet whose words are good keep them, in PoolLaws.antt of `pool` (`sum-limits`).
+-- Limits on a pool's sums and on the figures of an IRB section, under which nothing overflows: as the test that the code makes, and in plain relations. That both say the same
+-- is proved in proofs/SumLimitsLaw.antt; that the sums of every sheet whose words are good keep them, in PoolLaws.antt of `pool` (`sum-limits`).
 use mathlib.Core.Bool.{Bool, _&&_}
 use Prim.Native.Nat.{ℕ, _*_, _≤_}
 use lib.Dec.{leb}
