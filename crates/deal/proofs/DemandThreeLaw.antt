@@ -1,4 +1,4 @@
--- Demand 3 of the line of every accepted tranche under the formula, SEC-SA or SEC-IRBA, with K at least 1 and D above K, and the weight in the cases that 01 gives in closed form. No
+-- Demand 3 and S-6's limits of the line of every accepted tranche under the formula, SEC-SA or SEC-IRBA, with K at least 1 and D above K, and the weight in the cases that 01 gives in closed form. No
 -- accepted tranche is too thin for the formula, and its inputs are within the limits for which the formula is computed. No axioms.
 use mathlib.Core.Bool.{true, false}
 use mathlib.Core.List.{List}
@@ -8,7 +8,9 @@ use Prim.Native.Nat.{ℕ, _-_, _≤_, _<_}
 use native.Mathlib.Nat.{eq-zero-or-pos}
 use native.Mathlib.Omega.{arith}
 use lib.ListN.{length}
-use Rattle.series.specs.Ends.{Passes}
+use Rattle.numbers.specs.BothEnds.{both, atBoth}
+use Rattle.numbers.specs.declared.Ends.{Ends}
+use Rattle.series.specs.Ends.{Passes, PassesFromBelow}
 use Rattle.formula.specs.Formula.{WithinLimits, RawWeightNumbers, weighing, PassingWeight, IsRawWeight}
 use Rattle.formula.specs.FixedPoint.{rawWeight}
 use Rattle.formula.proofs.RawWeightLaw.{raw-weight-is}
@@ -18,7 +20,7 @@ use Rattle.weights.specs.ApproachFloorCap.{byFormula, parameter, afterFloorAndC
 use Rattle.weights.specs.declared.Terms.{Terms}
 use Rattle.weights.specs.declared.Tranche.{Tranche}
 use Rattle.deal.specs.Lines.{terms, tranche, line, lineWords}
-use Rattle.deal.specs.DemandThree.{AboveCharge, rawWeightOf, DemandThree, KeepsDemandThree}
+use Rattle.deal.specs.DemandThree.{AboveCharge, rawWeightOf, DemandThree, KeepsDemandThree, SeventhWord, KeepsSeventhWord}
 use Rattle.judgement.specs.Refusals.{judged}
 use Rattle.judgement.proofs.SheetLimits.{stc-ordinary}
 use Rattle.deal.specs.Refusals.{verdict}
@@ -64,17 +66,17 @@ within-limits s i e = record {
 abbrev pub formulaAnswer : List ℕ → ℕ → RawWeightNumbers
 formulaAnswer s i = rawWeight (attachmentPoint s i) (detachmentPoint s i) (terms s .charge) (parameter (tranche s i) (terms s))
 
-raw-weight-number : (s : List ℕ) (i w : ℕ) → formulaAnswer s i ≡ weighing w → rawWeightOf s i ≡ w
+raw-weight-ends : (s : List ℕ) (i : ℕ) (e : Ends) → formulaAnswer s i ≡ weighing e → formulaRawWeight (tranche s i) (terms s) ≡ e
 unfolding formulaRawWeight tranche terms
-raw-weight-number s i w e = ap weightOrHighest e
+raw-weight-ends s i e is = ap weightOrHighest is
 
--- where the formula applies and the raw weight is a number, the weight is that number after floor and cap
+-- where the formula applies and there is a raw weight, the weight is its two numbers after floor and cap
 weighs-raw :
-    (s : List ℕ) (i w : ℕ) → byFormula (tranche s i) (terms s) ≡ true → formulaAnswer s i ≡ weighing w →
-    weight (tranche s i) (terms s) ≡ afterFloorAndCap (tranche s i) (terms s) w
-weighs-raw s i w by e =
+    (s : List ℕ) (i : ℕ) (e : Ends) → byFormula (tranche s i) (terms s) ≡ true → formulaAnswer s i ≡ weighing e →
+    weight (tranche s i) (terms s) ≡ atBoth (afterFloorAndCap (tranche s i) (terms s)) e
+weighs-raw s i e by is =
     formula-weight (tranche s i) (terms s) by ∙
-    ap (λ (x : ℕ). afterFloorAndCap (tranche s i) (terms s) x) (raw-weight-number s i w e)
+    ap (atBoth (afterFloorAndCap (tranche s i) (terms s))) (raw-weight-ends s i e is)
 
 -- ---- an accepted tranche under the formula
 
@@ -85,17 +87,17 @@ module _ (s : List ℕ) (room i : ℕ) (accepted : verdict s room ≡ Sound) whe
   is-raw-weight : IsRawWeight (attachmentPoint s i) (detachmentPoint s i) (terms s .charge) (parameter (tranche s i) (terms s)) (formulaAnswer s i)
   is-raw-weight = raw-weight-is (attachmentPoint s i) (detachmentPoint s i) (terms s .charge) (parameter (tranche s i) (terms s))
 
-  -- "the raw weight is 125,000 if D ≤ K"
+  -- "the raw weight is 125,000 if D ≤ K"; S-6: "125,000 and 0 are given as they are."
   pub within-charge :
       byFormula (tranche s i) (terms s) ≡ true → detachmentPoint s i ≤ terms s .charge →
-      weight (tranche s i) (terms s) ≡ afterFloorAndCap (tranche s i) (terms s) 125000
-  within-charge by h = weighs-raw s i 125000 by (is-raw-weight .within-charge limits h)
+      weight (tranche s i) (terms s) ≡ atBoth (afterFloorAndCap (tranche s i) (terms s)) (both 125000)
+  within-charge by h = weighs-raw s i (both 125000) by (is-raw-weight .within-charge limits h)
 
   -- "0 if K = 0"
   pub charge-zero :
       byFormula (tranche s i) (terms s) ≡ true → terms s .charge ≡ 0 → 0 < detachmentPoint s i →
-      weight (tranche s i) (terms s) ≡ afterFloorAndCap (tranche s i) (terms s) 0
-  charge-zero by none h = weighs-raw s i 0 by (is-raw-weight .charge-zero limits (omega arith) none)
+      weight (tranche s i) (terms s) ≡ atBoth (afterFloorAndCap (tranche s i) (terms s)) (both 0)
+  charge-zero by none h = weighs-raw s i (both 0) by (is-raw-weight .charge-zero limits (omega arith) none)
 
 module _ (s : List ℕ) (room i : ℕ) (accepted : verdict s room ≡ Sound) (row : i < trancheCount s) (by : byFormula (tranche s i) (terms s) ≡ true) where
   passing :
@@ -105,14 +107,14 @@ module _ (s : List ℕ) (room i : ℕ) (accepted : verdict s room ≡ Sound) (ro
       is-raw-weight s room i accepted .formula (limits s room i accepted) above one
       (attachment-below-detachment s room i accepted row by above)
 
-  -- The raw weight is a number: an accepted tranche meets none of the cases that have none.
-  pub formula-weighs : (w : ℕ) × (formulaAnswer s i ≡ weighing w)
+  -- There is a raw weight: an accepted tranche meets none of the cases that have none.
+  pub formula-weighs : (e : Ends) × (formulaAnswer s i ≡ weighing e)
   formula-weighs =
       ⊎-elim
-      (λ e. (125000, is-raw-weight s room i accepted .within-charge (limits s room i accepted) (omega arith)))
+      (λ e. (both 125000, is-raw-weight s room i accepted .within-charge (limits s room i accepted) (omega arith)))
       (λ above.
       ⊎-elim
-      (λ none. (0, is-raw-weight s room i accepted .charge-zero (limits s room i accepted) (omega arith) none))
+      (λ none. (both 0, is-raw-weight s room i accepted .charge-zero (limits s room i accepted) (omega arith) none))
       (λ one. let w = passing one (omega arith) in (w .weight, w .answered))
       (eq-zero-or-pos (terms s .charge)))
       (eq-zero-or-pos (detachmentPoint s i - terms s .charge))
@@ -122,14 +124,31 @@ pub demand-three : (s old : List ℕ) (i : ℕ) → AboveCharge s (length old) i
 unfolding lineWords line
 demand-three s old i t =
     let w = passing s (length old) i (t .accepted) (t .among) (t .by-formula) (t .charge-least) (t .above) in
-    let number = raw-weight-number s i (w .weight) (w .answered) in
+    let number = ap (λ (e : Ends). e .high) (raw-weight-ends s i (w .weight) (w .answered)) in
     record {
-      line-weight = results-line s old i 3 (t .accepted) (t .among) (omega arith) ∙ formula-weight (tranche s i) (terms s) (t .by-formula);
+      line-weight =
+          results-line s old i 3 (t .accepted) (t .among) (omega arith) ∙
+          ap (λ (e : Ends). e .high) (formula-weight (tranche s i) (terms s) (t .by-formula));
       passes =
           subst
           (λ (x : ℕ). Passes (attachmentPoint s i) (detachmentPoint s i) (terms s .charge) (parameter (tranche s i) (terms s)) x)
           (sym number) (w .passes);
       at-most = subst (λ (x : ℕ). x ≤ 125000) (sym number) (w .at-most);
+    }
+
+-- S-6: the limits of the seventh word.
+pub seventh-word : (s old : List ℕ) (i : ℕ) → AboveCharge s (length old) i → SeventhWord s (resultsAfter s old) i
+unfolding lineWords line
+seventh-word s old i t =
+    let w = passing s (length old) i (t .accepted) (t .among) (t .by-formula) (t .charge-least) (t .above) in
+    record {
+      line-low =
+          results-line s old i 6 (t .accepted) (t .among) (omega arith) ∙
+          ap (λ (e : Ends). e .low) (formula-weight (tranche s i) (terms s) (t .by-formula));
+      passes-from-below =
+          subst
+          (λ (x : ℕ). PassesFromBelow (attachmentPoint s i) (detachmentPoint s i) (terms s .charge) (parameter (tranche s i) (terms s)) x)
+          (sym (ap (λ (e : Ends). e .low) (raw-weight-ends s i (w .weight) (w .answered)))) (w .passes-from-below);
     }
 
 -- of which parameter it speaks
@@ -163,3 +182,6 @@ irba-demand-three s old i by t = with-parameter s old i (irbaParameterOf s i) (i
 -- Whatever results a sheet is due keep it.
 pub keeps-demand-three : (s old new : List ℕ) → new ≡ resultsAfter s old → KeepsDemandThree s (length old) new
 keeps-demand-three s old new e i t = subst (λ (x : List ℕ). DemandThree s x i) (sym e) (demand-three s old i t)
+
+pub keeps-seventh-word : (s old new : List ℕ) → new ≡ resultsAfter s old → KeepsSeventhWord s (length old) new
+keeps-seventh-word s old new e i t = subst (λ (x : List ℕ). SeventhWord s x i) (sym e) (seventh-word s old i t)

@@ -1,4 +1,4 @@
--- A tranche's line depends on no other tranche's ratings: two accepted sheets that are the same but for those give it the same six words. No axioms.
+-- A tranche's line depends on no other tranche's ratings: two accepted sheets that are the same but for those give it the same words. No axioms.
 use mathlib.Core.List.{List}
 use mathlib.Core.Path.{_≡_, sym, _∙_}
 use Prim.Native.Nat.{ℕ, _+_, _*_, _≤_, _<_}

@@ -1,5 +1,5 @@
--- Laws of the results: line i stands in the six words from 6 × i, the words after the lines are as they were, and so are all words on a refusal.
--- No axioms.
+-- Laws of the results: line i stands in the `lineSize` words from `lineSize` × i, its seventh word is never above its fourth and at most 2 below it, the words after the lines are as they were,
+-- and so are all words on a refusal. No axioms.
 use mathlib.Core.List.{List, _++_}
 use mathlib.Core.Logic.{⊎-elim}
 use mathlib.Core.Path.{_≡_, refl, ap, _∙_}
@@ -10,7 +10,8 @@ use lib.ListN.{length, getD, drop, length-append, length-drop, List·getD-append
 use lib.Seq.{getD-append-add, getD-drop}
 use Rattle.limits.specs.SheetSize.{lineSize}
 use Rattle.judgement.specs.DealSheet.{trancheCount}
-use Rattle.deal.specs.Lines.{terms, tranche, lineWords}
+use Rattle.numbers.specs.BothEnds.{EndsWithin}
+use Rattle.deal.specs.Lines.{terms, tranche, line, lineWords}
 use Rattle.deal.specs.Refusals.{verdict}
 use Rattle.deal.specs.Results.{lines, resultsFor, resultsAfter}
 use Rattle.judgement.specs.declared.Refusal.{Refusal}
@@ -18,6 +19,7 @@ use Rattle.weights.specs.declared.Terms.{Terms}
 use Rattle.weights.specs.declared.Tranche.{Tranche}
 use Rattle.judgement.specs.declared.Verdict.{Verdict}
 use Rattle.judgement.specs.declared.Verdict.the-variants.{Sound, Faulty}
+use Rattle.weights.proofs.WeightLaws.{weight-within}
 use Rattle.deal.proofs.JudgedLaws.{accepted-means}
 
 pub length-line : (t : Tranche) (d : Terms) → length (lineWords t d) ≡ lineSize
@@ -70,6 +72,14 @@ results-line s old i c e l h =
     rw (results-accepted s old e)
     (List·getD-append (lines s (trancheCount s)) (drop (lineSize * trancheCount s) old) 0 (lineSize * i + c) (omega (arith, length-lines s (trancheCount s))) ∙
     line-at s (trancheCount s) i c l h)
+
+-- S-6: in every line the seventh word is not above the fourth, and at most 2 below it; under the rating table at most 1, under the fallback both are the same
+pub seventh-within :
+    (s old : List ℕ) (i : ℕ) → verdict s (length old) ≡ Sound → i < trancheCount s →
+    EndsWithin 2 (record { low = getD (resultsAfter s old) (lineSize * i + 6) 0; high = getD (resultsAfter s old) (lineSize * i + 3) 0 })
+unfolding lineWords line
+seventh-within s old i e l =
+    rw (results-line s old i 6 e l (omega arith), results-line s old i 3 e l (omega arith)) (weight-within (tranche s i) (terms s))
 
 pub results-rest :
     (s old : List ℕ) (p : ℕ) → verdict s (length old) ≡ Sound → lineSize * trancheCount s ≤ p → getD (resultsAfter s old) p 0 ≡ getD old p 0

@@ -17,10 +17,10 @@ use Rattle.judgement.proofs.WordsLaw.{laid-out}
 use Rattle.pool.specs.SummedPool.{OpenPool}
 use Rattle.deal.specs.Lines.{termsFor, terms}
 use Rattle.deal.specs.Refusals.{thinVerdict, verdict}
-use Rattle.deal.specs.DemandThree.{KeepsDemandThree}
+use Rattle.deal.specs.DemandThree.{KeepsDemandThree, KeepsSeventhWord}
 use Rattle.deal.specs.Results.{replyOf, replyTo, lines, resultsAfter}
 use Rattle.deal.specs.declared.Answer.the-variants.{Weighed, Refused}
-use Rattle.deal.proofs.DemandThreeLaw.{keeps-demand-three}
+use Rattle.deal.proofs.DemandThreeLaw.{keeps-demand-three, keeps-seventh-word}
 
 -- ---- an opened pool
 
@@ -51,17 +51,17 @@ decided-by-thickness s room e enough e′ = simp (e, le-ltb room (lineSize * tra
 
 pub refused-answer :
     (s old : List ℕ) {r : Refusal} → verdict s (length old) ≡ Faulty r →
-    (replyOf (Refused r) ≡ replyTo s (length old)) × ((old ≡ resultsAfter s old) × KeepsDemandThree s (length old) old)
+    (replyOf (Refused r) ≡ replyTo s (length old)) × ((old ≡ resultsAfter s old) × (KeepsDemandThree s (length old) old × KeepsSeventhWord s (length old) old))
 unfolding replyTo resultsAfter
 refused-answer s old e =
     let kept : old ≡ resultsAfter s old = rw e in
-    (rw e, (kept, keeps-demand-three s old old kept))
+    (rw e, (kept, (keeps-demand-three s old old kept, keeps-seventh-word s old old kept)))
 
 pub weighed-answer :
     (s old : List ℕ) {n k : ℕ} {new : List ℕ} → verdict s (length old) ≡ Sound → n ≡ trancheCount s → k ≡ terms s .charge →
     new ≡ lines s (trancheCount s) ++ drop (lineSize * trancheCount s) old →
-    (replyOf (Weighed n k) ≡ replyTo s (length old)) × ((new ≡ resultsAfter s old) × KeepsDemandThree s (length old) new)
+    (replyOf (Weighed n k) ≡ replyTo s (length old)) × ((new ≡ resultsAfter s old) × (KeepsDemandThree s (length old) new × KeepsSeventhWord s (length old) new))
 unfolding replyTo resultsAfter
 weighed-answer s old {new = new} e count charge written =
     let due : new ≡ resultsAfter s old = rw e written in
-    (rw (e, count, charge), (due, keeps-demand-three s old new due))
+    (rw (e, count, charge), (due, (keeps-demand-three s old new due, keeps-seventh-word s old new due)))

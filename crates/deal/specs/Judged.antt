@@ -11,7 +11,7 @@ use Rattle.deal.specs.Lines.{terms, tranche}
 use Rattle.judgement.specs.declared.Refusal.{Refusal}
 use Rattle.judgement.specs.Judged.{WordsGood, WordsRefusal}
 
--- "14: results shorter than six words per tranche; place 0."
+-- "14: results shorter than six words per tranche; place 0."; 02, S-6: "14 now reads seven words per tranche"
 pub record RoomShort (s : List ℕ) (room : ℕ) (r : Refusal) : Type 0 where
   pub words : WordsGood s
   pub short : room < lineSize * trancheCount s

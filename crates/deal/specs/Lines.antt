@@ -1,4 +1,4 @@
--- 01, "The deal sheet" and "Which approach, then floor, then cap", and 02, S-1 and S-5: what the tranches of a sheet share, what is each tranche's own, and the line that they
+-- 01, "The deal sheet" and "Which approach, then floor, then cap", and 02, S-1, S-5 and S-6: what the tranches of a sheet share, what is each tranche's own, and the line that they
 -- make.
 use mathlib.Core.Bool.{Bool, cond}
 use mathlib.Core.List.{List, [], _∷_}
@@ -68,20 +68,22 @@ riskWeightedAmount heldAmount w = roundedUp (heldAmount * w) 10000
 abbrev pub capital : ℕ → ℕ → ℕ
 capital heldAmount w = roundedUp (heldAmount * w * 8) 1000000
 
--- ---- the line: "approach (0 fallback, 1 SEC-ERBA, 2 SEC-SA), A, D, weight, risk-weighted amount, capital"; S-5's "approach 3"
+-- ---- the line: "approach (0 fallback, 1 SEC-ERBA, 2 SEC-SA), A, D, weight, risk-weighted amount, capital"; S-5's "approach 3"; S-6: "Each tranche gets a
+-- seventh word.", which is the low end of the weight. Both amounts are by the fourth word
 
 unfoldable pub line : Tranche → Terms → Line
 line t d = record {
   approach = approach t d;
   attachment = t .attachment;
   detachment = t .detachment;
-  weight = weight t d;
-  rwa = riskWeightedAmount (t .held) (weight t d);
-  capital = capital (t .held) (weight t d);
+  weight = weight t d .high;
+  rwa = riskWeightedAmount (t .held) (weight t d .high);
+  capital = capital (t .held) (weight t d .high);
+  low = weight t d .low;
 }
 
 abbrev pub wordsOf : Line → List ℕ
-wordsOf l = l .approach ∷ l .attachment ∷ l .detachment ∷ l .weight ∷ l .rwa ∷ l .capital ∷ []
+wordsOf l = l .approach ∷ l .attachment ∷ l .detachment ∷ l .weight ∷ l .rwa ∷ l .capital ∷ l .low ∷ []
 
 unfoldable pub lineWords : Tranche → Terms → List ℕ
 lineWords t d = wordsOf (line t d)

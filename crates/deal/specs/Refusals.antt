@@ -11,7 +11,7 @@ use Rattle.judgement.specs.declared.Verdict.{Verdict}
 use Rattle.judgement.specs.declared.Verdict.the-variants.{Sound}
 use Rattle.judgement.specs.Refusals.{refused, orElse, firstOf, wordsVerdict}
 
--- "14: results shorter than six words per tranche; place 0."
+-- "14: results shorter than six words per tranche; place 0."; 02, S-6: "14 now reads seven words per tranche"
 abbrev pub roomVerdict : List ℕ → ℕ → Verdict
 roomVerdict s room = cond (ltb room (lineSize * trancheCount s)) (refused 14 0) Sound
 

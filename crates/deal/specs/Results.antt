@@ -34,7 +34,7 @@ replyFor s (Faulty r) = record { number = r .number; place = r .place; count = 0
 unfoldable pub replyTo : List ℕ → ℕ → Reply
 replyTo s room = replyFor s (verdict s room)
 
--- ---- the results: "six per tranche", "Later words are untouched", and on a refusal "results untouched"
+-- ---- the results: "six per tranche", with S-6 seven, "Later words are untouched", and on a refusal "results untouched"
 
 -- the lines of the first n tranches
 unfoldable pub lines : List ℕ → ℕ → List ℕ

@@ -4,7 +4,7 @@ ghost use mathlib.Core.Bool.{cond};
 ghost use Rattle.charge.specs.Figures.{poolFigures, mixedFigures};
 ghost use Rattle.charge.specs.SumLimits.{SumLimits, IrbLimits};
 ghost use Rattle.pool.specs.SummedPool.{OpenPool};
-ghost use Rattle.deal.specs.DemandThree.{KeepsDemandThree};
+ghost use Rattle.deal.specs.DemandThree.{KeepsDemandThree, KeepsSeventhWord};
 ghost use Rattle.deal.specs.Lines.{termsFor};
 ghost use Rattle.deal.specs.Results.{replyOf, replyTo, resultsAfter};
 
@@ -27,7 +27,7 @@ pub enum Answer {
     Refused(Refusal),
 }
 
-// A tranche's line, as its six words; rwa is the risk-weighted amount.
+// A tranche's line, as its seven words; rwa is the risk-weighted amount, low the low end of the weight.
 pub(crate) struct Line {
     pub(crate) approach: u64,
     pub(crate) attachment: u64,
@@ -35,6 +35,7 @@ pub(crate) struct Line {
     pub(crate) weight: u64,
     pub(crate) rwa: u64,
     pub(crate) capital: u64,
+    pub(crate) low: u64,
 }
 
 // The pool's figures: where SEC-IRBA applies those that its IRB section enters.
@@ -76,6 +77,7 @@ fn weigh_pool(sheet: &[u64], l: Layout, sums: Sums, results: &mut [u64]) -> Answ
     ensures { λ r. ⌜ replyOf r ≡ replyTo (now (sheet .entry)) (length (now (results .entry))) ⌝ }
     ensures { λ r. ⌜ now (results .exit) ≡ resultsAfter (now (sheet .entry)) (now (results .entry)) ⌝ }
     ensures { λ r. ⌜ KeepsDemandThree (now (sheet .entry)) (length (now (results .entry))) (now (results .exit)) ⌝ }
+    ensures { λ r. ⌜ KeepsSeventhWord (now (sheet .entry)) (length (now (results .entry))) (now (results .exit)) ⌝ }
 {
     let count = l.tranches;
     if (results.len() as u64) < LINE_SIZE as u64 * count {
@@ -97,12 +99,14 @@ fn weigh_pool(sheet: &[u64], l: Layout, sums: Sums, results: &mut [u64]) -> Answ
     }
 }
 
-// Weighs every tranche of a deal sheet: six words per tranche into the results, later words untouched; or one refusal, with the results as they
-// were. The first two promises settle the answer and the results; the third says how the formula's raw weight is limited where 01 leaves it open.
+// Weighs every tranche of a deal sheet: seven words per tranche into the results, later words untouched; or one refusal, with the results as they
+// were. The first two promises settle the answer and the results; the other two say how the formula's raw weight and the number from which the seventh word starts are limited
+// where 01 and 02 leave them open.
 pub fn weigh(sheet: &[u64], results: &mut [u64]) -> Answer
     ensures { λ r. ⌜ replyOf r ≡ replyTo (now (sheet .entry)) (length (now (results .entry))) ⌝ }
     ensures { λ r. ⌜ now (results .exit) ≡ resultsAfter (now (sheet .entry)) (now (results .entry)) ⌝ }
     ensures { λ r. ⌜ KeepsDemandThree (now (sheet .entry)) (length (now (results .entry))) (now (results .exit)) ⌝ }
+    ensures { λ r. ⌜ KeepsSeventhWord (now (sheet .entry)) (length (now (results .entry))) (now (results .exit)) ⌝ }
 {
     let pool = pool::sum_pool(sheet);
     match pool {

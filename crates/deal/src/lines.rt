@@ -21,7 +21,7 @@ use weights::Terms;
 use weights::approach;
 use weights::weight;
 
-// Writes the six words of a line from a place on.
+// Writes the seven words of a line from a place on.
 fn put_line(line: Line, at: usize, results: &mut [u64])
     requires { ⌜ at + lineSize ≤ length (now results) ⌝ }
     ensures { λ r. ⌜ now (results .exit) ≡ sets (now (results .entry)) at (wordsOf line) ⌝ }
@@ -32,9 +32,10 @@ fn put_line(line: Line, at: usize, results: &mut [u64])
     results[at + 3] = line.weight;
     results[at + 4] = line.rwa;
     results[at + 5] = line.capital;
+    results[at + 6] = line.low;
 }
 
-// The line of tranche i.
+// The line of tranche i; both amounts are by the weight and not by its low end.
 fn line_of(s: &[u64], l: Layout, d: Terms, points: &[u64; POINTS], i: u64) -> Line
     requires { ⌜ LaidOut (now s) l × (d ≡ terms (now s)) × ClassPoints (now s) (now points) × (i < trancheCount (now s)) ⌝ }
     ensures { λ r. ⌜ r ≡ line (tranche (now (s .entry)) i) (terms (now (s .entry))) ⌝ }
@@ -45,9 +46,10 @@ fn line_of(s: &[u64], l: Layout, d: Terms, points: &[u64; POINTS], i: u64) -> Li
         approach: approach(t, d),
         attachment: t.attachment,
         detachment: t.detachment,
-        weight: w,
-        rwa: risk_weighted_amount(t.held, w),
-        capital: capital(t.held, w),
+        weight: w.high,
+        rwa: risk_weighted_amount(t.held, w.high),
+        capital: capital(t.held, w.high),
+        low: w.low,
     }
 }
 

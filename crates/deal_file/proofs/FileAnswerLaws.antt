@@ -8,12 +8,12 @@ use lib.ListN.{length, take, drop, length-append}
 use Rattle.limits.specs.SheetSize.{wordLimit}
 use Rattle.files.specs.FileForm.{goodLength, fileWords, wordsAfter}
 use Rattle.files.proofs.FileLaws.{length-words-to, load-accepts, load-takes}
-use Rattle.deal.specs.DemandThree.{KeepsDemandThree}
+use Rattle.deal.specs.DemandThree.{KeepsDemandThree, KeepsSeventhWord}
 use Rattle.deal.specs.Results.{Reply, replyOf, replyTo, resultsAfter}
 use Rattle.deal.specs.declared.Answer.{Answer}
 use Rattle.deal.specs.declared.Answer.the-variants.{Weighed, Refused}
 use Rattle.deal.proofs.AnswerLaw.{answer-settled}
-use Rattle.deal_file.specs.FileAnswer.{fileReply, fileResults, FileKeepsDemandThree}
+use Rattle.deal_file.specs.FileAnswer.{fileReply, fileResults, FileKeepsDemandThree, FileKeepsSeventhWord}
 
 -- ---- by the length of the file
 
@@ -61,23 +61,24 @@ file-words-fit file old room good is =
 -- a bad length is refused and leaves the results
 pub bad-length-refused :
     (file old : List ℕ) {a : Reply} → goodLength file ≡ false → a ≡ replyOf badLength →
-    (a ≡ fileReply file (length old)) × ((old ≡ fileResults file old) × FileKeepsDemandThree file (length old) old)
+    (a ≡ fileReply file (length old)) × ((old ≡ fileResults file old) × (FileKeepsDemandThree file (length old) old × FileKeepsSeventhWord file (length old) old))
 bad-length-refused file old bad is = (
   is ∙ sym (reply-of-bad-length file (length old) bad),
-  (sym (results-of-bad-length file old bad), λ good. absurd (true≢false (sym good ∙ bad))),
+  (sym (results-of-bad-length file old bad), (λ good. absurd (true≢false (sym good ∙ bad)), λ good. absurd (true≢false (sym good ∙ bad)))),
 )
 
 -- else the answer is that for the words that were loaded
 pub words-weighed :
     (file lent old new : List ℕ) {loaded : List ℕ} {a : Reply} → goodLength file ≡ true → loaded ≡ wordsAfter file lent →
     (a ≡ replyTo (take (length file / 8) loaded) (length old)) ×
-    ((new ≡ resultsAfter (take (length file / 8) loaded) old) × KeepsDemandThree (take (length file / 8) loaded) (length old) new) →
-    (a ≡ fileReply file (length old)) × ((new ≡ fileResults file old) × FileKeepsDemandThree file (length old) new)
+    ((new ≡ resultsAfter (take (length file / 8) loaded) old) ×
+    (KeepsDemandThree (take (length file / 8) loaded) (length old) new × KeepsSeventhWord (take (length file / 8) loaded) (length old) new)) →
+    (a ≡ fileReply file (length old)) × ((new ≡ fileResults file old) × (FileKeepsDemandThree file (length old) new × FileKeepsSeventhWord file (length old) new))
 words-weighed file lent old new good is kept =
     let words = ap (take (length file / 8)) is ∙ load-takes file lent good in
     let weighed = rw words at kept in (
       weighed .0 ∙ sym (reply-of-words file (length old) good),
-      (weighed .1 .0 ∙ sym (results-of-words file old good), λ _. weighed .1 .1),
+      (weighed .1 .0 ∙ sym (results-of-words file old good), (λ _. weighed .1 .1 .0, λ _. weighed .1 .1 .1)),
     )
 
 -- ---- the four numbers settle the answer

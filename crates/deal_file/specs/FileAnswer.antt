@@ -5,7 +5,7 @@ use mathlib.Core.List.{List}
 use mathlib.Core.Path.{_≡_}
 use Prim.Native.Nat.{ℕ}
 use Rattle.files.specs.FileForm.{goodLength, fileWords}
-use Rattle.deal.specs.DemandThree.{KeepsDemandThree}
+use Rattle.deal.specs.DemandThree.{KeepsDemandThree, KeepsSeventhWord}
 use Rattle.deal.specs.Results.{Reply, replyOf, replyTo, resultsAfter}
 use Rattle.deal.specs.declared.Answer.the-variants.{Refused}
 
@@ -20,3 +20,7 @@ fileResults file old = cond (goodLength file) (resultsAfter (fileWords file) old
 -- demand 3 of the results of a file
 abbrev pub FileKeepsDemandThree : List ℕ → ℕ → List ℕ → Type 0
 FileKeepsDemandThree file room results = goodLength file ≡ true → KeepsDemandThree (fileWords file) room results
+
+-- S-6's limits of the seventh words in the results of a file
+abbrev pub FileKeepsSeventhWord : List ℕ → ℕ → List ℕ → Type 0
+FileKeepsSeventhWord file room results = goodLength file ≡ true → KeepsSeventhWord (fileWords file) room results

@@ -2,7 +2,7 @@
 ghost use mathlib.Core.Path.{_≡_};
 ghost use lib.ListN.{length};
 ghost use Rattle.deal.specs.Results.{replyOf};
-ghost use Rattle.deal_file.specs.FileAnswer.{fileReply, fileResults, FileKeepsDemandThree};
+ghost use Rattle.deal_file.specs.FileAnswer.{fileReply, fileResults, FileKeepsDemandThree, FileKeepsSeventhWord};
 use deal::Answer;
 use judgement::Refusal;
 use limits::WORD_LIMIT;
@@ -13,6 +13,7 @@ pub fn weigh_file(file: &[u8], results: &mut [u64]) -> Answer
     ensures { λ r. ⌜ replyOf r ≡ fileReply (now (file .entry)) (length (now (results .entry))) ⌝ }
     ensures { λ r. ⌜ now (results .exit) ≡ fileResults (now (file .entry)) (now (results .entry)) ⌝ }
     ensures { λ r. ⌜ FileKeepsDemandThree (now (file .entry)) (length (now (results .entry))) (now (results .exit)) ⌝ }
+    ensures { λ r. ⌜ FileKeepsSeventhWord (now (file .entry)) (length (now (results .entry))) (now (results .exit)) ⌝ }
 {
     let mut sheet = [0u64; WORD_LIMIT];
     let loaded = files::load(file, &mut sheet);

@@ -6,7 +6,8 @@ use native.Mathlib.Omega.{arith}
 use Rattle.series.specs.Fraction.{Fraction, over}
 use Rattle.series.specs.TableEntry.{entry}
 use Rattle.formula.specs.FixedPoint.{decayDistance, coarseDecay, fineDecay, decayBelow}
-use Rattle.series.proofs.DecayBounds.{NotAbove, NotBelow, not-above-weaker, not-below-weaker, not-above-smaller, not-below-larger, not-above-product, not-below-product}
+use Rattle.series.specs.Bounds.{NotAbove, NotBelow}
+use Rattle.series.proofs.DecayBounds.{not-above-weaker, not-below-weaker, not-above-smaller, not-below-larger, not-above-product, not-below-product}
 use Rattle.series.proofs.Rest.{second-equation, second-not-below, third, third-equation, third-not-above}
 use Rattle.series.proofs.Entries.{entry-not-below, whole-entry-not-above, sixteenth-entry-not-above, fine-entry-not-above}
 use Rattle.series.proofs.EntryBounds.{entry-at-most, fine-entry-at-least}

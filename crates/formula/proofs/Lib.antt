@@ -1,7 +1,7 @@
 pub mod StepBounds
 pub mod DecaySteps
 pub mod MeanDecay
-pub mod Product
+pub mod StepEndsLaw
 pub mod Limits
 pub mod RawWeightLaw
 pub mod AnswerLaw

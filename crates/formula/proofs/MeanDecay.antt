@@ -11,7 +11,8 @@ use Rattle.numbers.proofs.SmallerLarger.{le-or-lt, at-min}
 use Rattle.series.proofs.Numbers.{at-difference}
 use Rattle.series.proofs.DecayBounds.{not-above-weaker, not-below-weaker, not-above-smaller, not-below-larger}
 use Rattle.series.proofs.Rest.{second, second-equation, second-not-below, third, third-equation, third-not-above}
-use Rattle.series.proofs.MeanDecayBounds.{MeanDecayHigh, MeanDecayLow, mean-decay-low-weaker, scale-up, small-third, by-third, small-second, by-second, by-quotient, from-quotient, mean-decay-high-one}
+use Rattle.series.specs.Bounds.{MeanDecayHigh, MeanDecayLow}
+use Rattle.series.proofs.MeanDecayBounds.{mean-decay-low-weaker, scale-up, small-third, by-third, small-second, by-second, by-quotient, from-quotient, mean-decay-high-one}
 use Rattle.formula.proofs.DecaySteps.{decay-not-above, decay-not-below}
 
 -- meanDecayDistance covers the decay's distance and what the quotient by X in place of X + 1 adds

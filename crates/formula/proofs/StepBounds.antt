@@ -3,7 +3,7 @@ use Prim.Native.Nat.{ℕ, _+_, _*_, _-_, _^_, _/_, _%_, _≤_, _<_, max}
 use native.Mathlib.Nat.{le-of-lt, mul-le-mul, mul-le-mul-left, mul-le-mul-right, min-le-left}
 use native.Mathlib.Omega.{arith}
 use Rattle.series.specs.TableEntry.{entry}
-use Rattle.formula.specs.FixedPoint.{coarseDecay, fineDecay, decayBelow, decayAbove, meanDecayAbove, productAbove}
+use Rattle.formula.specs.FixedPoint.{productDistance, coarseDecay, fineDecay, decayBelow, decayAbove, meanDecayAbove, productAbove}
 use Rattle.series.proofs.EntryBounds.{entry-at-most}
 
 -- ---- decays
@@ -57,3 +57,13 @@ scale-within p K l h one m = (mul-le-mul l one, mul-le-mul (le-of-lt h) m)
 -- max(K − A, 0) + v × product is at most D − A, since max(K − A, 0) + v is and the product u is at most 1
 pub sum-at-most : (A D K u : ℕ) → A < D → K < D → u ≤ 2 ^ 27 → (K - A) * 2 ^ 27 + (D - max A K) * u ≤ (D - A) * 2 ^ 27
 sum-at-most A D K u a k h = omega (arith, mul-le-mul-left (D - max A K) h)
+
+-- what the low numerator has less than the high one: the ends P and Q of the product are at most productDistance apart, and 125,000 times that is below 2^27
+pub less-at-most :
+    (A D K P Q : ℕ) → A < D → K < D → Q ≤ P → P ≤ Q + productDistance →
+    (125000 * ((D - max A K) * (P - Q)) ≤ 125000 * ((K - A) * 2 ^ 27 + (D - max A K) * P)) ×
+    (125000 * ((D - max A K) * (P - Q)) ≤ (D - A) * 2 ^ 27)
+less-at-most A D K P Q a k low near =
+    let apart : P - Q ≤ productDistance = omega arith in
+    let part : P - Q ≤ P = omega arith in
+    (omega (arith, mul-le-mul-left (D - max A K) part), omega (arith, mul-le-mul-left (D - max A K) apart))

@@ -1,2 +1,3 @@
 pub mod Formula
 pub mod FixedPoint
+pub mod StepEnds

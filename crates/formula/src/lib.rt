@@ -1,12 +1,14 @@
 ghost use mathlib.Core.Path.{_≡_};
-ghost use Prim.Native.Nat.{_+_, _^_, _≤_, _<_};
+ghost use Prim.Native.Nat.{_+_, _-_, _/_, _^_, _≤_, _<_};
 ghost use Rattle.series.specs.DecayTable.{DecayEntry};
 ghost use Rattle.formula.specs.Formula.{numbersOf, IsRawWeight};
 ghost use Rattle.series.specs.TableEntry.{entry};
-ghost use Rattle.formula.specs.FixedPoint.{coarseDecay, fineDecay, decayBelow, decayAbove, meanDecayAbove, productAbove, units, formulaWeight, withinLimits, rawWeight};
+ghost use Rattle.formula.specs.FixedPoint.{coarseDecay, fineDecay, fromAbove, decay, meanDecay, product, units, formulaWeight, withinLimits, rawWeight};
+ghost use Rattle.formula.specs.StepEnds.{DecayEnds, MeanDecayEnds, ProductEnds};
 
 mod tables;
 
+use numbers::Ends;
 use numbers::excess;
 use numbers::larger;
 use numbers::rounded_up;
@@ -28,8 +30,12 @@ const STEP: u64 = 268435456;
 // 1/1024, the step of the fine entries, in units of 2^−32.
 const FINE_STEP: u64 = 4194304;
 
-// How far decay_below may lie below 2^32 × e^(−x).
+// How far the ends of a decay, of a mean decay and of their product may lie apart.
 const DECAY_DISTANCE: u64 = 12;
+
+const MEAN_DECAY_DISTANCE: u64 = 241;
+
+const PRODUCT_DISTANCE: u64 = 243;
 
 // 1/512 in units of 2^−32: an exponent below it is small.
 const SMALL: u64 = 8388608;
@@ -97,32 +103,48 @@ fn fine_decay(m: u64, j: u64) -> u64
     t - t * (j - j * j / (2 * ONE)) / ONE - 4
 }
 
-// e^(−x) from below: x is cut into sixteenths, 1024ths and a rest, and the coarse decay of the first is multiplied by the fine decay of the others.
-fn decay_below(x: u64) -> u64
-    ensures { λ r. ⌜ r ≡ decayBelow x ⌝ }
+// e^(−x) from both sides: x is cut into sixteenths, 1024ths and a rest, and the coarse decay of the first is multiplied by the fine decay of the others, which
+// gives the low end; the high end is that with what it may be short of added back, and at most 1.
+fn decay(x: u64) -> Ends
+    ensures { λ r. ⌜ r ≡ decay x ⌝ }
+    ensures { λ r. ⌜ DecayEnds x r ⌝ }
 {
     let rest = x % STEP;
     let fine = fine_decay(rest / FINE_STEP, rest % FINE_STEP);
-    coarse_decay(x / STEP) * fine / ONE
+    let low = coarse_decay(x / STEP) * fine / ONE;
+    Ends {
+        low,
+        high: smaller(low + DECAY_DISTANCE, ONE),
+    }
 }
 
-// e^(−x) from above: decay_below with what it may be short of added back, and at most 1.
-fn decay_above(x: u64) -> u64
-    ensures { λ r. ⌜ r ≡ decayAbove x ⌝ }
+// A number from above with the one that lies a distance below it, or 0.
+fn from_above(high: u64, distance: u64) -> Ends
+    ensures { λ r. ⌜ r ≡ fromAbove high distance ⌝ }
 {
-    smaller(decay_below(x) + DECAY_DISTANCE, ONE)
+    Ends {
+        low: excess(high, distance),
+        high,
+    }
 }
 
-// The mean decay (1 − e^(−x)) / x from above, at most 1, in units of 2^−27. For a small x, where the quotient is too coarse (or x is 0), it is
+// The mean decay (1 − e^(−x)) / x from both sides, at most 1, in units of 2^−27. For a small x, where the quotient is too coarse (or x is 0), its high end is
 // 1 − x/2 and 171 units more.
-fn mean_decay_above(x: u64) -> u64
-    ensures { λ r. ⌜ r ≡ meanDecayAbove x ⌝ }
+fn mean_decay(x: u64) -> Ends
+    ensures { λ r. ⌜ r ≡ meanDecay x ⌝ }
+    ensures { λ r. ⌜ MeanDecayEnds x r ⌝ }
 {
     if x < SMALL {
-        smaller(MEAN_ONE, MEAN_ONE + 171 - x / 64)
-    } else {
-        smaller(MEAN_ONE, (ONE + 1 - decay_below(x)) * MEAN_ONE / x + 1)
+        return from_above(
+            smaller(MEAN_ONE, MEAN_ONE + 171 - x / 64),
+            MEAN_DECAY_DISTANCE,
+        );
     }
+    let after = decay(x);
+    from_above(
+        smaller(MEAN_ONE, (ONE + 1 - after.low) * MEAN_ONE / x + 1),
+        MEAN_DECAY_DISTANCE,
+    )
 }
 
 // a / b in units of 2^−32, rounded down. a × 2^32 may not fit 64 bits, so the division is done in two steps of 16 bits each.
@@ -135,16 +157,35 @@ fn units(a: u64, b: u64) -> u64
     high / b * 65536 + rest * 65536 / b
 }
 
-// e^(−l) times the mean decay of x, from above, in units of 2^−27.
-fn product_above(l: u64, x: u64) -> u64
-    ensures { λ r. ⌜ r ≡ productAbove l x ⌝ }
+// e^(−l) times the mean decay of x, from both sides, in units of 2^−27.
+fn product(l: u64, x: u64) -> Ends
+    ensures { λ r. ⌜ r ≡ product l x ⌝ }
+    ensures { λ r. ⌜ ProductEnds l x r ⌝ }
 {
-    (decay_above(l) * mean_decay_above(x) + (ONE - 1)) / ONE
+    let first = decay(l);
+    let second = mean_decay(x);
+    from_above(
+        (first.high * second.high + (ONE - 1)) / ONE,
+        PRODUCT_DISTANCE,
+    )
 }
 
-// The formula's weight, 125,000 × (max(k − a, 0) + v × product) / (d − a), rounded up, where v is the tranche's part above both a
-// and k, and the product is in units of 2^−27.
-fn formula_weight(a: u64, d: u64, k: u64, p: u64) -> u64
+// (x − less) / y, rounded down, from the quotient of x, so that one division serves both ends of a weight.
+fn quotient_less(x: u64, y: u64, less: u64) -> u64
+    requires { ⌜ (0 < y) × (less ≤ x) × (less ≤ y) ⌝ }
+    ensures { λ r. ⌜ r ≡ (x - less) / y ⌝ }
+{
+    let quotient = x / y;
+    if x - quotient * y < less {
+        quotient - 1
+    } else {
+        quotient
+    }
+}
+
+// The formula's weight, 125,000 × (max(k − a, 0) + v × product) / (d − a), where v is the tranche's part above both a and k, and the product is in
+// units of 2^−27: with its low end rounded down, with its high end rounded up.
+fn formula_weight(a: u64, d: u64, k: u64, p: u64) -> Ends
     requires { ⌜ (a < d) × (k < d) × (1 ≤ k) × (d ≤ 1000000) × (300000 ≤ p) × (p < 5000000) ⌝ }
     ensures { λ r. ⌜ r ≡ formulaWeight a d k p ⌝ }
 {
@@ -152,11 +193,14 @@ fn formula_weight(a: u64, d: u64, k: u64, p: u64) -> u64
     let s = p * k;
     let l = units(excess(a, k) * MILLION, s);
     let x = units(v * MILLION, s);
-    let product = product_above(l, x);
-    rounded_up(
-        125000 * (excess(k, a) * MEAN_ONE + v * product),
-        (d - a) * MEAN_ONE,
-    )
+    let part = product(l, x);
+    let top = 125000 * (excess(k, a) * MEAN_ONE + v * part.high);
+    let bottom = (d - a) * MEAN_ONE;
+    let less = 125000 * (v * (part.high - part.low));
+    Ends {
+        low: quotient_less(top, bottom, less),
+        high: rounded_up(top, bottom),
+    }
 }
 
 // Whether the points and the charge are at most 1, and the parameter is from 0.3 to below 5.
@@ -178,16 +222,17 @@ fn within_limits(a: u64, d: u64, k: u64, p: u64) -> bool
     p < 5000000
 }
 
-// A raw weight in hundredths of a percent, or why there is none: the formula needs a below d (refusal 13 at a = d), and no deal sheet has
+// Both numbers of a raw weight in hundredths of a percent, or why there is none: the formula needs a below d (refusal 13 at a = d), and no deal sheet has
 // inputs outside the limits.
 pub enum RawWeight {
-    Weight(u64),
+    Weight(Ends),
     NoThickness,
     OutsideLimits,
 }
 
-// The raw weight of a tranche from a to d, for the pool charge k and the supervisory parameter p, these four in millionths. Where k is at least
-// 1, d above k and a below d, 01 leaves it open within demand 3; rawWeight settles it. `numbersOf` gives 01's numbers for each case.
+// The raw weight of a tranche from a to d, for the pool charge k and the supervisory parameter p, these four in millionths: its high number, which is never below the
+// exact value, and its low number, which is never above it. Where k is at least 1, d above k and a below d, 01 leaves the first open within demand 3, and 02 the second within S-6;
+// rawWeight settles both. `numbersOf` gives 01's numbers for each case.
 pub fn raw_weight(a: u64, d: u64, k: u64, p: u64) -> RawWeight
     ensures { λ r. ⌜ numbersOf r ≡ rawWeight a d k p ⌝ }
     ensures { λ r. ⌜ IsRawWeight a d k p (numbersOf r) ⌝ }
@@ -196,10 +241,13 @@ pub fn raw_weight(a: u64, d: u64, k: u64, p: u64) -> RawWeight
         return RawWeight::OutsideLimits;
     }
     if d <= k {
-        return RawWeight::Weight(125000);
+        return RawWeight::Weight(Ends {
+            low: 125000,
+            high: 125000,
+        });
     }
     if k == 0 {
-        return RawWeight::Weight(0);
+        return RawWeight::Weight(Ends { low: 0, high: 0 });
     }
     if d <= a {
         return RawWeight::NoThickness;

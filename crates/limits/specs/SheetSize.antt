@@ -1,5 +1,5 @@
 -- 01, "The deal sheet": how many words a sheet, its rows and its results have, and "Refusals": how long a sheet's file may be; 02, S-1 and S-3, for the fifth and the
--- sixth fact, and S-5 for the fourth section. Every limit that follows from another is worked out here from its parts.
+-- sixth fact, S-5 for the fourth section, and S-6 for the seventh word of a line. Every limit that follows from another is worked out here from its parts.
 use Prim.Native.Nat.{ℕ, _+_, _*_}
 
 -- ---- "Facts, count 4"; S-1: "A fifth fact says so (0 no, 1 yes); a sheet with four facts counts as 0."; S-3: "A sixth fact is the reporting date, ...; 0 or absent
@@ -49,11 +49,11 @@ wordLimit = 4 + factsMost + rowSize * rowsMost + trancheSize * tranchesMost + ir
 abbrev pub byteLimit : ℕ
 byteLimit = 8 * wordLimit
 
--- ---- "Results are a lent list of words, six per tranche"
+-- ---- "Results are a lent list of words, six per tranche"; 02, S-6: "Each tranche gets a seventh word.", "14 now reads seven words per tranche"
 
 -- the words of a tranche's line
 abbrev pub lineSize : ℕ
-lineSize = 6
+lineSize = 7
 
 -- the words of the lines of the most tranches: with that much room for its results no sheet is refused with 14
 abbrev pub resultRoom : ℕ

@@ -22,7 +22,7 @@ pub const IRB_ROWS: usize = 1;
 pub const IRB_SIZE: usize = 6;
 
 // The words of a tranche's line in the results.
-pub const LINE_SIZE: usize = 6;
+pub const LINE_SIZE: usize = 7;
 
 // The most words that a sheet has: four counts, facts, pool rows, tranches and the IRB section.
 pub const WORD_LIMIT: usize = 4

@@ -1,10 +1,11 @@
--- Laws of a quotient rounded up: it is the least whole number that times the divisor is no less than the dividend. No axioms.
+-- Laws of a quotient rounded up: it is the least whole number that times the divisor is no less than the dividend, and at most one above the same quotient rounded down. No axioms.
 use mathlib.Core.Logic.{⊎-elim}
 use mathlib.Core.Path.{_≡_}
-use Prim.Native.Nat.{ℕ, _+_, _*_, _-_, _≤_, _<_}
-use native.Mathlib.Nat.{eq-zero-or-pos, le-trans, lt-of-mul-lt-mul-right, div-zero, div-eq-of-lt-le, div-mul-le-self, lt-div-mul-add}
+use Prim.Native.Nat.{ℕ, _+_, _*_, _-_, _/_, _≤_, _<_}
+use native.Mathlib.Nat.{eq-zero-or-pos, le-trans, le-of-mul-le-mul-right, lt-of-mul-lt-mul-right, div-zero, div-eq-of-lt-le, div-mul-le-self, lt-div-mul-add}
 use native.Mathlib.Omega.{arith}
 use Rattle.numbers.specs.Rounding.{roundedUp}
+use Rattle.numbers.specs.BothEnds.{rounded, EndsWithin}
 
 pub rounded-up-at-least : (x y : ℕ) → 0 < y → x ≤ roundedUp x y * y
 rounded-up-at-least x y pos = omega (arith, lt-div-mul-add {a = x + (y - 1)} pos)
@@ -46,3 +47,14 @@ rounded-up-zero y = omega (arith, rounded-up-at-most 0 y 0 (omega arith))
 
 pub rounded-up-same : (x y m n : ℕ) → x ≡ m → y ≡ n → roundedUp x y ≡ roundedUp m n
 rounded-up-same x y m n e f = rw (e, f)
+
+-- rounded down and rounded up it is at most one apart
+pub rounded-within : (x y : ℕ) → EndsWithin 1 (rounded x y)
+rounded-within x y =
+    ⊎-elim
+    (λ e. rw e (record { ordered = omega (arith, rounded-up-by-zero x, div-zero x); near = omega (arith, rounded-up-by-zero x) }))
+    (λ pos. record {
+      ordered = le-of-mul-le-mul-right {k = y} (le-trans (div-mul-le-self x y) (rounded-up-at-least x y pos)) pos;
+      near = rounded-up-at-most x y (x / y + 1) (omega (arith, lt-div-mul-add {a = x} pos));
+    })
+    (eq-zero-or-pos y)

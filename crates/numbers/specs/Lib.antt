@@ -1,4 +1,5 @@
 pub mod Rounding
+pub mod BothEnds
 pub mod Limits
 pub mod Sum
 pub mod Permutation

@@ -1,6 +1,7 @@
 ghost use mathlib.Core.Path.{_≡_};
 ghost use Prim.Native.Nat.{_-_, min, max};
 ghost use Rattle.numbers.specs.Limits.{within};
+ghost use Rattle.numbers.specs.BothEnds.{rounded};
 ghost use Rattle.numbers.specs.Rounding.{roundedUp};
 
 // The smaller of two numbers.
@@ -43,6 +44,25 @@ pub fn rounded_up(x: u64, y: u64) -> u64
         quotient
     } else {
         quotient + 1
+    }
+}
+
+// Two whole numbers between which an exact figure lies: the low end is never above it, the high end never below.
+pub struct Ends {
+    pub low: u64,
+    pub high: u64,
+}
+
+// x / y, rounded down and rounded up; both 0 where y is 0.
+pub fn rounded(x: u64, y: u64) -> Ends
+    ensures { λ r. ⌜ r ≡ rounded x y ⌝ }
+{
+    if y == 0 {
+        return Ends { low: 0, high: 0 };
+    }
+    Ends {
+        low: x / y,
+        high: rounded_up(x, y),
     }
 }
 

@@ -11,12 +11,14 @@ use lib.Dec.{T, leb, leb→le}
 use lib.ListN.{length, getD}
 use borrow.Author.Tests.{le-leb, lt-leb}
 use Rattle.numbers.specs.Rounding.{roundedUp}
-use Rattle.numbers.proofs.RoundingLaws.{rounded-up-at-most, rounded-up-monotone, rounded-up-exact, rounded-up-zero}
+use Rattle.numbers.specs.BothEnds.{both, rounded, EndsWithin}
+use Rattle.numbers.specs.declared.Ends.{Ends}
+use Rattle.numbers.proofs.RoundingLaws.{rounded-up-at-most, rounded-up-monotone, rounded-up-exact, rounded-up-zero, rounded-within}
 use Rattle.numbers.proofs.Table.{allBelow, at-each}
 use Rattle.numbers.proofs.Tests.{and-both, at-cond, cond-le, neither-true}
 use Rattle.rating_codes.specs.RatingCodes.{longTerm, shortTerm, present, ratingsAmong}
 use Rattle.rating_codes.proofs.CodeLaws.{long-term-within, short-term-within, ratings-permuted}
-use Rattle.ratings.specs.RatingTable.{RatingFigures, figuresOf, figure, maturityFifths, linear, nonSeniorLinear, besideSenior, longTermExact, exactParts, exactWeight, weightByRating, pick, weightByRatings}
+use Rattle.ratings.specs.RatingTable.{RatingFigures, figuresOf, figure, maturityFifths, linear, nonSeniorLinear, besideSenior, longTermExact, exactParts, exactWeight, weightByRating, pick, weightByRatings, lowWeightByRatings, endsByRatings}
 use Rattle.ratings.proofs.PickLaws.{each-value, pick-at-most, pick-is-one, pick-of-rising, pick-one, pick-permuted, pick-three}
 
 -- ---- the figures
@@ -212,6 +214,15 @@ pub several-ratings-by-numbers :
 unfolding weightByRatings weightByRating exactWeight
 several-ratings-by-numbers = (refl, refl, refl, refl, refl)
 
+-- S-6: "picking among the exact figures": AAA and the second short-term grade, non-senior, five years and 285,715 thick, weigh exactly 4,999.995 and 5,000. Both are 5,000 rounded up, and
+-- the low end is that of the higher, 5,000; that of the first would be 4,999. The order does not matter, nor does a third rating of a higher weight, BBB. Alone AAA has 4,999 and 5,000
+pub low-ends-by-numbers :
+    (endsByRatings (figuresOf false) 1 22 0 false 72 285715 ≡ both 5000) × (endsByRatings (figuresOf false) 22 1 0 false 72 285715 ≡ both 5000) ×
+    (endsByRatings (figuresOf false) 1 22 9 false 72 285715 ≡ both 5000) ×
+    (endsByRatings (figuresOf false) 1 0 0 false 72 285715 ≡ record { low = 4999; high = 5000 })
+unfolding lowWeightByRatings weightByRatings weightByRating exactWeight
+low-ends-by-numbers = (refl, refl, refl, refl)
+
 -- those of three codes that pass their tests, as `ratingsAmong` keeps them
 abbrev kept : Bool → Bool → Bool → ℕ → ℕ → ℕ → List ℕ
 kept p q r first second third =
@@ -266,6 +277,9 @@ module _ (figures : RatingFigures) (senior : Bool) (months thickness : ℕ) wher
   abbrev byRatings : ℕ → ℕ → ℕ → ℕ
   byRatings first second third = weightByRatings figures first second third senior months thickness
 
+  abbrev ends : ℕ → ℕ → ℕ → Ends
+  ends first second third = endsByRatings figures first second third senior months thickness
+
   -- one rating's own weight counts, the other words being none
   pub one-rating :
       (code second third : ℕ) → present second ≡ false → present third ≡ false → byRatings code second third ≡ weightBy code
@@ -292,9 +306,10 @@ module _ (figures : RatingFigures) (senior : Bool) (months thickness : ℕ) wher
 
   -- the order of the three rating words does not matter
   pub order-of-ratings :
-      (first second third a b c : ℕ) → Perm (first ∷ second ∷ third ∷ []) (a ∷ b ∷ c ∷ []) → byRatings first second third ≡ byRatings a b c
-  unfolding weightByRatings
-  order-of-ratings first second third a b c p = pick-permuted (Perm·map weightBy (ratings-permuted p))
+      (first second third a b c : ℕ) → Perm (first ∷ second ∷ third ∷ []) (a ∷ b ∷ c ∷ []) → ends first second third ≡ ends a b c
+  unfolding weightByRatings lowWeightByRatings
+  order-of-ratings first second third a b c p =
+      rw (pick-permuted (Perm·map weightBy (ratings-permuted p)), pick-permuted (Perm·map exactBy (ratings-permuted p)))
 
   -- the weight is that by one of the ratings, where there is one
   pub one-rating-counts :
@@ -320,22 +335,33 @@ module _ (figures : RatingFigures) (senior : Bool) (months thickness : ℕ) wher
           ap pick (sym (map-map (λ w. roundedUp w exactParts) exactBy (code ∷ others))) ∙
           pick-of-rising (λ w. roundedUp w exactParts) (λ w v. rounded-up-monotone w v exactParts) (exactBy code) (map exactBy others)
 
-  -- the exact weights, of which the highest or the middle one counts and is rounded up
+  -- so both ends are those of the one exact weight that is picked, rounded down and rounded up,
+  pub ends-of-pick :
+      (first second third : ℕ) →
+      ends first second third ≡ rounded (pick (map exactBy (ratingsAmong (first ∷ second ∷ third ∷ [])))) exactParts
+  unfolding lowWeightByRatings
+  ends-of-pick first second third = rw (pick-then-rounded first second third)
+
+  -- at most 1 apart
+  pub ends-within : (first second third : ℕ) → EndsWithin 1 (ends first second third)
+  ends-within first second third = rw (ends-of-pick first second third) (rounded-within _ exactParts)
+
+  -- the exact weights, of which the highest or the middle one counts
   pub fewer-than-three-rounded :
       (first second third : ℕ) → length (ratingsAmong (first ∷ second ∷ third ∷ [])) < 3 →
-      byRatings first second third ≡ roundedUp (max (exactBy first) (max (exactBy second) (exactBy third))) exactParts
+      ends first second third ≡ rounded (max (exactBy first) (max (exactBy second) (exactBy third))) exactParts
   fewer-than-three-rounded first second third few =
-      pick-then-rounded first second third ∙
-      ap (λ (w : ℕ). roundedUp w exactParts)
+      ends-of-pick first second third ∙
+      ap (λ (w : ℕ). rounded w exactParts)
       (pick-of-fewer exactBy (λ code. no-rating-no-exact figures code senior months thickness) first second third few)
 
   pub three-ratings-rounded :
       (first second third : ℕ) → 3 ≤ length (ratingsAmong (first ∷ second ∷ third ∷ [])) →
-      byRatings first second third ≡
-      roundedUp (min (max (exactBy first) (min (exactBy second) (exactBy third))) (max (exactBy second) (exactBy third))) exactParts
+      ends first second third ≡
+      rounded (min (max (exactBy first) (min (exactBy second) (exactBy third))) (max (exactBy second) (exactBy third))) exactParts
   three-ratings-rounded first second third many =
-      pick-then-rounded first second third ∙
-      ap (λ (w : ℕ). roundedUp w exactParts)
+      ends-of-pick first second third ∙
+      ap (λ (w : ℕ). rounded w exactParts)
       (pick-of-three exactBy (λ code. no-rating-no-exact figures code senior months thickness) first second third many)
 
 pub weight-by-ratings-at-most :

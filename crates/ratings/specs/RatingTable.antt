@@ -1,12 +1,13 @@
--- 01, "The rating table", with S-1 of 02, "STC deals", and S-2, "Paper with three ratings" (source document 001: CRE42.2 for short-term grades, CRE42.4 for the
+-- 01, "The rating table", with S-1 of 02, "STC deals", S-2, "Paper with three ratings", and S-6, "Both ends in the report" (source document 001: CRE42.2 for short-term grades, CRE42.4 for the
 -- table, CRE42.5 for maturity and thickness, CRE42.7 for the comparison with the senior figure, CRE42.8 (4), which refers to CRE21.6 to CRE21.8, for several ratings;
 -- CRE42.12 to CRE42.14 in place of CRE42.2, CRE42.4 and CRE42.7 for STC deals, by CRE42.11; CRE40.22 and CRE40.23 for the tranche maturity). Figures are in percent, a
 -- weight in hundredths of a percent, a thickness in millionths; months are those of the final legal maturity.
 use mathlib.Core.Bool.{Bool, true, false, cond}
 use mathlib.Core.List.{List, [], _∷_, map}
-use Prim.Native.Nat.{ℕ, _+_, _*_, _-_, min, max}
+use Prim.Native.Nat.{ℕ, _+_, _*_, _-_, _/_, min, max}
 use lib.ListN.{getD, take}
 use Rattle.numbers.specs.Rounding.{roundedUp}
+use Rattle.numbers.specs.declared.Ends.{Ends}
 use Rattle.rating_codes.specs.RatingCodes.{longTerm, shortTerm, ratingsAmong}
 
 -- ---- the figures from which the weight by a rating is worked out. 02, S-1: "What is shown of rows and maturities is shown once for any table of 18 rows.": what
@@ -162,3 +163,17 @@ pick weights = highest (take 2 (ascending weights))
 unfoldable pub weightByRatings : RatingFigures → ℕ → ℕ → ℕ → Bool → ℕ → ℕ → ℕ
 weightByRatings figures first second third senior months thickness =
     pick (map (λ code. weightByRating figures code senior months thickness) (ratingsAmong (first ∷ second ∷ third ∷ [])))
+
+-- ---- both ends (02, S-6)
+
+-- "for table weights it starts from the exact figure rounded down, S-2 then picking among the exact figures"
+unfoldable pub lowWeightByRatings : RatingFigures → ℕ → ℕ → ℕ → Bool → ℕ → ℕ → ℕ
+lowWeightByRatings figures first second third senior months thickness =
+    pick (map (λ code. exactWeight figures code senior months thickness) (ratingsAmong (first ∷ second ∷ third ∷ []))) / exactParts
+
+-- that number and the weight
+abbrev pub endsByRatings : RatingFigures → ℕ → ℕ → ℕ → Bool → ℕ → ℕ → Ends
+endsByRatings figures first second third senior months thickness = record {
+  low = lowWeightByRatings figures first second third senior months thickness;
+  high = weightByRatings figures first second third senior months thickness;
+}

@@ -3,14 +3,15 @@ ghost use mathlib.Core.Path.{_≡_};
 ghost use mathlib.Core.List.{[]};
 ghost use Prim.Native.Nat.{_-_, max, _≤_, _<_};
 ghost use lib.ListN.{getD};
-ghost use Rattle.ratings.specs.RatingTable.{figuresOf, maturityFifths, linear, besideSenior, longTermExact, shortTermExact, exactWeight, weightByRating, weightByRatings};
+ghost use Rattle.ratings.specs.RatingTable.{figuresOf, maturityFifths, linear, besideSenior, longTermExact, shortTermExact, exactWeight, weightByRating, endsByRatings};
 ghost use Rattle.ratings.specs.StoredFigures.{inPercent, rowInPercent, KeptTables};
 
 mod table;
 
+use numbers::Ends;
 use numbers::larger;
 use numbers::middle;
-use numbers::rounded_up;
+use numbers::rounded;
 use numbers::smaller;
 use rating_codes::count_present;
 use rating_codes::long_term;
@@ -167,9 +168,9 @@ fn exact_weight(
     0
 }
 
-// The weight by a tranche's rating words: of three ratings the higher of the two lowest weights, which is the middle one; of fewer the highest weight, a word that is no
-// rating having weight 0, so that it is never the highest. The exact weights are compared and the one that counts is rounded up, which gives the same as rounding each
-// before (`pick-then-rounded`).
+// The weight by a tranche's rating words, and its low end: of three ratings the higher of the two lowest weights, which is the middle one; of fewer the highest weight, a word that is no
+// rating having weight 0, so that it is never the highest. The exact weights are compared and the one that counts is rounded both ways: down, which is where the low end starts
+// from, and up, which gives the same as rounding each before (`pick-then-rounded`).
 fn weight_by_tables(
     ordinary: &[[u8; 4]; 18],
     marked: &[[u8; 4]; 18],
@@ -180,20 +181,20 @@ fn weight_by_tables(
     senior: bool,
     months: u64,
     thickness: u64,
-) -> u64
+) -> Ends
     requires { ⌜ KeptTables (now ordinary) (now marked) ⌝ }
-    ensures { λ r. ⌜ r ≡ weightByRatings (figuresOf stc) first second third senior months thickness ⌝ }
+    ensures { λ r. ⌜ r ≡ endsByRatings (figuresOf stc) first second third senior months thickness ⌝ }
 {
     let a = exact_weight(ordinary, marked, stc, first, senior, months, thickness);
     let b = exact_weight(ordinary, marked, stc, second, senior, months, thickness);
     let c = exact_weight(ordinary, marked, stc, third, senior, months, thickness);
     if count_present(first, second, third) < 3 {
-        return rounded_up(larger(a, larger(b, c)), EXACT_PARTS);
+        return rounded(larger(a, larger(b, c)), EXACT_PARTS);
     }
-    rounded_up(middle(a, b, c), EXACT_PARTS)
+    rounded(middle(a, b, c), EXACT_PARTS)
 }
 
-// The weight by a tranche's three rating words, by the STC mark of its deal; 0 where none is a rating. A table is written to memory at each use, so both are written
+// The weight by a tranche's three rating words and its low end, by the STC mark of its deal; both 0 where none is a rating. A table is written to memory at each use, so both are written
 // here, once for all three words, and lent to what reads them (docs/DECISIONS.md says why both).
 pub fn weight_by_ratings(
     stc: bool,
@@ -203,8 +204,8 @@ pub fn weight_by_ratings(
     senior: bool,
     months: u64,
     thickness: u64,
-) -> u64
-    ensures { λ r. ⌜ r ≡ weightByRatings (figuresOf stc) first second third senior months thickness ⌝ }
+) -> Ends
+    ensures { λ r. ⌜ r ≡ endsByRatings (figuresOf stc) first second third senior months thickness ⌝ }
 {
     let ordinary = LONG_TERM;
     let marked = STC_LONG_TERM;
@@ -225,5 +226,6 @@ pub fn weight_by_ratings(
 pub fn weight_by_rating(stc: bool, code: u64, senior: bool, months: u64, thickness: u64) -> u64
     ensures { λ r. ⌜ r ≡ weightByRating (figuresOf stc) code senior months thickness ⌝ }
 {
-    weight_by_ratings(stc, code, 0, 0, senior, months, thickness)
+    let ends = weight_by_ratings(stc, code, 0, 0, senior, months, thickness);
+    ends.high
 }

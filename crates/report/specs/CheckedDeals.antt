@@ -1,4 +1,5 @@
--- 01, "Checked deals († to be proved)": every † as tests of the meanings themselves, in one list. That all of them hold is one theorem,
+-- 01, "Checked deals († to be proved)": every † as tests of the meanings themselves, in one list, with the seventh word of 02, S-6, "Both ends in the report", where a line or a raw
+-- weight is tested. That all of them hold is one theorem,
 -- `checked-deals` (proofs/CheckedDealsLaw.antt).
 use mathlib.Core.Bool.{Bool, true, false, not, _&&_, _||_}
 use mathlib.Core.List.{List, [], _∷_, _++_}
@@ -9,11 +10,12 @@ use Prim.Native.Nat.{ℕ, _+_, _*_}
 use Prim.Native.String.{String}
 use lib.Dec.{leb, ltb, eqb}
 use Rattle.limits.specs.SheetSize.{resultRoom}
+use Rattle.numbers.specs.declared.Ends.{Ends}
 use Rattle.files.specs.FileForm.{fileBytes}
 use Rattle.formula.specs.FixedPoint.{rawWeight}
-use Rattle.series.specs.Ends.{lowerExponent, upperExponent, Difference, upperEnd, lowerEnd, Passes}
+use Rattle.series.specs.Ends.{lowerExponent, upperExponent, Difference, upperEnd, lowerEnd}
 use Rattle.formula.specs.Formula.{RawWeightNumbers}
-use Rattle.series.specs.Fraction.{Fraction, plus, whole}
+use Rattle.series.specs.Fraction.{Fraction, over, plus, whole}
 use Rattle.ratings.specs.RatingTable.{ordinaryFigures, maturityFifths, weightByRating}
 use Rattle.weights.specs.ApproachFloorCap.{approach, parameter}
 use Rattle.charge.specs.PoolCharge.{baseCharge, lateShare, poolAverage}
@@ -48,28 +50,32 @@ prints sheet text = sameList (fileText (fileBytes sheet)) (textOf text)
 abbrev pub acceptedAt : List ℕ → ℕ → Bool
 acceptedAt sheet charge = eqb (replyTo sheet resultRoom .number) 0 && eqb (replyTo sheet resultRoom .charge) charge
 
--- the line of a sheet's first tranche has these six words
+-- the line of a sheet's first tranche has these seven words
 abbrev pub firstLine : List ℕ → List ℕ → Bool
 firstLine sheet words = sameList (lineWords (tranche sheet 0) (terms sheet)) words
 
--- a number is there, and is this one
-abbrev pub isThere : Option ℕ → ℕ → Bool
-isThere none w = false
-isThere (some v) w = eqb v w
+-- two ends are there, and pass a test
+abbrev pub areThere : Option Ends → (Ends → Bool) → Bool
+areThere none test = false
+areThere (some e) test = test e
 
--- an answer of rawWeight (its inputs are A, D, K and the parameter) is this number,
+-- an answer of rawWeight (its inputs are A, D, K and the parameter) is this number, as it is in both its numbers,
 abbrev pub isWeight : RawWeightNumbers → ℕ → Bool
-isWeight n w = isThere (n .weight) w
+isWeight n w = areThere (n .weight) (λ e. eqb (e .low) w && eqb (e .high) w)
 
--- or one of these two
+-- or its high number is one of these two,
 abbrev pub isEither : RawWeightNumbers → ℕ → ℕ → Bool
-isEither n v w = isWeight n v || isWeight n w
+isEither n v w = areThere (n .weight) (λ e. eqb (e .high) v || eqb (e .high) w)
+
+-- or its low number is
+abbrev pub startsFromEither : RawWeightNumbers → ℕ → ℕ → Bool
+startsFromEither n v w = areThere (n .weight) (λ e. eqb (e .low) v || eqb (e .low) w)
 
 -- "An ordinary securitisation has supervisory parameter 1"
 abbrev pub ordinary : ℕ
 ordinary = 1000000
 
--- ---- a number that passes: `Passes` of Ends.antt in `series` and what it is made of, as tests at one k
+-- ---- a number that passes, also from below: `Passes` and `PassesFromBelow` of Ends.antt in `series` and what they are made of, as tests at one k
 
 -- Admitted
 abbrev pub admitted : Fraction → ℕ → Bool
@@ -91,6 +97,14 @@ endAtMost e w = atMost (e .minuend) (plus (whole w) (e .subtrahend))
 abbrev pub endAboveMinusTwo : Difference → ℕ → Bool
 endAboveMinusTwo e w = below (plus (whole w) (e .subtrahend)) (plus (e .minuend) (whole 2))
 
+-- EndAtLeast
+abbrev pub endAtLeast : Difference → ℕ → Bool
+endAtLeast e w = atMost (plus (whole w) (e .subtrahend)) (e .minuend)
+
+-- EndBelowPlusOneAndAHalf
+abbrev pub endBelowPlusOneAndAHalf : Difference → ℕ → Bool
+endBelowPlusOneAndAHalf e w = below (e .minuend) (plus (plus (whole w) (over 3 2)) (e .subtrahend))
+
 -- Counts
 abbrev pub counts : ℕ → ℕ → ℕ → ℕ → ℕ → Bool
 counts A D K p k = admitted (lowerExponent A K p) k && admitted (upperExponent D K p) k
@@ -99,10 +113,14 @@ counts A D K p k = admitted (lowerExponent A K p) k && admitted (upperExponent D
 abbrev pub passesAt : ℕ → ℕ → ℕ → ℕ → ℕ → ℕ → Bool
 passesAt A D K p k w = counts A D K p k && endAtMost (upperEnd A D K p k) w && endAboveMinusTwo (lowerEnd A D K p k) w
 
--- a number passes just where it is one of these two: shown of both open cases of the list in proofs/CheckedDealsLaw.antt
-pub record JustTwoPass (A D K p v w : ℕ) : Type 0 where
-  pub both : (x : ℕ) → (x ≡ v) ⊎ (x ≡ w) → Passes A D K p x
-  pub no-other : (x : ℕ) → Passes A D K p x → (x ≡ v) ⊎ (x ≡ w)
+-- PassesFromBelow
+abbrev pub passesFromBelowAt : ℕ → ℕ → ℕ → ℕ → ℕ → ℕ → Bool
+passesFromBelowAt A D K p k w = counts A D K p k && endAtLeast (lowerEnd A D K p k) w && endBelowPlusOneAndAHalf (upperEnd A D K p k) w
+
+-- a number passes, in one of these meanings, just where it is one of these two: shown of the open cases of the list in proofs/CheckedDealsLaw.antt
+pub record JustTwo (Pass : ℕ → Type 0) (v w : ℕ) : Type 0 where
+  pub these : (x : ℕ) → (x ≡ v) ⊎ (x ≡ w) → Pass x
+  pub no-other : (x : ℕ) → Pass x → (x ≡ v) ⊎ (x ≡ w)
 
 -- ---- the sheets: facts, pool and tranches, each after its count
 
@@ -113,13 +131,13 @@ checkedSheet =
     2 ∷ 950 ∷ 950 ∷ 100 ∷ 0 ∷ 50 ∷ 50 ∷ 100 ∷ 1 ∷
     3 ∷ 800 ∷ 1 ∷ 72 ∷ 800 ∷ 1 ∷ 0 ∷ 0 ∷ 150 ∷ 2 ∷ 72 ∷ 100 ∷ 9 ∷ 0 ∷ 0 ∷ 50 ∷ 3 ∷ 72 ∷ 50 ∷ 0 ∷ 0 ∷ 0 ∷ []
 
--- "prints this whole text"
+-- "prints this whole text", each line of a tranche with S-6's seventh word at its end: 2,000 and 26,350 are whole figures of the table, and the third tranche has D ≤ K
 abbrev pub checkedText : List String
 checkedText =
     "charge 101000 tranches 3" ∷
-    "1 1 200000 1000000 2000 160 13" ∷
-    "2 1 50000 200000 26350 264 22" ∷
-    "3 2 0 50000 125000 625 50" ∷
+    "1 1 200000 1000000 2000 160 13 2000" ∷
+    "2 1 50000 200000 26350 264 22 26350" ∷
+    "3 2 0 50000 125000 625 50 125000" ∷
     "total 1049 85" ∷ []
 
 -- one tranche, rated AAA, over loans of 10%
@@ -172,12 +190,12 @@ checks =
     eqb (weightByRating ordinaryFigures 5 false 12 500000) 4000 ∷
     -- "Senior AAA over loans of 10%: 1,000."
     acceptedAt cappedSheet 8000 ∷
-    firstLine cappedSheet (1 ∷ 0 ∷ 1000000 ∷ 1000 ∷ 100 ∷ 8 ∷ []) ∷
+    firstLine cappedSheet (1 ∷ 0 ∷ 1000000 ∷ 1000 ∷ 100 ∷ 8 ∷ 1000 ∷ []) ∷
     -- "Rows (2, 100%) and (1, 50%): base 66,667, cap 8,334."
     acceptedAt twoRowSheet 66667 ∷
     eqb (baseCharge (poolSums twoRowSheet .known)) 66667 ∷
     eqb (poolAverage (poolSums twoRowSheet)) 8334 ∷
-    firstLine twoRowSheet (1 ∷ 0 ∷ 1000000 ∷ 8334 ∷ 3 ∷ 1 ∷ []) ∷
+    firstLine twoRowSheet (1 ∷ 0 ∷ 1000000 ∷ 8334 ∷ 3 ∷ 1 ∷ 8334 ∷ []) ∷
     -- "Base 80,000, none late, 5% unknown: charge 126,000;
     eqb (baseCharge (poolSums unknownSheet .known)) 80000 ∷
     eqb (lateShare (poolSums unknownSheet)) 0 ∷
@@ -187,7 +205,7 @@ checks =
     eqb (baseCharge (poolSums moreUnknownSheet .known)) 80000 ∷
     eqb (lateShare (poolSums moreUnknownSheet)) 0 ∷
     acceptedAt moreUnknownSheet 1000000 ∷
-    firstLine moreUnknownSheet (0 ∷ 0 ∷ 1000000 ∷ 125000 ∷ 12500 ∷ 1000 ∷ []) ∷
+    firstLine moreUnknownSheet (0 ∷ 0 ∷ 1000000 ∷ 125000 ∷ 12500 ∷ 1000 ∷ 125000 ∷ []) ∷
     -- in the cases that follow the parameter is that of an ordinary deal's tranche
     eqb (parameter (tranche unknownSheet 0) (terms unknownSheet)) ordinary ∷
     -- "K = 0, D above 0: raw 0.
@@ -211,4 +229,15 @@ checks =
     not (passesAt 50000 150000 100000 ordinary 6 111686) ∷
     -- The raw weight given is one of the two, in each of these cases.
     isEither (rawWeight 100000 200000 100000 ordinary) 79016 79017 ∷
-    isEither (rawWeight 50000 150000 100000 ordinary) 111684 111685 ∷ []
+    isEither (rawWeight 50000 150000 100000 ordinary) 111684 111685 ∷
+    -- S-6 of the same two: the exact values are 79,015.07 and 111,683.67, so in the first 79,014 and 79,015 pass from below, at any k `open-case-from-below`, and in the second 111,683
+    -- alone does; the raw weight's low number is one of these.
+    not (passesFromBelowAt 100000 200000 100000 ordinary 8 79013) ∷
+    passesFromBelowAt 100000 200000 100000 ordinary 8 79014 ∷
+    passesFromBelowAt 100000 200000 100000 ordinary 8 79015 ∷
+    not (passesFromBelowAt 100000 200000 100000 ordinary 8 79016) ∷
+    not (passesFromBelowAt 50000 150000 100000 ordinary 6 111682) ∷
+    passesFromBelowAt 50000 150000 100000 ordinary 6 111683 ∷
+    not (passesFromBelowAt 50000 150000 100000 ordinary 6 111684) ∷
+    startsFromEither (rawWeight 100000 200000 100000 ordinary) 79014 79015 ∷
+    startsFromEither (rawWeight 50000 150000 100000 ordinary) 111683 111683 ∷ []

@@ -1,5 +1,5 @@
--- 01, "Checked deals": what the report program prints of a file: "tranche number, then the six words; last line sums risk-weighted amounts and
--- capital"; "A refusal prints `refused NUMBER at PLACE`." A text is the list of its bytes.
+-- 01, "Checked deals", and 02, S-6, "Both ends in the report": what the report program prints of a file: "tranche number, then the six words; last line sums risk-weighted amounts and
+-- capital"; "The printed line gains the seventh word at its end"; "A refusal prints `refused NUMBER at PLACE`." A text is the list of its bytes.
 use mathlib.Core.Bool.{cond}
 use mathlib.Core.List.{List, [], _∷_, _++_}
 use Prim.Native.Char.{code}
@@ -36,7 +36,8 @@ spaced n (m ∷ ns) = decimal n ++ space ∷ spaced m ns
 abbrev pub refusalLine : ℕ → ℕ → List ℕ
 refusalLine number place = labelled "refused " number " at " place
 
--- "tranche number, then the six words", where ws are the words of the results; the number counts from 1, i from 0
+-- "tranche number, then the six words"; S-6: "The printed line gains the seventh word at its end". ws are the words of the results; the number counts from 1,
+-- i from 0
 abbrev pub trancheLine : List ℕ → ℕ → List ℕ
 trancheLine ws i = spaced (suc i) (take lineSize (drop (lineSize * i) ws))
 
@@ -44,7 +45,8 @@ unfoldable pub trancheLines : List ℕ → ℕ → List ℕ
 trancheLines ws zero = []
 trancheLines ws (suc n) = trancheLines ws n ++ trancheLine ws n
 
--- "last line sums risk-weighted amounts and capital": their columns, from 0, among "approach ..., A, D, weight, risk-weighted amount, capital"
+-- "last line sums risk-weighted amounts and capital": their columns, from 0, among "approach ..., A, D, weight, risk-weighted amount, capital" and the
+-- seventh word
 abbrev pub rwaColumn : ℕ
 rwaColumn = 4
 

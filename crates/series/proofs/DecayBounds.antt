@@ -1,21 +1,12 @@
--- What it means that a fraction c / s lies on one side of e^(−q), in terms of the series alone, and how such facts are combined.
--- No axioms.
+-- How facts that a fraction c / s lies on one side of e^(−q) are combined. No axioms.
 use Prim.Native.Nat.{ℕ, _+_, _*_, _≤_, _<_}
 use native.Mathlib.Nat.{mul-le-mul, mul-le-mul-left, mul-le-mul-right, le-of-mul-le-mul-right, mul-pos}
 use native.Mathlib.Omega.{arith}
 use Rattle.series.specs.Fraction.{Fraction, over, AtMost}
 use Rattle.series.specs.Series.{low, up, Admitted}
+use Rattle.series.specs.Bounds.{NotAbove, NotBelow}
 use Rattle.series.proofs.SeriesLaws.{low-bottom-pos, up-bottom-pos, low-at-most-up, low-grows}
 use Rattle.series.proofs.Exponents.{low-of-sum-at-most, low-of-sum-at-least}
-
--- c / s is at most e^(−q): c × e^q ≤ s
-pub record NotAbove (c s : ℕ) (q : Fraction) : Type 0 where
-  pub every : (k : ℕ) → c * low q k .top ≤ s * low q k .bottom
-
--- c / s is at least e^(−q): s ≤ c × e^q
-pub record NotBelow (c s : ℕ) (q : Fraction) : Type 0 where
-  pub some-k : ℕ
-  pub holds : s * low q some-k .bottom ≤ c * low q some-k .top
 
 -- a bound through Up, at an admitted k, holds for every Low
 pub not-above-by-up : (q : Fraction) → 0 < q .bottom → (c s k : ℕ) → Admitted q k →

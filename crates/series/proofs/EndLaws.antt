@@ -1,11 +1,12 @@
--- No lower end of a counted k passes an upper end of a counted k, so two whole numbers that pass differ by at most 1. No axioms.
+-- No lower end of a counted k passes an upper end of a counted k, so two whole numbers that pass differ by at most 1, and so do two that pass from below; and a number that passes from
+-- below is never above one that passes, and at most 3 below it. No axioms.
 use mathlib.Core.Path.{_≡_}
 use Prim.Native.Nat.{ℕ, suc, _+_, _*_, _-_, _≤_, _<_}
-use native.Mathlib.Nat.{le-refl, mul-pos, mul-le-mul-right, mul-lt-mul-of-pos-right, lt-of-mul-lt-mul-right, zero-lt-suc}
+use native.Mathlib.Nat.{le-refl, mul-pos, mul-le-mul-right, mul-lt-mul-of-pos-right, le-of-mul-le-mul-right, lt-of-mul-lt-mul-right, zero-lt-suc}
 use native.Mathlib.Omega.{arith}
 use Rattle.series.specs.Fraction.{Fraction, inverse, whole, AtMost}
 use Rattle.series.specs.Series.{low, up}
-use Rattle.series.specs.Ends.{scale, lowerExponent, upperExponent, Difference, perThickness, weightWith, upperEnd, lowerEnd, EndAtMost, EndAboveMinusTwo, DifferenceAtMost, Counts, Passes}
+use Rattle.series.specs.Ends.{scale, lowerExponent, upperExponent, Difference, perThickness, weightWith, upperEnd, lowerEnd, EndAtMost, EndAboveMinusTwo, EndAtLeast, EndBelowPlusOneAndAHalf, DifferenceAtMost, Counts, Passes, PassesFromBelow}
 use Rattle.series.proofs.FractionLaws.{plus-at-most-plus, times-at-most-times, divided-at-most-divided, inverse-at-most-inverse}
 use Rattle.series.proofs.SeriesLaws.{low-top-pos, up-top-pos, low-at-most-up}
 
@@ -21,6 +22,40 @@ below-plus-two x y w w′ bottoms-pos between at-most above =
     let bottoms = x .minuend .bottom * x .subtrahend .bottom in
     lt-of-mul-lt-mul-right (bottoms * (y .minuend .bottom * y .subtrahend .bottom))
     (omega (arith, mul-le-mul-right bottoms at-most, mul-lt-mul-of-pos-right above (mul-pos (bottoms-pos .0) (bottoms-pos .1))))
+
+-- v ≤ x ≤ y ≤ w gives v ≤ w
+at-most-between : (x y : Difference) (v w : ℕ) → BottomsAboveZero x → BottomsAboveZero y → DifferenceAtMost x y → EndAtLeast x v → EndAtMost y w → v ≤ w
+at-most-between x y v w x-pos y-pos between at-least at-most =
+    let x-bottoms = x .minuend .bottom * x .subtrahend .bottom in
+    let y-bottoms = y .minuend .bottom * y .subtrahend .bottom in
+    le-of-mul-le-mul-right {k = x-bottoms * y-bottoms}
+    (omega (arith, between, mul-le-mul-right y-bottoms at-least, mul-le-mul-right x-bottoms at-most))
+    (mul-pos (mul-pos (x-pos .0) (x-pos .1)) (mul-pos (y-pos .0) (y-pos .1)))
+
+-- v ≤ x ≤ y < w + 1.5 gives v ≤ w + 1
+at-most-plus-one : (x y : Difference) (v w : ℕ) → BottomsAboveZero x → DifferenceAtMost x y → EndAtLeast x v → EndBelowPlusOneAndAHalf y w → v ≤ w + 1
+at-most-plus-one x y v w x-pos between at-least below =
+    let x-bottoms = x .minuend .bottom * x .subtrahend .bottom in
+    let y-bottoms = y .minuend .bottom * y .subtrahend .bottom in
+    let doubled : 2 * v < 2 * w + 3 =
+        lt-of-mul-lt-mul-right (x-bottoms * y-bottoms)
+        (omega (arith, between, mul-le-mul-right y-bottoms at-least, mul-lt-mul-of-pos-right below (mul-pos (x-pos .0) (x-pos .1)))) in
+    omega arith
+
+-- w − 2 < x ≤ y < v + 1.5 gives w ≤ v + 3
+at-most-plus-three : (x y : Difference) (v w : ℕ) → BottomsAboveZero x → BottomsAboveZero y → DifferenceAtMost x y → EndAboveMinusTwo x w → EndBelowPlusOneAndAHalf y v → w ≤ v + 3
+at-most-plus-three x y v w x-pos y-pos between above below =
+    let x-bottoms = x .minuend .bottom * x .subtrahend .bottom in
+    let y-bottoms = y .minuend .bottom * y .subtrahend .bottom in
+    let doubled : 2 * w < 2 * v + 7 =
+        lt-of-mul-lt-mul-right (x-bottoms * y-bottoms)
+        (omega (
+          arith,
+          between,
+          mul-lt-mul-of-pos-right above (mul-pos (y-pos .0) (y-pos .1)),
+          mul-lt-mul-of-pos-right below (mul-pos (x-pos .0) (x-pos .1)),
+        )) in
+    omega arith
 
 per-thickness-grows : (A D : ℕ) (x y : Fraction) → AtMost x y → AtMost (perThickness A D x) (perThickness A D y)
 per-thickness-grows A D x y h = divided-at-most-divided _ _ (whole (D - A)) (times-at-most-times x y (whole 125000) h)
@@ -77,3 +112,26 @@ module _ (A D K p : ℕ) (K-pos : 0 < K) (p-pos : 0 < p) (thick : A < D) where
   -- and where 125,001 passes, 125,000 is the only raw weight that can.
   pub only-125000 : (w : ℕ) → w ≤ 125000 → Passes A D K p 125001 → Passes A D K p w → w ≡ 125000
   only-125000 w most top h = omega (arith, passing-close w 125001 h top)
+
+  -- ---- from below
+
+  -- A number that passes from below is never above one that passes,
+  pub from-below-at-most : (v w : ℕ) → PassesFromBelow A D K p v → Passes A D K p w → v ≤ w
+  from-below-at-most v w low high =
+      at-most-between _ _ v w (lower-bottoms (low .k)) (upper-bottoms (high .k))
+      (lower-at-most-upper (low .k) (high .k) (low .counts) (high .counts)) (low .lower) (high .upper)
+
+  -- and at most 3 below it.
+  pub from-below-near : (v w : ℕ) → PassesFromBelow A D K p v → Passes A D K p w → w ≤ v + 3
+  from-below-near v w low high =
+      at-most-plus-three _ _ v w (lower-bottoms (high .k)) (upper-bottoms (low .k))
+      (lower-at-most-upper (high .k) (low .k) (high .counts) (low .counts)) (high .lower) (low .upper)
+
+  -- Two numbers that pass from below differ by at most 1.
+  pub from-below-close : (v w : ℕ) → PassesFromBelow A D K p v → PassesFromBelow A D K p w → v ≤ suc w
+  from-below-close v w h h′ =
+      omega (
+        arith,
+        at-most-plus-one _ _ v w (lower-bottoms (h .k))
+            (lower-at-most-upper (h .k) (h′ .k) (h .counts) (h′ .counts)) (h .lower) (h′ .upper),
+      )

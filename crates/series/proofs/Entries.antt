@@ -16,7 +16,8 @@ use Rattle.numbers.proofs.SmallerLarger.{le-or-lt}
 use Rattle.numbers.proofs.Table.{allBelow, at-each, agrees, entry-is}
 use Rattle.series.proofs.SeriesLaws.{low-top-pos}
 use Rattle.series.proofs.WholePartLaw.{at-most-quotient, quotient-below}
-use Rattle.series.proofs.DecayBounds.{NotAbove, NotBelow, not-above-by-up}
+use Rattle.series.specs.Bounds.{NotAbove, NotBelow}
+use Rattle.series.proofs.DecayBounds.{not-above-by-up}
 use Rattle.series.proofs.EntryBounds.{entry-at-most, entry-zero, whole-entry-zero}
 
 -- the computed test: the entry times Up(43) is at most 2^32

@@ -8,7 +8,7 @@ use Rattle.series.specs.Fraction.{Fraction, over, AtMost}
 use Rattle.series.specs.Series.{factorial, low, up, term, Admitted}
 use Rattle.series.proofs.SeriesLaws.{low-bottom-pos, up-bottom-pos, low-at-least-one, low-rises, up-falls, bounds-converge}
 use Rattle.series.proofs.Exponents.{low-of-sum-at-most, low-of-sum-at-least}
-use Rattle.series.proofs.DecayBounds.{NotAbove, NotBelow}
+use Rattle.series.specs.Bounds.{NotAbove, NotBelow}
 
 pub record Eventually (P : ℕ → Type 0) : Type 0 where
   pub from : ℕ

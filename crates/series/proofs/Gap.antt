@@ -4,8 +4,7 @@ use native.Mathlib.Nat.{mul-le-mul-left, le-of-mul-le-mul-right, zero-lt-suc}
 use native.Mathlib.Omega.{arith}
 use Rattle.series.specs.Fraction.{Fraction, over}
 use Rattle.series.specs.Series.{low, up, Admitted}
-use Rattle.series.proofs.DecayBounds.{NotAbove, NotBelow}
-use Rattle.series.proofs.MeanDecayBounds.{MeanDecayHigh, MeanDecayLow}
+use Rattle.series.specs.Bounds.{NotAbove, NotBelow, MeanDecayHigh, MeanDecayLow}
 use Rattle.series.proofs.Eventually.{Eventually, both-eventually, map-eventually, at-some-k, up-bounded, low-bounded, admitted-eventually, over-eventually, under-eventually}
 
 module _ (M b x : ℕ) (u v : Fraction) where

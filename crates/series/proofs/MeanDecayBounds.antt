@@ -6,24 +6,9 @@ use Prim.Native.Nat.{ℕ, suc, _+_, _*_, _^_, _≤_, _<_}
 use native.Mathlib.Nat.{mul-le-mul, mul-le-mul-left, mul-le-mul-right, mul-pos, le-mul-of-pos-right}
 use native.Mathlib.Omega.{arith}
 use Rattle.series.specs.Fraction.{over}
+use Rattle.series.specs.Bounds.{NotAbove, NotBelow, MeanDecayHigh, MeanDecayLow}
 use Rattle.numbers.proofs.SmallerLarger.{le-or-lt}
-use Rattle.series.proofs.DecayBounds.{NotAbove, NotBelow}
 use Rattle.series.proofs.Rest.{third, third-equation, third-not-above}
-
--- h / 2^27 is at least (1 − e^(−x)) / x, for x = a / b: some c / s is at most e^(−x), and 1 − c / (s + 1) is at most x h / 2^27
-pub record MeanDecayHigh (a b h : ℕ) : Type 0 where
-  pub c : ℕ
-  pub s : ℕ
-  pub bound : NotAbove c s (over a b)
-  pub holds : suc s * (2 ^ 27 * b) ≤ suc s * (h * a) + c * (2 ^ 27 * b)
-
--- h / 2^27 is at most (1 − e^(−x)) / x: some c / s is at least e^(−x), and x h / 2^27 is at most 1 − (c + 1) / s
-pub record MeanDecayLow (a b h : ℕ) : Type 0 where
-  pub c : ℕ
-  pub s : ℕ
-  pub s-pos : 0 < s
-  pub bound : NotBelow c s (over a b)
-  pub holds : s * (h * a) + suc c * (2 ^ 27 * b) ≤ s * (2 ^ 27 * b)
 
 pub mean-decay-low-weaker : {a b h : ℕ} (h′ : ℕ) → h′ ≤ h → MeanDecayLow a b h → MeanDecayLow a b h′
 mean-decay-low-weaker {a} h′ l w = record {

@@ -6,7 +6,8 @@ use native.Mathlib.Omega.{arith}
 use Rattle.series.specs.Fraction.{over}
 use Rattle.series.specs.Series.{factorial, low, up}
 use Rattle.series.proofs.Numbers.{difference-of-squares}
-use Rattle.series.proofs.DecayBounds.{NotAbove, NotBelow, not-above-by-up}
+use Rattle.series.specs.Bounds.{NotAbove, NotBelow}
+use Rattle.series.proofs.DecayBounds.{not-above-by-up}
 
 module _ (a b : ℕ) where
   low-two-top : low (over a b) 2 .top ≡ b * (2 * (b * b) + 2 * (a * b) + a * a)

@@ -1,4 +1,4 @@
--- 01, "The formula and its series" (d374 paragraphs 84 and 86, CRE41): the ends of the raw weight, and which whole numbers pass, where K and p are at least
+-- 01, "The formula and its series" (d374 paragraphs 84 and 86, CRE41), and 02, S-6, "Both ends in the report": the ends of the raw weight, and which whole numbers pass, where K and p are at least
 -- 1, D is above K and A is below D. A is the attachment point, D the detachment point and K the pool charge, in millionths; p is the supervisory parameter,
 -- in millionths too. A weight is counted in hundredths of a percent, so 1250% is 125,000.
 use Prim.Native.Nat.{ℕ, _*_, _-_}
@@ -49,6 +49,14 @@ EndAtMost e w = AtMost (e .minuend) (plus (whole w) (e .subtrahend))
 abbrev pub EndAboveMinusTwo : Difference → ℕ → Type 0
 EndAboveMinusTwo e w = Below (plus (whole w) (e .subtrahend)) (plus (e .minuend) (whole 2))
 
+-- an end at least the whole number w: w + subtrahend ≤ minuend
+abbrev pub EndAtLeast : Difference → ℕ → Type 0
+EndAtLeast e w = AtMost (plus (whole w) (e .subtrahend)) (e .minuend)
+
+-- an end less than the whole number w plus 1.5: minuend < w + 1.5 + subtrahend
+abbrev pub EndBelowPlusOneAndAHalf : Difference → ℕ → Type 0
+EndBelowPlusOneAndAHalf e w = Below (e .minuend) (plus (plus (whole w) (over 3 2)) (e .subtrahend))
+
 -- one end at most another
 abbrev pub DifferenceAtMost : Difference → Difference → Type 0
 DifferenceAtMost x y = AtMost (plus (x .minuend) (y .subtrahend)) (plus (y .minuend) (x .subtrahend))
@@ -64,3 +72,11 @@ pub record Passes (A D K p w : ℕ) : Type 0 where
   pub counts : Counts A D K p k
   pub upper : EndAtMost (upperEnd A D K p k) w
   pub lower : EndAboveMinusTwo (lowerEnd A D K p k) w
+
+-- w passes from below: S-6: "a whole number that is at most the exact raw weight and less than one and a half below it (some k has its lower end at least that number and its
+-- upper end less than the number plus 1.5)". Its k need not be the one by which a number passes above.
+pub record PassesFromBelow (A D K p w : ℕ) : Type 0 where
+  pub k : ℕ
+  pub counts : Counts A D K p k
+  pub lower : EndAtLeast (lowerEnd A D K p k) w
+  pub upper : EndBelowPlusOneAndAHalf (upperEnd A D K p k) w

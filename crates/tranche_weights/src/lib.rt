@@ -3,9 +3,9 @@
 ghost use mathlib.Core.Path.{_≡_};
 ghost use Prim.Native.Nat.{_≤_};
 ghost use lib.ListN.{length};
-ghost use Rattle.deal.specs.DemandThree.{KeepsDemandThree};
+ghost use Rattle.deal.specs.DemandThree.{KeepsDemandThree, KeepsSeventhWord};
 ghost use Rattle.deal.specs.Results.{replyOf, replyTo, resultsAfter};
-ghost use Rattle.deal_file.specs.FileAnswer.{fileReply, fileResults, FileKeepsDemandThree};
+ghost use Rattle.deal_file.specs.FileAnswer.{fileReply, fileResults, FileKeepsDemandThree, FileKeepsSeventhWord};
 ghost use Rattle.report.specs.ReportText.{fileText, textAfter, textRoom};
 ghost use Rattle.tranche_weights.specs.FourNumbers.{fourNumbers};
 use deal::Answer;
@@ -36,7 +36,7 @@ fn put_answer(answer: Answer, place: &mut u64, count: &mut u64, charge: &mut u64
 
 // Weighs every tranche of a deal sheet, as deal::weigh does.
 #[no_mangle]
-pub extern "C" fn tranche_weights_weigh_v5(
+pub extern "C" fn tranche_weights_weigh_v6(
     sheet: &[u64],
     results: &mut [u64],
     place: &mut u64,
@@ -46,6 +46,7 @@ pub extern "C" fn tranche_weights_weigh_v5(
     ensures { λ r. ⌜ fourNumbers r (now (place .exit)) (now (count .exit)) (now (charge .exit)) ≡ replyTo (now (sheet .entry)) (length (now (results .entry))) ⌝ }
     ensures { λ r. ⌜ now (results .exit) ≡ resultsAfter (now (sheet .entry)) (now (results .entry)) ⌝ }
     ensures { λ r. ⌜ KeepsDemandThree (now (sheet .entry)) (length (now (results .entry))) (now (results .exit)) ⌝ }
+    ensures { λ r. ⌜ KeepsSeventhWord (now (sheet .entry)) (length (now (results .entry))) (now (results .exit)) ⌝ }
 {
     let answer = deal::weigh(sheet, results);
     put_answer(answer, place, count, charge)
@@ -53,7 +54,7 @@ pub extern "C" fn tranche_weights_weigh_v5(
 
 // Weighs every tranche of the deal sheet that a file's bytes hold, as deal_file::weigh_file does.
 #[no_mangle]
-pub extern "C" fn tranche_weights_weigh_file_v5(
+pub extern "C" fn tranche_weights_weigh_file_v6(
     file: &[u8],
     results: &mut [u64],
     place: &mut u64,
@@ -63,6 +64,7 @@ pub extern "C" fn tranche_weights_weigh_file_v5(
     ensures { λ r. ⌜ fourNumbers r (now (place .exit)) (now (count .exit)) (now (charge .exit)) ≡ fileReply (now (file .entry)) (length (now (results .entry))) ⌝ }
     ensures { λ r. ⌜ now (results .exit) ≡ fileResults (now (file .entry)) (now (results .entry)) ⌝ }
     ensures { λ r. ⌜ FileKeepsDemandThree (now (file .entry)) (length (now (results .entry))) (now (results .exit)) ⌝ }
+    ensures { λ r. ⌜ FileKeepsSeventhWord (now (file .entry)) (length (now (results .entry))) (now (results .exit)) ⌝ }
 {
     let answer = deal_file::weigh_file(file, results);
     put_answer(answer, place, count, charge)
@@ -71,7 +73,7 @@ pub extern "C" fn tranche_weights_weigh_file_v5(
 // Writes the report's text on a file, as report::report does. The answer is the text's length; it was written where that is at most the room lent, and
 // else nothing was.
 #[no_mangle]
-pub extern "C" fn tranche_weights_report_v5(file: &[u8], text: &mut [u8]) -> u64
+pub extern "C" fn tranche_weights_report_v6(file: &[u8], text: &mut [u8]) -> u64
     ensures { λ r. ⌜ r ≡ length (fileText (now (file .entry))) ⌝ }
     ensures { λ r. ⌜ now (text .exit) ≡ textAfter (fileText (now (file .entry))) (now (text .entry)) ⌝ }
     ensures { λ r. ⌜ r ≤ textRoom ⌝ }

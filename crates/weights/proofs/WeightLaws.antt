@@ -1,37 +1,39 @@
 -- Which weight a tranche has by each approach, and what it depends on in a re-securitisation and under SEC-IRBA; what a deal without an STC mark has; that the parameter is one for
 -- which the formula is computed; that no weight is above 125,000 (1250%), neither the formula's raw weight, nor the table's, nor either after floor and cap; that
--- floor and cap keep the order of weights; and where a tranche of no thickness lies. No axioms.
+-- floor and cap keep the order of weights; how far the two ends of a weight lie apart; and where a tranche of no thickness lies. No axioms.
 use mathlib.Core.Bool.{Bool, true, false, cond}
 use mathlib.Core.List.{List, _∷_, map}
 use mathlib.Core.Logic.{⊎-elim}
 use mathlib.Core.Path.{_≡_, refl, sym, _∙_}
-use Prim.Native.Nat.{ℕ, _-_, _≤_, _<_}
+use Prim.Native.Nat.{ℕ, _+_, _-_, min, max, _≤_, _<_}
 use native.Mathlib.Nat.{eq-zero-or-pos, le-refl}
 use native.Mathlib.Omega.{arith}
 use lib.Dec.{ltb, eqb}
 use borrow.Author.Tests.{ltb-false, eqb-true, eq-eqb, ne-eqb}
 use Rattle.numbers.proofs.Tests.{at-cond, cond-le, either-true}
+use Rattle.numbers.specs.BothEnds.{both, atBoth, EndsWithin}
+use Rattle.numbers.specs.declared.Ends.{Ends}
 use Rattle.formula.specs.Formula.{WithinLimits}
-use Rattle.formula.specs.FixedPoint.{withinLimits, rawWeight}
-use Rattle.formula.proofs.RawWeightLaw.{raw-weight-is}
+use Rattle.formula.specs.FixedPoint.{formulaWeight, withinLimits, rawWeight}
+use Rattle.formula.proofs.RawWeightLaw.{formula-at-most, formula-within, by-formula, raw-weight-is}
 use Rattle.formula.proofs.Limits.{limits-of-test}
 use Rattle.irba.specs.Parameter.{parameter as irbaParameter}
 use Rattle.irba.specs.declared.IrbFigures.{IrbFigures}
 use Rattle.irba.proofs.ParameterLimits.{parameter-least, parameter-most}
-use Rattle.ratings.specs.RatingTable.{maturityFifths, ordinaryFigures, figuresOf, pick, weightByRatings}
+use Rattle.ratings.specs.RatingTable.{maturityFifths, ordinaryFigures, figuresOf, pick, endsByRatings}
 use Rattle.ratings.proofs.PickLaws.{pick-of-rising}
-use Rattle.ratings.proofs.TableLaws.{figures-at-most, weight-by-ratings-at-most}
+use Rattle.ratings.proofs.TableLaws.{figures-at-most, weight-by-ratings-at-most, ends-within}
 use Rattle.weights.specs.ApproachFloorCap.{approach, formulaApproach, byFormula, parameter, floor, capApplies, afterFloorAndCap, weightOrHighest, formulaRawWeight, tableWeight, weight, WeightByFormula, thin}
 use Rattle.weights.specs.declared.Terms.{Terms}
 use Rattle.weights.specs.declared.Tranche.{Tranche}
 
 -- ---- the weight by each approach
 
-pub fallback-weight : (t : Tranche) (d : Terms) → approach t d ≡ 0 → weight t d ≡ 125000
+pub fallback-weight : (t : Tranche) (d : Terms) → approach t d ≡ 0 → weight t d ≡ both 125000
 unfolding weight
-fallback-weight t d by = simp by (omega arith)
+fallback-weight t d by = simp by
 
-pub table-weighs : (t : Tranche) (d : Terms) → approach t d ≡ 1 → weight t d ≡ afterFloorAndCap t d (tableWeight t d)
+pub table-weighs : (t : Tranche) (d : Terms) → approach t d ≡ 1 → weight t d ≡ atBoth (afterFloorAndCap t d) (tableWeight t d)
 unfolding weight
 table-weighs t d by = simp by
 
@@ -43,11 +45,11 @@ not-fallback by e =
     (λ three. let sec-irba = eqb-true by 3 three in ne-eqb by 0 (λ zero. omega arith))
     (either-true (eqb by 2) (eqb by 3) e)
 
-pub formula-weight : (t : Tranche) (d : Terms) → byFormula t d ≡ true → weight t d ≡ afterFloorAndCap t d (formulaRawWeight t d)
+pub formula-weight : (t : Tranche) (d : Terms) → byFormula t d ≡ true → weight t d ≡ atBoth (afterFloorAndCap t d) (formulaRawWeight t d)
 unfolding weight
 formula-weight t d by = simp (not-fallback (approach t d) by, by)
 
-pub weight-by-formula : (t : Tranche) (d : Terms) {w : ℕ} → w ≡ weight t d → byFormula t d ≡ true → WeightByFormula t d w
+pub weight-by-formula : (t : Tranche) (d : Terms) {w : Ends} → w ≡ weight t d → byFormula t d ≡ true → WeightByFormula t d w
 unfolding formulaRawWeight
 weight-by-formula t d e by =
     let p = parameter t d in
@@ -81,7 +83,7 @@ unmarked-floor t d e = simp e
 pub unmarked-table-weight :
     (t : Tranche) (d : Terms) → d .stc ≡ false →
     tableWeight t d ≡
-    weightByRatings ordinaryFigures (t .first) (t .second) (t .third) (t .senior) (t .months) (t .detachment - t .attachment)
+    endsByRatings ordinaryFigures (t .first) (t .second) (t .third) (t .senior) (t .months) (t .detachment - t .attachment)
 unfolding tableWeight
 unmarked-table-weight t d e = simp e
 
@@ -150,49 +152,54 @@ parameter-within t d =
     (λ _. (omega arith, omega arith))
     (λ _. (omega arith, omega arith))))
 
--- ---- no weight is above 125,000
+-- ---- what both numbers of every raw weight have
 
--- the raw weight, by the cases of IsRawWeight
-module _ (A D K p : ℕ) where
-  thick-at-most : WithinLimits A D K p → K < D → 1 ≤ K → A < D → weightOrHighest (rawWeight A D K p) ≤ 125000
-  thick-at-most l above one thick =
-      let w = raw-weight-is A D K p .formula l above one thick in
-      rw (w .answered) (w .at-most)
-
-  above-at-most : WithinLimits A D K p → K < D → 1 ≤ K → weightOrHighest (rawWeight A D K p) ≤ 125000
-  above-at-most l above one =
+-- a property of the ends 125,000 and 0 and of the formula's own, by the cases of IsRawWeight
+module _ (P : Ends → Type 0) (highest : P (both 125000)) (lowest : P (both 0)) (A D K p : ℕ)
+    (formula : WithinLimits A D K p → K < D → 1 ≤ K → A < D → P (formulaWeight A D K p)) where
+  above-has : WithinLimits A D K p → K < D → 1 ≤ K → P (weightOrHighest (rawWeight A D K p))
+  above-has l above one =
       ⊎-elim
-      (λ e. rw (raw-weight-is A D K p .no-thickness l above one (omega arith)) (omega arith))
-      (λ thick. thick-at-most l above one (omega arith))
+      (λ e. rw (raw-weight-is A D K p .no-thickness l above one (omega arith)) highest)
+      (λ thick. let t : A < D = omega arith in rw (by-formula A D K p l above one t) (formula l above one t))
       (eq-zero-or-pos (D - A))
 
-  charged-at-most : WithinLimits A D K p → K < D → weightOrHighest (rawWeight A D K p) ≤ 125000
-  charged-at-most l above =
+  charged-has : WithinLimits A D K p → K < D → P (weightOrHighest (rawWeight A D K p))
+  charged-has l above =
       ⊎-elim
-      (λ e. rw (raw-weight-is A D K p .charge-zero l above e) (omega arith))
-      (λ one. above-at-most l above one)
+      (λ e. rw (raw-weight-is A D K p .charge-zero l above e) lowest)
+      (λ one. above-has l above one)
       (eq-zero-or-pos K)
 
-  within-at-most : WithinLimits A D K p → weightOrHighest (rawWeight A D K p) ≤ 125000
-  within-at-most l =
+  within-has : WithinLimits A D K p → P (weightOrHighest (rawWeight A D K p))
+  within-has l =
       ⊎-elim
-      (λ e. rw (raw-weight-is A D K p .within-charge l (omega arith)) (le-refl 125000))
-      (λ above. charged-at-most l (omega arith))
+      (λ e. rw (raw-weight-is A D K p .within-charge l (omega arith)) highest)
+      (λ above. charged-has l (omega arith))
       (eq-zero-or-pos (D - K))
 
-  number-at-most : (t : Bool) → withinLimits A D K p ≡ t → weightOrHighest (rawWeight A D K p) ≤ 125000
+  raw-weight-has : (t : Bool) → withinLimits A D K p ≡ t → P (weightOrHighest (rawWeight A D K p))
   unfolding rawWeight
-  number-at-most true e = within-at-most (limits-of-test A D K p e)
-  number-at-most false e = rw e (omega arith)
+  raw-weight-has true e = within-has (limits-of-test A D K p e)
+  raw-weight-has false e = rw e highest
 
-pub raw-weight-at-most : (t : Tranche) (d : Terms) → formulaRawWeight t d ≤ 125000
+formula-raw-weight-has :
+    (P : Ends → Type 0) → P (both 125000) → P (both 0) →
+    ((A D K p : ℕ) → 1 ≤ K → 0 < p → K < D → A < D → P (formulaWeight A D K p)) →
+    (t : Tranche) (d : Terms) → P (formulaRawWeight t d)
 unfolding formulaRawWeight
-raw-weight-at-most t d =
+formula-raw-weight-has P highest lowest formula t d =
     let p = parameter t d in
-    number-at-most (t .attachment) (t .detachment) (d .charge) p
+    raw-weight-has P highest lowest (t .attachment) (t .detachment) (d .charge) p
+    (λ l above one thick. formula (t .attachment) (t .detachment) (d .charge) p one (omega (arith, l .parameter-least)) above thick)
     (withinLimits (t .attachment) (t .detachment) (d .charge) p) refl
 
-pub table-weight-at-most : (t : Tranche) (d : Terms) → tableWeight t d ≤ 125000
+-- ---- no weight is above 125,000
+
+pub raw-weight-at-most : (t : Tranche) (d : Terms) → formulaRawWeight t d .high ≤ 125000
+raw-weight-at-most = formula-raw-weight-has (λ e. e .high ≤ 125000) (le-refl 125000) (omega arith) formula-at-most
+
+pub table-weight-at-most : (t : Tranche) (d : Terms) → tableWeight t d .high ≤ 125000
 unfolding tableWeight
 table-weight-at-most t d =
     weight-by-ratings-at-most (figuresOf (d .stc)) (figures-at-most (d .stc))
@@ -213,15 +220,15 @@ after-floor-and-cap-at-most t d w h =
     (λ _. omega (arith, floor-at-most t d))
     (λ _. omega (arith, floor-at-most t d))
 
-pub weight-at-most : (t : Tranche) (d : Terms) → weight t d ≤ 125000
+pub weight-at-most : (t : Tranche) (d : Terms) → weight t d .high ≤ 125000
 unfolding weight
 weight-at-most t d =
-    at-cond (λ x. x ≤ 125000) (eqb (approach t d) 0) _ _
+    at-cond (λ e. e .high ≤ 125000) (eqb (approach t d) 0) _ _
     (λ _. le-refl 125000)
     (λ _.
-    at-cond (λ x. x ≤ 125000) (byFormula t d) _ _
-    (λ _. after-floor-and-cap-at-most t d (formulaRawWeight t d) (raw-weight-at-most t d))
-    (λ _. after-floor-and-cap-at-most t d (tableWeight t d) (table-weight-at-most t d)))
+    at-cond (λ e. e .high ≤ 125000) (byFormula t d) _ _
+    (λ _. after-floor-and-cap-at-most t d (formulaRawWeight t d .high) (raw-weight-at-most t d))
+    (λ _. after-floor-and-cap-at-most t d (tableWeight t d .high) (table-weight-at-most t d)))
 
 -- ---- floor and cap keep the order of weights
 
@@ -234,6 +241,54 @@ pub pick-then-floor-and-cap :
     (t : Tranche) (d : Terms) (w : ℕ) (others : List ℕ) →
     pick (map (afterFloorAndCap t d) (w ∷ others)) ≡ afterFloorAndCap t d (pick (w ∷ others))
 pick-then-floor-and-cap t d = pick-of-rising (afterFloorAndCap t d) (after-floor-and-cap-rising t d)
+
+-- ---- both ends (02, S-6)
+
+-- before floor and cap they are at most 2 apart under the formula, of the one function that computes both,
+pub formula-ends-within : (t : Tranche) (d : Terms) → EndsWithin 2 (formulaRawWeight t d)
+formula-ends-within =
+    formula-raw-weight-has (EndsWithin 2)
+    (record { ordered = omega arith; near = omega arith }) (record { ordered = omega arith; near = omega arith }) formula-within
+
+-- and at most 1 by the table
+pub table-ends-within : (t : Tranche) (d : Terms) → EndsWithin 1 (tableWeight t d)
+unfolding tableWeight
+table-ends-within t d =
+    ends-within (figuresOf (d .stc)) (t .senior) (t .months) (t .detachment - t .attachment) (t .first) (t .second) (t .third)
+
+-- floor and cap take them no further apart
+after-floor-and-cap-near :
+    (t : Tranche) (d : Terms) (n low high : ℕ) → high ≤ low + n → afterFloorAndCap t d high ≤ afterFloorAndCap t d low + n
+after-floor-and-cap-near t d n low high h = by-cap (capApplies t d)
+  where
+    by-cap : (capped : Bool) →
+        cond capped (min (max high (floor t d)) (d .average)) (max high (floor t d)) ≤
+        cond capped (min (max low (floor t d)) (d .average)) (max low (floor t d)) + n
+    by-cap true = omega arith
+    by-cap false = omega arith
+
+pub after-floor-and-cap-within :
+    (t : Tranche) (d : Terms) (n : ℕ) (e : Ends) → EndsWithin n e → EndsWithin n (atBoth (afterFloorAndCap t d) e)
+after-floor-and-cap-within t d n e h = record {
+  ordered = after-floor-and-cap-rising t d (e .low) (e .high) (h .ordered);
+  near = after-floor-and-cap-near t d n (e .low) (e .high) (h .near);
+}
+
+-- so the low end of a weight is never above the weight, and at most 2 below it
+pub weight-within : (t : Tranche) (d : Terms) → EndsWithin 2 (weight t d)
+unfolding weight
+weight-within t d =
+    at-cond (EndsWithin 2) (eqb (approach t d) 0) _ _
+    (λ _. record { ordered = omega arith; near = omega arith })
+    (λ _.
+    at-cond (EndsWithin 2) (byFormula t d) _ _
+    (λ _. after-floor-and-cap-within t d 2 (formulaRawWeight t d) (formula-ends-within t d))
+    (λ _. let table = after-floor-and-cap-within t d 1 (tableWeight t d) (table-ends-within t d) in
+    record { ordered = table .ordered; near = omega (arith, table .near) }))
+
+-- by the table at most 1
+pub table-weight-within : (t : Tranche) (d : Terms) → approach t d ≡ 1 → EndsWithin 1 (weight t d)
+table-weight-within t d by = rw (table-weighs t d by) (after-floor-and-cap-within t d 1 (tableWeight t d) (table-ends-within t d))
 
 -- ---- thickness
 

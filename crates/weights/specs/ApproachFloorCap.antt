@@ -1,4 +1,4 @@
--- 01, "Which approach, then floor, then cap", and 02, S-1, "STC deals", and S-5, "SEC-IRBA" (d374 paragraph 31 for due diligence, 42 to 47 for the order of approaches, which
+-- 01, "Which approach, then floor, then cap", and 02, S-1, "STC deals", S-5, "SEC-IRBA", and S-6, "Both ends in the report" (d374 paragraph 31 for due diligence, 42 to 47 for the order of approaches, which
 -- CRE40.41 to CRE40.47 give; 56, 85, 94, 115 and 118 for the parameter, 64, 87, 96 and 114 for the floor, 88, 89 and 97 for the cap; CRE42.14 for the floors of STC deals): approach
 -- and weight of a tranche, as functions of the tranche's own inputs and of the deal's terms alone. Weights are counted in hundredths of a percent.
 use mathlib.Core.Bool.{Bool, cond, not, _&&_, _||_}
@@ -6,10 +6,12 @@ use mathlib.Core.Option.{Option·getD}
 use mathlib.Core.Path.{_≡_}
 use Prim.Native.Nat.{ℕ, _-_, min, max}
 use lib.Dec.{ltb, eqb}
+use Rattle.numbers.specs.BothEnds.{both, atBoth}
+use Rattle.numbers.specs.declared.Ends.{Ends}
 use Rattle.formula.specs.FixedPoint.{rawWeight}
 use Rattle.formula.specs.Formula.{RawWeightNumbers, IsRawWeight}
 use Rattle.rating_codes.specs.RatingCodes.{present}
-use Rattle.ratings.specs.RatingTable.{maturityFifths, figuresOf, weightByRatings}
+use Rattle.ratings.specs.RatingTable.{maturityFifths, figuresOf, endsByRatings}
 use Rattle.irba.specs.Parameter.{parameter as irbaParameter}
 use Rattle.weights.specs.declared.Terms.{Terms}
 use Rattle.weights.specs.declared.Tranche.{Tranche}
@@ -66,33 +68,36 @@ afterFloorAndCap t d w =
     let raised = max w (floor t d) in
     cond (capApplies t d) (min raised (d .average)) raised
 
--- the raw weight; where there is none, which no accepted sheet meets (`formula-weighs`, DemandThreeLaw.antt of `deal`), the highest
-abbrev pub weightOrHighest : RawWeightNumbers → ℕ
-weightOrHighest n = Option·getD (n .weight) 125000
+-- A weight has two ends. The high end is the weight of the line; the low end is S-6's: "Each tranche gets a seventh word.", from which number it starts, and what it is after floor and cap.
 
--- "A SEC-SA line's weight is its tranche's raw weight after floor and cap.", and so is that of an approach 3 line
-unfoldable pub formulaRawWeight : Tranche → Terms → ℕ
+-- the raw weight's two numbers; where there is none, which no accepted sheet meets (`formula-weighs`, DemandThreeLaw.antt of `deal`), the highest
+abbrev pub weightOrHighest : RawWeightNumbers → Ends
+weightOrHighest n = Option·getD (n .weight) (both 125000)
+
+-- "A SEC-SA line's weight is its tranche's raw weight after floor and cap.", and so is that of an approach 3 line. S-6: "Under the formula it starts from a whole number that is at most the
+-- exact raw weight and less than one and a half below it": the low number of the raw weight
+unfoldable pub formulaRawWeight : Tranche → Terms → Ends
 formulaRawWeight t d = weightOrHighest (rawWeight (t .attachment) (t .detachment) (d .charge) (parameter t d))
 
--- "STC deals use the second table of source document 001"
-unfoldable pub tableWeight : Tranche → Terms → ℕ
+-- "STC deals use the second table of source document 001". S-6: "for table weights it starts from the exact figure rounded down"
+unfoldable pub tableWeight : Tranche → Terms → Ends
 tableWeight t d =
-    weightByRatings (figuresOf (d .stc)) (t .first) (t .second) (t .third) (t .senior) (t .months)
+    endsByRatings (figuresOf (d .stc)) (t .first) (t .second) (t .third) (t .senior) (t .months)
     (t .detachment - t .attachment)
 
--- "The fallback is 125,000 with no cap"
-unfoldable pub weight : Tranche → Terms → ℕ
+-- "The fallback is 125,000 with no cap". S-6: "Floor and cap act on it alike."
+unfoldable pub weight : Tranche → Terms → Ends
 weight t d =
-    cond (eqb (approach t d) 0) 125000
-    (cond (byFormula t d) (afterFloorAndCap t d (formulaRawWeight t d))
-    (afterFloorAndCap t d (tableWeight t d)))
+    cond (eqb (approach t d) 0) (both 125000)
+    (cond (byFormula t d) (atBoth (afterFloorAndCap t d) (formulaRawWeight t d))
+    (atBoth (afterFloorAndCap t d) (tableWeight t d)))
 
--- What a weight by the formula keeps: it is an answer of the formula, by `IsRawWeight`, after floor and cap. Where K is at least 1 and D above K this
--- limits the raw weight, which the rules leave open, and says how; elsewhere it settles it.
-pub record WeightByFormula (t : Tranche) (d : Terms) (w : ℕ) : Type 0 where
+-- What a weight by the formula keeps: its ends are those of an answer of the formula, by `IsRawWeight`, after floor and cap. Where K is at least 1 and D above K this
+-- limits the raw weight's two numbers, which the rules leave open, and says how; elsewhere it settles them.
+pub record WeightByFormula (t : Tranche) (d : Terms) (w : Ends) : Type 0 where
   pub raw : RawWeightNumbers
   pub is-raw : IsRawWeight (t .attachment) (t .detachment) (d .charge) (parameter t d) raw
-  pub weight-is : w ≡ afterFloorAndCap t d (weightOrHighest raw)
+  pub weight-is : w ≡ atBoth (afterFloorAndCap t d) (weightOrHighest raw)
 
 -- ---- "13: SEC-SA applies, A equals D, and D is above the pool charge"; S-5: "the thin-tranche refusal covers approach 3 tranches, and it ... read[s] this charge"
 

@@ -1,9 +1,11 @@
 // Approach and weight of one tranche, from what is its own and what the deal's tranches share.
 ghost use mathlib.Core.Bool.{true};
 ghost use mathlib.Core.Path.{_≡_};
+ghost use Rattle.numbers.specs.BothEnds.{atBoth};
 ghost use Rattle.weights.specs.ApproachFloorCap.{rated, approach, formulaApproach, byFormula, parameter, floor, capApplies, afterFloorAndCap, formulaRawWeight, tableWeight, weight, WeightByFormula, thin};
 use formula::RawWeight;
 use irba::IrbFigures;
+use numbers::Ends;
 use numbers::excess;
 use numbers::larger;
 use numbers::smaller;
@@ -156,31 +158,42 @@ fn cap_applies(t: Tranche, d: Terms) -> bool
     d.composition
 }
 
-// A weight raised to the floor, then lowered to the cap.
-fn after_floor_and_cap(t: Tranche, d: Terms, w: u64) -> u64
-    ensures { λ r. ⌜ r ≡ afterFloorAndCap t d w ⌝ }
+// Both ends of a weight raised to the floor, then lowered to the cap.
+fn after_floor_and_cap(t: Tranche, d: Terms, w: Ends) -> Ends
+    ensures { λ r. ⌜ r ≡ atBoth (afterFloorAndCap t d) w ⌝ }
 {
-    let raised = larger(w, floor(t, d));
+    let least = floor(t, d);
+    let low = larger(w.low, least);
+    let high = larger(w.high, least);
     if cap_applies(t, d) {
-        return smaller(raised, d.average);
+        return Ends {
+            low: smaller(low, d.average),
+            high: smaller(high, d.average),
+        };
     }
-    raised
+    Ends { low, high }
 }
 
-// The formula's raw weight; the highest weight where there is none, which no accepted sheet meets, so that no caller gets one that is too low.
-fn formula_raw_weight(t: Tranche, d: Terms) -> u64
+// The formula's raw weight, both its numbers; the highest weight where there is none, which no accepted sheet meets, so that no caller gets one that is too low.
+fn formula_raw_weight(t: Tranche, d: Terms) -> Ends
     ensures { λ r. ⌜ r ≡ formulaRawWeight t d ⌝ }
 {
     let raw = formula::raw_weight(t.attachment, t.detachment, d.charge, parameter(t, d));
     match raw {
-        RawWeight::Weight(w) => w,
-        RawWeight::NoThickness => HIGHEST,
-        RawWeight::OutsideLimits => HIGHEST,
+        RawWeight::Weight(e) => e,
+        RawWeight::NoThickness => Ends {
+            low: HIGHEST,
+            high: HIGHEST,
+        },
+        RawWeight::OutsideLimits => Ends {
+            low: HIGHEST,
+            high: HIGHEST,
+        },
     }
 }
 
-// The weight by the rating table of the deal's kind.
-fn table_weight(t: Tranche, d: Terms) -> u64
+// The weight by the rating table of the deal's kind, and its low end.
+fn table_weight(t: Tranche, d: Terms) -> Ends
     ensures { λ r. ⌜ r ≡ tableWeight t d ⌝ }
 {
     ratings::weight_by_ratings(
@@ -194,14 +207,18 @@ fn table_weight(t: Tranche, d: Terms) -> u64
     )
 }
 
-// The tranche's weight. By the formula it is a raw weight after floor and cap; where the rules leave the raw weight open, the second promise limits it.
-pub fn weight(t: Tranche, d: Terms) -> u64
+// The tranche's weight, which is its high end, and the low end, than which the weight is certainly no lower. By the formula they are the two numbers of a raw weight after
+// floor and cap; where the rules leave these open, the second promise limits them.
+pub fn weight(t: Tranche, d: Terms) -> Ends
     ensures { λ r. ⌜ r ≡ weight t d ⌝ }
     ensures { λ r. ⌜ (byFormula t d ≡ true → WeightByFormula t d r) ⌝ }
 {
     let by = approach(t, d);
     if by == 0 {
-        return HIGHEST;
+        return Ends {
+            low: HIGHEST,
+            high: HIGHEST,
+        };
     }
     if formula_approach(by) {
         return after_floor_and_cap(t, d, formula_raw_weight(t, d));

@@ -1,4 +1,4 @@
--- `weight_by_tables`: the exact weight by each word, and by the number of ratings among them the highest or the middle one, rounded up. No axioms.
+-- `weight_by_tables`: the exact weight by each word, and by the number of ratings among them the highest or the middle one, rounded both ways. No axioms.
 use native.Mathlib.Omega.{arith}
 use borrow.Author.Needs.{needs}
 use Rattle.ratings.specs.RatingTable.{figuresOf}
@@ -24,15 +24,15 @@ larger-requires c κs = search needs
 larger-requires-2 : tie.Need-larger-requires-2
 larger-requires-2 c κs = search needs
 
-rounded-up-requires : tie.Need-rounded-up-requires
-rounded-up-requires c κs = search needs
+rounded-requires : tie.Need-rounded-requires
+rounded-requires c κs = search needs
 
 returns : tie.Need-returns
 returns c =
     let by = c .before .before .before .before .before in
     let a = by .before .before .before .args in
     simp (
-      c .rounded-up .ensures,
+      c .rounded .ensures,
       c .before .larger2 .ensures,
       c .before .before .larger .ensures,
       by .before .before .exact-weight .ensures,
@@ -44,15 +44,15 @@ returns c =
 middle-requires : tie.Need-middle-requires
 middle-requires c κs = search needs
 
-rounded-up-requires-2 : tie.Need-rounded-up-requires-2
-rounded-up-requires-2 c κs = search needs
+rounded-requires-2 : tie.Need-rounded-requires-2
+rounded-requires-2 c κs = search needs
 
 returns-2 : tie.Need-returns-2
 returns-2 c =
     let by = c .before .before .before .before in
     let a = by .before .before .before .args in
     simp (
-      c .rounded-up2 .ensures,
+      c .rounded2 .ensures,
       c .before .middle .ensures,
       by .before .before .exact-weight .ensures,
       by .before .exact-weight2 .ensures,
@@ -70,8 +70,8 @@ weight-by-tables-spec =
     count-present-requires
     larger-requires
     larger-requires-2
-    rounded-up-requires
+    rounded-requires
     returns
     middle-requires
-    rounded-up-requires-2
+    rounded-requires-2
     returns-2)

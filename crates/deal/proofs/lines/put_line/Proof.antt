@@ -1,4 +1,4 @@
--- `put_line`: six stores in a row are one run of stores. No axioms.
+-- `put_line`: seven stores in a row are one run of stores. No axioms.
 use mathlib.Core.List.{List}
 use mathlib.Core.Path.{_≡_}
 use Prim.Native.Nat.{ℕ, suc, _+_}
@@ -11,24 +11,27 @@ use Rattle.deal.specs.declared.Line.{Line}
 use Rattle.deal.proofs.lines.put_line.Statement.{statement}
 use Rattle.deal.proofs.lines.put_line.Tie as tie
 
--- stores at a place and at the five after it
-six-stores :
-    (r : List ℕ) (l : Line) (at one two three four five : ℕ) →
-    one ≡ at + 1 → two ≡ at + 2 → three ≡ at + 3 → four ≡ at + 4 → five ≡ at + 5 →
+-- stores at a place and at the six after it
+seven-stores :
+    (r : List ℕ) (l : Line) (at one two three four five six : ℕ) →
+    one ≡ at + 1 → two ≡ at + 2 → three ≡ at + 3 → four ≡ at + 4 → five ≡ at + 5 → six ≡ at + 6 →
     set
+    (set
     (set
     (set
     (set (set (set r at (l .approach)) one (l .attachment)) two (l .detachment)) three (l .weight))
     four (l .rwa))
-    five (l .capital) ≡
+    five (l .capital))
+    six (l .low) ≡
     sets r at (wordsOf l)
-six-stores r l at one two three four five a b c d e =
+seven-stores r l at one two three four five six a b c d e f =
     let next : one ≡ suc at = omega arith in
     let third : two ≡ suc (suc at) = omega arith in
     let fourth : three ≡ suc (suc (suc at)) = omega arith in
     let fifth : four ≡ suc (suc (suc (suc at))) = omega arith in
-    let last : five ≡ suc (suc (suc (suc (suc at)))) = omega arith in
-    rw (next, third, fourth, fifth, last)
+    let sixth : five ≡ suc (suc (suc (suc (suc at)))) = omega arith in
+    let last : six ≡ suc (suc (suc (suc (suc (suc at))))) = omega arith in
+    rw (next, third, fourth, fifth, sixth, last)
 
 mul-results : tie.Need-mul-results
 mul-results c = search needs
@@ -81,13 +84,22 @@ mul-results-6 c = search needs
 slice-write-results-6 : tie.Need-slice-write-results-6
 slice-write-results-6 c = simp length-set (omega arith)
 
+add-results-6 : tie.Need-add-results-6
+add-results-6 c = search needs
+
+mul-results-7 : tie.Need-mul-results-7
+mul-results-7 c = search needs
+
+slice-write-results-7 : tie.Need-slice-write-results-7
+slice-write-results-7 c = simp length-set (omega arith)
+
 same-length : tie.Need-same-length
 same-length c = search needs
 
 returns : tie.Need-returns
 returns c =
     let x = c .args in
-    six-stores (x .results .now) (x .line) (x .at) _ _ _ _ _ (omega arith) (omega arith) (omega arith) (omega arith) (omega arith)
+    seven-stores (x .results .now) (x .line) (x .at) _ _ _ _ _ _ (omega arith) (omega arith) (omega arith) (omega arith) (omega arith) (omega arith)
 
 pub put-line-spec : {M : Type 1} → statement M
 put-line-spec =
@@ -110,5 +122,8 @@ put-line-spec =
     add-results-5
     mul-results-6
     slice-write-results-6
+    add-results-6
+    mul-results-7
+    slice-write-results-7
     same-length
     returns)

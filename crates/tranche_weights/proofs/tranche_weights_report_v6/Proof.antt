@@ -1,10 +1,10 @@
--- `tranche_weights_report_v5`: both cases of the answer of `report` hold the text's length. No axioms.
+-- `tranche_weights_report_v6`: both cases of the answer of `report` hold the text's length. No axioms.
 use mathlib.Core.Path.{sym, _∙_}
 use borrow.Author.Needs.{needs}
 use Rattle.report.specs.ReportText.{fileText}
 use Rattle.tranche_weights.proofs.WrittenLength.{written-length}
-use Rattle.tranche_weights.proofs.tranche_weights_report_v5.Statement.{statement}
-use Rattle.tranche_weights.proofs.tranche_weights_report_v5.Tie as tie
+use Rattle.tranche_weights.proofs.tranche_weights_report_v6.Statement.{statement}
+use Rattle.tranche_weights.proofs.tranche_weights_report_v6.Tie as tie
 
 report-requires : tie.Need-report-requires
 report-requires c κs = search needs
@@ -35,8 +35,8 @@ returns-2 c =
     let size = written-length (fileText (start .args .file .now)) (start .args .text .now) _ _ (sym (c .before .written2 .given .1) ∙ call .report .ensures .0) (call .report .ensures .1 .1) in
     (size .0, (call .report .ensures .1 .0, size .1))
 
-pub tranche-weights-report-v5-spec : {M : Type 1} → statement M
-tranche-weights-report-v5-spec =
+pub tranche-weights-report-v6-spec : {M : Type 1} → statement M
+tranche-weights-report-v6-spec =
     tie.close
     (tie.spec
     report-requires

@@ -1,8 +1,8 @@
--- `tranche_weights_weigh_v5`: the answer of `weigh` is handed on as its four numbers. No axioms.
+-- `tranche_weights_weigh_v6`: the answer of `weigh` is handed on as its four numbers. No axioms.
 use mathlib.Core.Path.{_∙_}
 use borrow.Author.Needs.{needs}
-use Rattle.tranche_weights.proofs.tranche_weights_weigh_v5.Statement.{statement}
-use Rattle.tranche_weights.proofs.tranche_weights_weigh_v5.Tie as tie
+use Rattle.tranche_weights.proofs.tranche_weights_weigh_v6.Statement.{statement}
+use Rattle.tranche_weights.proofs.tranche_weights_weigh_v6.Tie as tie
 
 weigh-requires : tie.Need-weigh-requires
 weigh-requires c κs = search needs
@@ -18,5 +18,5 @@ returns c =
     let call = c .before .before .before .before .before .before in
     (c .put-answer .ensures ∙ call .weigh .ensures .0, call .weigh .ensures .1)
 
-pub tranche-weights-weigh-v5-spec : {M : Type 1} → statement M
-tranche-weights-weigh-v5-spec = tie.close (tie.spec weigh-requires put-answer-requires same-length returns)
+pub tranche-weights-weigh-v6-spec : {M : Type 1} → statement M
+tranche-weights-weigh-v6-spec = tie.close (tie.spec weigh-requires put-answer-requires same-length returns)
