@@ -87,8 +87,8 @@ share-at-most : (n share : ℕ) → n ≤ 300000 → share ≤ 1000000 → n * s
 share-at-most n share p h = omega (arith, mul-le-mul p h)
 
 module _ (figures : RatingFigures) (t : T (figuresAtMost 1250 figures)) where
-  both : T (tableAtMost 1250 (figures .longTermFigures)) × T (shortTermAtMost 1250 (figures .shortTermFigures))
-  both = and-both (tableAtMost 1250 (figures .longTermFigures)) (shortTermAtMost 1250 (figures .shortTermFigures)) t
+  both-tests : T (tableAtMost 1250 (figures .longTermFigures)) × T (shortTermAtMost 1250 (figures .shortTermFigures))
+  both-tests = and-both (tableAtMost 1250 (figures .longTermFigures)) (shortTermAtMost 1250 (figures .shortTermFigures)) t
 
   -- the linear figures from a column to the next
   pub linear-figures-at-most :
@@ -97,8 +97,8 @@ module _ (figures : RatingFigures) (t : T (figuresAtMost 1250 figures)) where
   linear-figures-at-most grade column fifths least most before from to =
       let table = figures .longTermFigures in
       linear-at-most 1250 (figure table grade column) (figure table grade (column + 1)) fifths
-      (figure-at-most 1250 table grade column (both .0) least most (omega arith))
-      (figure-at-most 1250 table grade (column + 1) (both .0) least most (omega arith))
+      (figure-at-most 1250 table grade column (both-tests .0) least most (omega arith))
+      (figure-at-most 1250 table grade (column + 1) (both-tests .0) least most (omega arith))
       from to
 
   pub long-term-exact-at-most :
@@ -127,7 +127,7 @@ module _ (figures : RatingFigures) (t : T (figuresAtMost 1250 figures)) where
       long-term-exact-at-most code senior (maturityFifths months) thickness (within .0) (within .1) (fifths .0) (fifths .1))
       (λ _.
       at-cond (λ w. w ≤ 125000 * exactParts) (shortTerm code) _ _
-      (λ e. omega (arith, short-term-figure-at-most 1250 (figures .shortTermFigures) code (both .1) (short-term-within code e .1)))
+      (λ e. omega (arith, short-term-figure-at-most 1250 (figures .shortTermFigures) code (both-tests .1) (short-term-within code e .1)))
       (λ _. omega arith))
 
   pub weight-by-rating-at-most :

@@ -11,8 +11,8 @@ weight-by-ratings-requires c κs = search needs
 
 returns : tie.Need-returns
 returns c =
-    let a = c .before .before .args in
-    rw (c .before .weight-by-ratings .ensures) (one-rating (figuresOf (a .stc)) (a .senior) (a .months) (a .thickness) (a .code) _ _ refl refl)
+    let a = c .before .args in
+    rw (c .weight-by-ratings .ensures) (one-rating (figuresOf (a .stc)) (a .senior) (a .months) (a .thickness) (a .code) _ _ refl refl)
 
 pub weight-by-rating-spec : {M : Type 1} → statement M
 weight-by-rating-spec = tie.close (tie.spec weight-by-ratings-requires returns)
