@@ -197,7 +197,7 @@ formula-raw-weight-has P highest lowest formula t d =
 -- ---- no weight is above 125,000
 
 pub raw-weight-at-most : (t : Tranche) (d : Terms) → formulaRawWeight t d .high ≤ 125000
-raw-weight-at-most = formula-raw-weight-has (λ e. e .high ≤ 125000) (le-refl 125000) (omega arith) formula-at-most
+raw-weight-at-most = formula-raw-weight-has (λ (e : Ends). e .high ≤ 125000) (le-refl 125000) (omega arith) formula-at-most
 
 pub table-weight-at-most : (t : Tranche) (d : Terms) → tableWeight t d .high ≤ 125000
 unfolding tableWeight
@@ -223,10 +223,10 @@ after-floor-and-cap-at-most t d w h =
 pub weight-at-most : (t : Tranche) (d : Terms) → weight t d .high ≤ 125000
 unfolding weight
 weight-at-most t d =
-    at-cond (λ e. e .high ≤ 125000) (eqb (approach t d) 0) _ _
+    at-cond (λ (e : Ends). e .high ≤ 125000) (eqb (approach t d) 0) _ _
     (λ _. le-refl 125000)
     (λ _.
-    at-cond (λ e. e .high ≤ 125000) (byFormula t d) _ _
+    at-cond (λ (e : Ends). e .high ≤ 125000) (byFormula t d) _ _
     (λ _. after-floor-and-cap-at-most t d (formulaRawWeight t d .high) (raw-weight-at-most t d))
     (λ _. after-floor-and-cap-at-most t d (tableWeight t d .high) (table-weight-at-most t d)))
 

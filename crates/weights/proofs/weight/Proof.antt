@@ -1,10 +1,10 @@
 -- `weight`: each approach with its own weight. No axioms.
 use mathlib.Core.Bool.{true}
 use mathlib.Core.Path.{_≡_}
-use Prim.Native.Nat.{ℕ}
 use native.Mathlib.Omega.{arith}
 use borrow.Author.Needs.{needs}
 use borrow.Author.Tests.{eq-eqb, ne-eqb}
+use Rattle.numbers.specs.declared.Ends.{Ends}
 use Rattle.weights.specs.ApproachFloorCap.{byFormula, weight, WeightByFormula}
 use Rattle.weights.specs.declared.Terms.{Terms}
 use Rattle.weights.specs.declared.Tranche.{Tranche}
@@ -13,7 +13,7 @@ use Rattle.weights.proofs.weight.Statement.{statement}
 use Rattle.weights.proofs.weight.Tie as tie
 
 -- the second promise follows from the first
-both : {t : Tranche} {d : Terms} {w : ℕ} → w ≡ weight t d → (w ≡ weight t d) × (byFormula t d ≡ true → WeightByFormula t d w)
+both : {t : Tranche} {d : Terms} {w : Ends} → w ≡ weight t d → (w ≡ weight t d) × (byFormula t d ≡ true → WeightByFormula t d w)
 both {t} {d} e = (e, λ by. weight-by-formula t d e by)
 
 approach-requires : tie.Need-approach-requires
