@@ -89,14 +89,15 @@ unfolding lineWords line tranche
 line-amounts s room i z l =
     let small = held-at-most s room i z l in
     let most = weight-at-most (tranche s i) (terms s) in
-    (rwa-at-most (held s i) (weight (tranche s i) (terms s)) small most, capital-at-most (held s i) (weight (tranche s i) (terms s)) small most)
+    let w = weight (tranche s i) (terms s) .high in
+    (rwa-at-most (held s i) w small most, capital-at-most (held s i) w small most)
 
 pub reply-amounts :
     (s old : List ℕ) (i c : ℕ) → replyTo s (length old) .number ≡ 0 → i < replyTo s (length old) .count → 4 ≤ c → c < 6 →
     getD (resultsAfter s old) (lineSize * i + c) 0 ≤ 125000000000000
 reply-amounts s old i c z l least most =
     let amounts = line-amounts s (length old) i z l in
-    rw (results-line s old i c (number-zero-sound s (length old) z) (omega (arith, reply-count s (length old) z)) most)
+    rw (results-line s old i c (number-zero-sound s (length old) z) (omega (arith, reply-count s (length old) z)) (omega arith))
     (⊎-elim
     (λ e. rw (← e) (amounts .0))
     (λ above.

@@ -22,7 +22,7 @@ approach-requires c κs = search needs
 -- what is held is at most the tranche's amount, and the weight is at most 125,000
 within :
     (c : tie.After-weight) →
-    (c .before .tranche-of .result .held ≤ 10000000000000) × (c .weight .result ≤ 125000)
+    (c .before .tranche-of .result .held ≤ 10000000000000) × (c .weight .result .high ≤ 125000)
 unfolding tranche
 within c =
     let start = c .before .before .before in
