@@ -97,7 +97,9 @@ module _ (A D K p : ℕ) (K-pos : 0 < K) (p-pos : 0 < p) (above : K < D) (thick 
       (weightNumerator A D K (part .high) ≤ w .high * ((D - A) * 2 ^ 27)) ×
       (w .high * ((D - A) * 2 ^ 27) < weightNumerator A D K (part .high) + (D - A) * 2 ^ 27)
   unfolding formulaWeight formulaProduct
-  rounded-up = rounded-up-between (weightNumerator A D K (part .high)) ((D - A) * 2 ^ 27) (omega arith)
+  rounded-up =
+      let between = rounded-up-between (weightNumerator A D K (part .high)) ((D - A) * 2 ^ 27) (omega arith) in
+      (omega (arith, between .0), omega (arith, between .1))
 
   -- and the low number that of the low end, rounded down
   rounded-down :
@@ -106,7 +108,8 @@ module _ (A D K p : ℕ) (K-pos : 0 < K) (p-pos : 0 < p) (above : K < D) (thick 
   unfolding formulaWeight formulaProduct
   rounded-down =
       let n = weightNumerator A D K (part .low) in
-      (div-mul-le-self n ((D - A) * 2 ^ 27), lt-div-mul-add {a = n} (omega arith))
+      let m = (D - A) * 2 ^ 27 in
+      (omega (arith, div-mul-le-self n m), omega (arith, lt-div-mul-add {a = n} {b = m} (omega arith)))
 
   -- The product's ends are at most productDistance apart, also where the low one is taken as 0, and productDistance × 125,000 is below 2^26: so the two numerators are less than a
   -- quarter of the thickness apart.
