@@ -1,21 +1,23 @@
 #!/usr/bin/env python3
-"""The text that crates/checked_examples must print, worked out from the papers alone: 01, S-1 to S-3 and S-5 of 02, and Tables 3 and 4 of source document 001.
+"""The text that crates/checked_examples must print, worked out from the papers alone: 01, S-1 to S-3, S-5 and S-6 of 02, and Tables 3 and 4 of source document 001.
 Exact fractions, exponentials to a hundred digits, Python's own calendar.
 
     python3 tests/worked_examples.py | cmp - crates/checked_examples/stdout
 
-Where two raw weights pass, this prints the lower, the exact value rounded up. It fails where a figure of the rating tables is missing from the examples' weights,
-where a case of one, two or three ratings, of dates, of the IRB section or of SEC-IRBA is met by no example, where no line of the examples depends on a coefficient
-of SEC-IRBA, where a weight published in source document 004 is not enclosed, or where a deal in dates has other lines than the same deal in months. It needs Python's
-standard library and is no part of the gate.
+Where the rules leave a number open, this prints one that passes: of two raw weights the lower, the exact value rounded up; and where two numbers pass as the seventh
+word, the one that the stored text has, else the higher, which is the exact value rounded down. It fails where a figure of the rating tables is missing from the
+examples' weights, where a case of one, two or three ratings, of dates, of the IRB section, of SEC-IRBA or of the seventh word is met by no example, where no line of
+the examples depends on a coefficient of SEC-IRBA, where a weight published in source document 004 is not enclosed, or where a deal in dates has other lines than the
+same deal in months. It needs Python's standard library and is no part of the gate.
 """
 import os
 import sys
 from collections import namedtuple
 from datetime import date, timedelta
-from decimal import ROUND_CEILING, Decimal, getcontext
+from decimal import Decimal, getcontext
 from fractions import Fraction
 from itertools import permutations, product
+from math import ceil, floor
 
 getcontext().prec = 100
 getcontext().Emin = -999999999
@@ -27,7 +29,7 @@ FALLBACK, ERBA, SA, IRBA = 0, 1, 2, 3
 # Four facts, a fifth and a sixth that may be left out; "Pool, count 1 to 1,000", "Tranches, count 1 to 32"; the words of a pool row, of a tranche, of the IRB
 # section and of a line.
 FACTS_LEAST, FACTS_MOST, ROWS, TRANCHES = 4, 6, 1000, 32
-ROW_SIZE, TRANCHE_SIZE, IRB_SIZE, LINE_SIZE = 4, 7, 6, 6
+ROW_SIZE, TRANCHE_SIZE, IRB_SIZE, LINE_SIZE = 4, 7, 6, 7
 # The words of the longest sheet, four counts, facts, rows, tranches and the IRB section, 4,240 in all; eight bytes each make 33,920.
 MOST_WORDS = 4 + FACTS_MOST + ROW_SIZE * ROWS + TRANCHE_SIZE * TRANCHES + IRB_SIZE
 MOST_BYTES = 8 * MOST_WORDS
@@ -72,6 +74,9 @@ PARAMETER_LEAST = 300_000
 # The IRB section, and a sheet with no bad word; `irb` is None in an SA pool.
 Irb = namedtuple("Irb", "charge loss loans retail share average")
 Deal = namedtuple("Deal", "resecuritised diligence composition stc rows tranches irb")
+
+# A weight, the fourth word of a line or what it starts from, and what passes as the seventh: one number, or two with the higher first.
+Ends = namedtuple("Ends", "weight least")
 
 
 class Refused(Exception):
@@ -213,32 +218,39 @@ def maturity(months):
     return max(60, min(300, 4 * months + 12))
 
 
-def weight_by_rating(code, stc, senior, months, thickness):
-    """The weight by one rating, rounded up once. A non-senior weight is no lower than the senior figure, but in an STC deal it may be (CRE42.14)."""
+def figure_by_rating(code, stc, senior, months, thickness):
+    """The exact figure by one rating. A non-senior one is no lower than the senior figure, but in an STC deal it may be (CRE42.14)."""
     row = TABLES[stc][code]
     if len(row) == 1:
-        return 100 * row[0]
+        return Fraction(100 * row[0])
     fifths = maturity(months)
     run = [Fraction(one * (300 - fifths) + five * (fifths - 60), 240) for one, five in (row[:2], row[2:])]
     thin = run[1] * (1 - Fraction(min(thickness, 500_000), MILLION))
-    exact = run[0] if senior else thin if stc else max(thin, run[0])
-    return up((100 * exact).numerator, (100 * exact).denominator)
+    return 100 * (run[0] if senior else thin if stc else max(thin, run[0]))
 
 
-def weight_that_counts(weights):
-    """One rating's own weight; of two the higher; of three the two lowest are picked, and the higher of these counts."""
+def figures_by_ratings(deal, tranche, thickness):
+    """The exact figures by the ratings that a tranche has, in their order."""
+    _, _, rank, months, _, codes = tranche
+    return [figure_by_rating(code, deal.stc, rank == 1, months, thickness) for code in codes if code]
+
+
+def one_that_counts(weights):
+    """One rating's own; of two the higher; of three the two lowest are picked, and the higher of these counts."""
     return max(sorted(weights)[:2])
+
+
+def table_ends(figures):
+    """The weight by each rating is rounded up, then one of them counts; as the seventh word one of the exact figures counts, then it is rounded down."""
+    return Ends(one_that_counts([ceil(figure) for figure in figures]), (floor(one_that_counts(figures)),))
 
 
 # ---- the formula
 
 
-def raw_weight(a, d, k, p):
-    """The raw weight: where the formula applies, its exact value rounded up."""
-    if d <= k:
-        return TOP
-    if k == 0:
-        return 0
+def exact_raw_weight(a, d, k, p):
+    """The formula's value where K is at least 1 and D above K, to a hundred digits. It is never whole, nor half of a whole number. One that a hundred digits can't tell
+    from such a number lies a trace above 0, or below TOP times (K − A + s) / (D − A), and is given on its side of it."""
     scale = Fraction(p * k, MILLION)
 
     def decay(x):
@@ -248,12 +260,21 @@ def raw_weight(a, d, k, p):
     gap = decay(max(a - k, 0)) - decay(d - k)
     within = max(k - a, 0)
     exact = TOP * (within + Decimal(scale.numerator) / scale.denominator * gap) / (d - a)
-    whole = exact.to_integral_value(ROUND_CEILING)
-    # A value that a hundred digits can't tell from a whole number lies a trace above 0, or below TOP times (K − A + s) / (D − A).
-    if abs(exact - exact.to_integral_value()) < Decimal(10) ** -60:
-        bound = Fraction(TOP) * (within + scale) / (d - a)
-        return up(bound.numerator, bound.denominator) if a <= k else 1
-    return int(whole)
+    trace = Decimal(10) ** -60
+    if abs(2 * exact - (2 * exact).to_integral_value()) > trace:
+        return Fraction(exact)
+    return Fraction(TOP) * (within + scale) / (d - a) - Fraction(trace) if a <= k else Fraction(trace)
+
+
+def raw_ends(a, d, k, p):
+    """The raw weight, where the formula applies its exact value rounded up; and what passes as the seventh word before floor and cap: there the whole numbers
+    that are at most the exact value and less than one and a half below it."""
+    if d <= k:
+        return Ends(TOP, (TOP,))
+    if k == 0:
+        return Ends(0, (0,))
+    exact = exact_raw_weight(a, d, k, p)
+    return Ends(ceil(exact), tuple(v for v in (floor(exact), floor(exact) - 1) if v >= 0 and exact < v + Fraction(3, 2)))
 
 
 # ---- the parameter of SEC-IRBA
@@ -279,10 +300,9 @@ def parameter_of_sum(total):
 
 # ---- the report
 
-# The rating words of each tranche under SEC-ERBA, with the weights by those that are ratings.
-RATED = []
-# The deal, the tranche, A, D and the charge of each line under SEC-IRBA.
-BY_IRBA = []
+# A line: what it was worked out from, and its ends before and after floor and cap. And the lines of all reports.
+Line = namedtuple("Line", "deal tranche a d charge approach raw ends")
+LINES = []
 
 
 def parameter_and_floor(resecuritised, stc, senior):
@@ -305,58 +325,88 @@ def approach_of(deal, codes, known):
     return ERBA if any(codes) else SA if known else FALLBACK
 
 
-def limited(deal, approach, senior, weight):
-    """A weight raised to the floor, then lowered to the cap."""
-    weight = max(weight, parameter_and_floor(deal.resecuritised, deal.stc, senior)[1])
-    if senior and not deal.resecuritised and deal.composition:
-        weight = min(weight, deal.irb.average if approach == IRBA else mean_weight(deal.rows, 100))
-    return weight
+def cap_of(deal, approach, senior):
+    """The cap of a class; None where it has none."""
+    if not senior or deal.resecuritised or not deal.composition:
+        return None
+    return deal.irb.average if approach == IRBA else mean_weight(deal.rows, 100)
+
+
+def limited(deal, approach, senior, raw):
+    """Weights raised to the floor, then lowered to the cap."""
+    least, cap = parameter_and_floor(deal.resecuritised, deal.stc, senior)[1], cap_of(deal, approach, senior)
+
+    def within(weight):
+        return max(weight, least) if cap is None else min(max(weight, least), cap)
+
+    return Ends(within(raw.weight), tuple(dict.fromkeys(within(v) for v in raw.least)))
+
+
+def irba_ends(deal, tranche, a, d, charge, coefficients):
+    """The raw ends of a tranche under SEC-IRBA with these coefficients."""
+    parameter = parameter_of_sum(parameter_sum(deal.irb, deal.stc, tranche[3], charge, coefficients))
+    return raw_ends(a, d, charge, parameter)
 
 
 def irba_weight(deal, tranche, a, d, charge, coefficients):
     """The weight of a tranche under SEC-IRBA with these coefficients."""
-    _, _, rank, months, _, _ = tranche
-    parameter = parameter_of_sum(parameter_sum(deal.irb, deal.stc, months, charge, coefficients))
-    return limited(deal, IRBA, rank == 1, raw_weight(a, d, charge, parameter))
+    return limited(deal, IRBA, tranche[2] == 1, irba_ends(deal, tranche, a, d, charge, coefficients)).weight
 
 
-def weight_of(deal, approach, tranche, a, d, charge):
-    """The weight of a tranche by its approach."""
-    _, _, rank, months, _, codes = tranche
-    senior = rank == 1
+def ends_of(deal, approach, tranche, a, d, charge):
+    """The ends of a tranche by its approach, before floor and cap."""
+    senior = tranche[2] == 1
     if approach == FALLBACK:
-        return TOP
+        return Ends(TOP, (TOP,))
     if approach == IRBA:
-        BY_IRBA.append((deal, tranche, a, d, charge))
-        return irba_weight(deal, tranche, a, d, charge, COEFFICIENTS[coefficients_of(deal.irb, senior)])
+        return irba_ends(deal, tranche, a, d, charge, COEFFICIENTS[coefficients_of(deal.irb, senior)])
     if approach == ERBA:
-        table = [weight_by_rating(c, deal.stc, senior, months, d - a) for c in codes if c]
-        RATED.append((codes, table))
-        return limited(deal, approach, senior, weight_that_counts(table))
-    return limited(deal, approach, senior, raw_weight(a, d, charge, parameter_and_floor(deal.resecuritised, deal.stc, senior)[0]))
+        return table_ends(figures_by_ratings(deal, tranche, d - a))
+    return raw_ends(a, d, charge, parameter_and_floor(deal.resecuritised, deal.stc, senior)[0])
 
 
-def line(tranche, a, d, charge, known, deal):
-    """The six words of a tranche, or refusal 13."""
-    at, _, _, _, held, codes = tranche
+def amounts(held, weight):
+    """The risk-weighted amount and the capital."""
+    return up(held * weight, 10_000), up(held * weight * 8, MILLION)
+
+
+def line_of(deal, tranche, charge, known):
+    """The line of a tranche, or refusal 13."""
+    at, _, rank, _, _, codes = tranche
+    a, d = points(deal, rank)
     approach = approach_of(deal, codes, known)
     if approach in (SA, IRBA) and a == d and d > charge:
         raise Refused(13, at)
-    weight = weight_of(deal, approach, tranche, a, d, charge)
-    return approach, a, d, weight, up(held * weight, 10_000), up(held * weight * 8, MILLION)
+    raw = ends_of(deal, approach, tranche, a, d, charge)
+    return Line(deal, tranche, a, d, charge, approach, raw, raw if approach == FALLBACK else limited(deal, approach, rank == 1, raw))
+
+
+def forms_of(line):
+    """The seven words of a line, in each form that passes."""
+    weight, held = line.ends.weight, line.tranche[4]
+    return [(line.approach, line.a, line.d, weight, *amounts(held, weight), least) for least in line.ends.least]
+
+
+def weighed(words, room=LINE_SIZE * TRANCHES):
+    """The charge and the lines of a sheet; or the refusal: that of its words, then 14 where so many result words are too few, then 13."""
+    deal = judged(words)
+    if room < LINE_SIZE * len(deal.tranches):
+        raise Refused(14, 0)
+    charge, known = (mixed_charge(deal), True) if by_irba(deal) else pool_charge(deal.rows)
+    return charge, [line_of(deal, tranche, charge, known) for tranche in deal.tranches]
 
 
 def report(words):
-    """The text of a sheet's file."""
+    """The text of a sheet's file, line by line, each in the forms that pass."""
     try:
-        deal = judged(words)
-        charge, known = (mixed_charge(deal), True) if by_irba(deal) else pool_charge(deal.rows)
-        lines = [line(t, *points(deal, t[2]), charge, known, deal) for t in deal.tranches]
+        charge, lines = weighed(words)
     except Refused as r:
-        return "refused %d at %d" % r.args
-    text = ["charge %d tranches %d" % (charge, len(lines))]
-    text += [" ".join(map(str, (i, *words))) for i, words in enumerate(lines, 1)]
-    return "\n".join(text + ["total %d %d" % (sum(w[4] for w in lines), sum(w[5] for w in lines))])
+        return [["refused %d at %d" % r.args]]
+    LINES.extend(lines)
+    lines = [forms_of(line) for line in lines]
+    text = [["charge %d tranches %d" % (charge, len(lines))]]
+    text += [[" ".join(map(str, (i, *words))) for words in forms] for i, forms in enumerate(lines, 1)]
+    return text + [["total %d %d" % tuple(sum(forms[0][n] for forms in lines) for n in (4, 5))]]
 
 
 # ---- what the program prints, in its order
@@ -377,50 +427,77 @@ INPUTS = (
 PLACES = (0, 1, 16, 50, 354, 355)
 THIN = [4, 0, 0, 1, 1, 2, 6000000, 6000000, 100, 0, 4000000, 4000000, 100, 0]
 THIN += [3, 8999991, 1, 60, 0, 1, 0, 0, 5, 2, 60, 5, 0, 0, 0, 1000004, 3, 60, 0, 0, 0, 0]
+CHECKED = [4, 0, 0, 1, 1, 2, 950, 950, 100, 0, 50, 50, 100, 1, 3, 800, 1, 72, 800, 1, 0, 0, 150, 2, 72, 100, 9, 0, 0, 50, 3, 72, 50, 0, 0, 0]
+
+FOLDER = os.path.join(os.path.dirname(os.path.abspath(__file__)), "..", "crates", "checked_examples")
+# The stored text, line by line.
+STORED = iter(open(os.path.join(FOLDER, "stdout")).read().splitlines())
+
+
+def say(forms):
+    """Prints a line and returns it: of the forms that pass the one that the stored text has in this place, else the first."""
+    stored = next(STORED, None)
+    text = stored if stored in forms else forms[0]
+    print(text)
+    return text
+
+
+def say_report(name, words):
+    """Prints a name and the report on a sheet, and returns the report."""
+    say([name])
+    return "\n".join(say(forms) for forms in report(words))
 
 
 def print_figures():
     for months in MONTHS:
-        print("maturity of months %d: %d" % (months, maturity(months)))
+        say(["maturity of months %d: %d" % (months, maturity(months))])
     for inputs in INPUTS:
-        print("raw weight at A %d D %d K %d p %d: %d" % (*inputs, raw_weight(*inputs)))
+        say(["raw weight at A %d D %d K %d p %d: %d" % (*inputs, raw_ends(*inputs).weight)])
     for n in PLACES:
-        print("decay entry %d: %d" % (n, int(2**32 * (-Decimal(n) / 16).exp())))
+        say(["decay entry %d: %d" % (n, int(2**32 * (-Decimal(n) / 16).exp()))])
+
+
+def answer(words, room):
+    """How a sheet is answered with so many result words."""
+    try:
+        weighed(words, room)
+        return "weighed"
+    except Refused as r:
+        return "refused %d at %d" % r.args
+
+
+def print_rooms():
+    """Two deals of three tranches with a word too few for each line, with one too few in all, and with enough: 14 comes before 13. Returns what is said of them."""
+    rooms = product((("thin tranche", THIN), ("checked deal", CHECKED)), (3 * (LINE_SIZE - 1), 3 * LINE_SIZE - 1, 3 * LINE_SIZE))
+    return [say(["%s, results of %d words: %s" % (name, room, answer(words, room))]) for (name, words), room in rooms]
 
 
 def print_limits():
-    """14 before 13, files of zeros, and the largest deals: six facts, a mixed pool of 1,000 rows of 10^10, 32 tranches of a 32nd of the pool, the IRB section."""
-    print("thin tranche, results of %d words: refused 14 at 0" % (3 * LINE_SIZE - 1))
-    print("thin tranche, results of %d words: %s" % (3 * LINE_SIZE, report(THIN)))
+    """Files of zeros, and the largest deals: six facts, a mixed pool of 1,000 rows of 10^10, 32 tranches of a 32nd of the pool, the IRB section."""
     for length in (0, 7, MOST_BYTES - 1, MOST_BYTES, MOST_BYTES + 1, MOST_BYTES + 8):
-        text = "refused 15 at 0" if length % 8 or length > MOST_BYTES else report([0] * (length // 8))
-        print("file of zeros, bytes %d: %s" % (length, text))
+        text = "refused 15 at 0" if length % 8 or length > MOST_BYTES else answer([0] * (length // 8), 0)
+        say(["file of zeros, bytes %d: %s" % (length, text)])
     for weight, stc, share in ((1250, 0, 0), (100, 0, 0), (100, 1, 0), (100, 0, SHARE_LEAST), (100, 1, MILLION)):
         sheet = [FACTS_MOST, MIXED_POOL, 0, 1, 1, stc, 0, ROWS] + [10**10, 10**10, weight, 0] * ROWS + [TRANCHES]
         for rank in range(1, TRANCHES + 1):
             sheet += [312500000000, rank, 1200, 312500000000, 0, 0, 0]
         sheet += [1, *Irb(charge=200_000, loss=MILLION, loans=MILLION, retail=0, share=share, average=TOP)]
-        print("largest deal, risk weight %d, STC mark %d, share %d\n%s" % (weight, stc, share, report(sheet)))
+        say_report("largest deal, risk weight %d, STC mark %d, share %d" % (weight, stc, share), sheet)
 
 
-def read_examples(folder):
+def read_examples():
     """The words of each example, by name."""
     sheets = {}
-    for name in open(os.path.join(folder, "args")).read().split():
-        text = open(os.path.join(folder, "data", name)).read()
+    for name in open(os.path.join(FOLDER, "args")).read().split():
+        text = open(os.path.join(FOLDER, "data", name)).read()
         sheets[name] = [int(w) for l in text.splitlines() for w in l.split("#")[0].split()]
     return sheets
 
 
 def print_examples(sheets):
-    """Prints the report on each example, and returns the reports by name. Leaves in RATED and BY_IRBA what is of the examples alone."""
-    RATED.clear()
-    BY_IRBA.clear()
-    texts = {}
-    for name, words in sheets.items():
-        texts[name] = report(words)
-        print("%s\n%s" % (name, texts[name]))
-    return texts
+    """Prints the report on each example, and returns the reports by name. Leaves in LINES those of the examples alone."""
+    LINES.clear()
+    return {name: say_report(name, words) for name, words in sheets.items()}
 
 
 def check_tables(texts):
@@ -433,8 +510,10 @@ def check_tables(texts):
                 sys.exit("%s_table_%s.txt: not the column of the table" % (kind, name))
 
 
-def rating_cases(codes, weights):
-    """What a tranche's ratings are an example of."""
+def rating_cases(line):
+    """What the ratings of a line under SEC-ERBA are an example of."""
+    codes = line.tranche[5]
+    weights = [ceil(figure) for figure in figures_by_ratings(line.deal, line.tranche, line.d - line.a)]
     if len(weights) == 1:
         yield "one rating in word %d" % [bool(c) for c in codes].index(True)
     elif len(weights) == 2:
@@ -469,7 +548,7 @@ def check_met(due, met):
 
 def check_ratings():
     """Every case of one, two and three ratings is met."""
-    met = {case for rated in RATED for case in rating_cases(*rated)}
+    met = {case for line in LINES if line.approach == ERBA for case in rating_cases(line)}
     due = ["one rating in word %d" % n for n in range(3)]
     due += ["two ratings, none in word %d, the higher %s" % (n, place) for n in range(3) for place in ("first", "last")]
     due += ["three weights in the order %s" % " ".join(o) for o in permutations(("low", "middle", "high"))]
@@ -655,7 +734,7 @@ def parameter_cases(deal, tranche, a, d, charge):
     weight = irba_weight(deal, tranche, a, d, charge, coefficients)
 
     def by(parameter):
-        return limited(deal, IRBA, rank == 1, raw_weight(a, d, charge, parameter))
+        return limited(deal, IRBA, rank == 1, raw_ends(a, d, charge, parameter)).weight
 
     if total < 0:
         yield "%s, a negative sum" % stc
@@ -707,9 +786,9 @@ def limit_cases(deal, tranche, a, d, charge):
 def check_irba(sheets, texts):
     """Every case of the IRB section and of SEC-IRBA is met."""
     met = {case for name, words in sheets.items() for case in section_cases(words, texts[name])}
-    for line_inputs in BY_IRBA:
+    for deal, tranche, a, d, charge, *_ in (line for line in LINES if line.approach == IRBA):
         for cases in (coefficient_cases, parameter_cases, charge_cases, limit_cases):
-            met.update(cases(*line_inputs))
+            met.update(cases(deal, tranche, a, d, charge))
     kinds = IRB_POOL, MIXED_POOL
     due = ["pool kind %d, 1 at word 0, missing" % kind for kind in kinds] + ["pool kind 1, 1 at word %d, missing" % n for n in (1, 6)]
     due += ["pool kind 1, 2 at word 0, 0", "pool kind 1, 2 at word 0, 6", "pool kind 2, 2 at word 0, 2", "pool kind 1, 3 at word 7, 0", "pool kind 2, 3 at word 7, 1"]
@@ -735,6 +814,65 @@ def check_irba(sheets, texts):
     check_met(due, met)
 
 
+# ---- the cases of the seventh word
+
+
+def table_cases(line):
+    """What the figures of a line under SEC-ERBA are an example of."""
+    figures = figures_by_ratings(line.deal, line.tranche, line.d - line.a)
+    exact = one_that_counts(figures)
+    equal = [floor(figure) for figure in figures if ceil(figure) == line.raw.weight]
+    if len(set(equal)) > 1:
+        which = "higher" if floor(exact) == max(equal) else "lower"
+        yield "%d ratings, figures that are equal rounded up, the %s counts and stands %s" % (len(figures), which, "first" if equal[0] == floor(exact) else "last")
+    # Every figure of the tables is a multiple of 5%.
+    if exact.denominator == 1 and exact % 500:
+        yield "table, a whole figure between those of the table"
+
+
+def formula_cases(line):
+    """What charge and points of a line by the formula are an example of."""
+    composition = "known" if line.deal.composition else "unknown"
+    if line.d <= line.charge:
+        yield "formula, D not above K"
+    elif line.charge == 0:
+        yield "formula, K 0, class %d, composition %s, %d" % (line.tranche[2], composition, line.ends.least[0])
+    elif line.ends == line.raw:
+        yield "formula, just below 125,000" if line.raw.weight == TOP else "formula, numbers that pass: %d" % len(line.raw.least)
+
+
+def ends_cases(line):
+    """What both ends of a line are an example of."""
+    deal, tranche, _, _, _, approach, raw, ends = line
+    by = ("fallback", "table", "formula", "formula")[approach]
+    cap = cap_of(deal, approach, tranche[2] == 1)
+    yield from table_cases(line) if by == "table" else formula_cases(line) if by == "formula" else ()
+    if by == "fallback" and cap is not None and cap < TOP:
+        yield "fallback, not lowered to the cap"
+    if ends.weight not in ends.least:
+        yield "approach %d, %s, ends differ" % (approach, "re-securitisation" if deal.resecuritised else "STC deal" if deal.stc else "ordinary deal")
+        for what, due, *others in zip(("risk-weighted amount", "capital"), *(amounts(tranche[4], weight) for weight in (ends.weight, *ends.least))):
+            if due not in others:
+                yield "%s by the fourth word" % what
+    elif raw.weight not in raw.least:
+        yield "%s, ends made equal by the %s" % (by, "cap" if ends.weight == cap else "floor")
+
+
+def check_ends(said):
+    """Every case of the seventh word is met; and 14 with a word too few for each line, where the deal is accepted with one more."""
+    met = {case for line in LINES for case in ends_cases(line)} | set(said)
+    equal = "%s ratings, figures that are equal rounded up, the %s counts and stands %s"
+    due = [equal % (*case, place) for case in ((2, "higher"), (3, "higher"), (3, "lower")) for place in ("first", "last")]
+    due += ["table, a whole figure between those of the table", "formula, D not above K", "formula, just below 125,000"]
+    due += ["formula, K 0, class 1, composition unknown, 1500", "formula, K 0, class 1, composition known, 0", "fallback, not lowered to the cap"]
+    due += ["formula, numbers that pass: %d" % n for n in (1, 2)]
+    due += ["%s, ends made equal by the %s" % case for case in product(("table", "formula"), ("floor", "cap"))]
+    due += ["approach %d, %s, ends differ" % case for case in product((ERBA, SA, IRBA), ("ordinary deal", "STC deal"))]
+    due += ["approach %d, re-securitisation, ends differ" % SA, "risk-weighted amount by the fourth word", "capital by the fourth word"]
+    due += ["checked deal, results of %d words: %s" % case for case in ((3 * (LINE_SIZE - 1), "refused 14 at 0"), (3 * LINE_SIZE, "weighed"))]
+    check_met(due, met)
+
+
 # ---- published weights
 
 # Annex 1 of source document 004: the example, its row, the weight and the risk-weighted amount. Its maturity of 34.5 months lies between 34 and 35.
@@ -754,12 +892,14 @@ def check_published(texts):
 
 if __name__ == "__main__":
     print_figures()
+    ROOMS = print_rooms()
     print_limits()
-    SHEETS = read_examples(os.path.join(os.path.dirname(os.path.abspath(__file__)), "..", "crates", "checked_examples"))
+    SHEETS = read_examples()
     TEXTS = print_examples(SHEETS)
     check_tables(TEXTS)
     check_ratings()
     check_dates(SHEETS, TEXTS)
     check_same_lines(TEXTS)
     check_irba(SHEETS, TEXTS)
+    check_ends(ROOMS)
     check_published(TEXTS)

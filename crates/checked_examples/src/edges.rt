@@ -51,10 +51,49 @@ const THIN: [u64; 36] = [
     0,
 ];
 
-// Writes the answer to the thin deal with the results that are lent for it.
-fn print_answer(results: &mut [u64]) {
-    let sheet = THIN;
-    let answer = deal::weigh(&sheet, results);
+// The deal of 01's list, which is accepted where the results have room for three lines.
+const CHECKED: [u64; 36] = [
+    4,
+    0,
+    0,
+    1,
+    1, //
+    2,
+    950,
+    950,
+    100,
+    0,
+    50,
+    50,
+    100,
+    1, //
+    3,
+    800,
+    1,
+    72,
+    800,
+    1,
+    0,
+    0,
+    150,
+    2,
+    72,
+    100,
+    9,
+    0,
+    0,
+    50,
+    3,
+    72,
+    50,
+    0,
+    0,
+    0,
+];
+
+// Writes the answer to a deal with the results that are lent for it.
+fn print_answer(sheet: &[u64], results: &mut [u64]) {
+    let answer = deal::weigh(sheet, results);
     match answer {
         Answer::Weighed {
             count: _,
@@ -72,23 +111,36 @@ fn print_answer(results: &mut [u64]) {
     }
 }
 
-// Writes how many words are lent to the thin deal, and the answer to it.
-fn print_thin(results: &mut [u64]) {
-    io::write_all(STDOUT_FILENO, b"thin tranche, results of ");
+// Writes the name of a deal, how many words are lent to it, and the answer to it.
+fn print_lent(name: &[u8], sheet: &[u64], results: &mut [u64]) {
+    io::write_all(STDOUT_FILENO, name);
+    io::write_all(STDOUT_FILENO, b", results of ");
     io::print_decimal(STDOUT_FILENO, results.len() as u64);
     io::write_all(STDOUT_FILENO, b" words: ");
-    print_answer(results);
+    print_answer(sheet, results);
 }
 
-// The words of the thin deal's lines.
-const THIN_WORDS: usize = 3 * LINE_SIZE;
+// The words of three lines, and as many with one word fewer in each line.
+const THREE_LINES: usize = 3 * LINE_SIZE;
 
-// With one word fewer than its lines need the thin deal gets 14, which comes before 13, and with all of them it gets 13.
+const THREE_SHORT_LINES: usize = 3 * (LINE_SIZE - 1);
+
+// Writes the answers to a deal of three tranches with a word too few for each line, with one too few in all, and with enough.
+fn print_rooms(name: &[u8], sheet: &[u64]) {
+    let mut shorter = [0u64; THREE_SHORT_LINES];
+    print_lent(name, sheet, &mut shorter);
+    let mut short = [0u64; THREE_LINES - 1];
+    print_lent(name, sheet, &mut short);
+    let mut enough = [0u64; THREE_LINES];
+    print_lent(name, sheet, &mut enough);
+}
+
+// With fewer words than its lines need a deal gets 14, which comes before 13; with all of them the thin deal gets 13 and the other is weighed.
 pub(crate) fn print_short_results() {
-    let mut short = [0u64; THIN_WORDS - 1];
-    print_thin(&mut short);
-    let mut enough = [0u64; THIN_WORDS];
-    print_thin(&mut enough);
+    let thin = THIN;
+    print_rooms(b"thin tranche", &thin);
+    let checked = CHECKED;
+    print_rooms(b"checked deal", &checked);
 }
 
 // Writes the report on a file of that many bytes, all of them 0.
