@@ -19,8 +19,8 @@ pub const IRB_SECTIONS: u64 = 1;
 pub const IRB_WORDS: usize = 6;
 /// Words of a tranche's row: amount, class, maturity, amount held, ratings.
 pub const TRANCHE_WORDS: usize = 4 + RATINGS;
-/// Result words for each tranche: approach, A, D, weight, risk-weighted amount, capital.
-pub const LINE_WORDS: usize = 6;
+/// Result words for each tranche: approach, A, D, weight, risk-weighted amount, capital, weight rounded down.
+pub const LINE_WORDS: usize = 7;
 
 /// The highest amount of a pool row.
 pub const MOST_POOL_AMOUNT: u64 = 10_000_000_000;

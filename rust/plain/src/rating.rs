@@ -1,4 +1,4 @@
-//! "The rating table", and the second one for STC deals: the weight that a rating gives.
+//! "The rating table", and the second one for STC deals: the figure that a rating gives.
 
 use crate::points::Points;
 
@@ -8,7 +8,7 @@ pub struct Table {
     long_term: [[f64; 4]; 18],
     /// The codes 21 to 24.
     short_term: [f64; 4],
-    /// Whether a non-senior weight is raised to the senior figure.
+    /// Whether a non-senior figure is raised to the senior one.
     compared: bool,
 }
 
@@ -69,8 +69,8 @@ pub fn maturity_fifths(months: u64) -> f64 {
     (4 * months + 12).clamp(60, 300) as f64
 }
 
-/// The weight of a rating that is present, in hundredths of a percent.
-pub fn weight(table: &Table, code: u64, senior: bool, months: u64, points: &Points) -> f64 {
+/// The figure of a rating that is present, in hundredths of a percent, before it is rounded.
+pub fn figure(table: &Table, code: u64, senior: bool, months: u64, points: &Points) -> f64 {
     if code > table.long_term.len() as u64 {
         return 100.0 * table.short_term[code as usize - 21];
     }
@@ -91,7 +91,7 @@ pub fn weight(table: &Table, code: u64, senior: bool, months: u64, points: &Poin
             figure
         }
     };
-    (100.0 * figure / 240e6).ceil()
+    100.0 * figure / 240e6
 }
 
 #[cfg(test)]
@@ -111,7 +111,7 @@ mod tests {
     /// The 80% rule: months 1 and 12 weigh alike, and so do 72 and 1200; 71 is one step below 72.
     #[test]
     fn maturity_is_held_within_one_and_five_years() {
-        let senior_aa = |months| weight(&GENERAL, 3, true, months, &THIN);
+        let senior_aa = |months| figure(&GENERAL, 3, true, months, &THIN);
         assert_eq!([senior_aa(1), senior_aa(12)], [2_500.0, 2_500.0]);
         assert_eq!([senior_aa(72), senior_aa(1200)], [4_000.0, 4_000.0]);
         assert_eq!([senior_aa(36), senior_aa(71)], [3_100.0, 3_975.0]);
@@ -125,19 +125,26 @@ mod tests {
             (&GENERAL, [1_500.0, 5_000.0, 10_000.0, 125_000.0]),
             (&STC, [1_000.0, 3_000.0, 6_000.0, 125_000.0]),
         ] {
-            assert_eq!(codes.map(|code| weight(table, code, true, 1, &THIN)), expected);
-            assert_eq!(codes.map(|code| weight(table, code, false, 72, &HALF)), expected);
+            assert_eq!(codes.map(|code| figure(table, code, true, 1, &THIN)), expected);
+            assert_eq!(codes.map(|code| figure(table, code, false, 72, &HALF)), expected);
         }
     }
 
     /// Non-senior A+ at one year, half thick: the senior figure, and in an STC deal half of its own, which is lower.
     #[test]
-    fn non_senior_weight_is_raised_to_the_senior_one_but_in_an_stc_deal() {
-        let single_a = |table, senior| weight(table, 5, senior, 12, &HALF);
+    fn non_senior_figure_is_raised_to_the_senior_one_but_in_an_stc_deal() {
+        let single_a = |table, senior| figure(table, 5, senior, 12, &HALF);
         assert_eq!(
             [single_a(&GENERAL, true), single_a(&GENERAL, false)],
             [4_000.0, 4_000.0]
         );
         assert_eq!([single_a(&STC, true), single_a(&STC, false)], [2_000.0, 1_750.0]);
+    }
+
+    /// Senior AAA at 14 months: 15 + 5 × 8 / 240 = 15.1666…%.
+    #[test]
+    fn figure_is_not_rounded() {
+        let figure = figure(&GENERAL, 1, true, 14, &THIN);
+        assert!(1_516.0 < figure && figure < 1_517.0, "{figure}");
     }
 }

@@ -98,12 +98,16 @@ impl Terms {
     /// The result words of a tranche.
     pub fn line(&self, tranche: &Tranche, points: &Points) -> [u64; LINE_WORDS] {
         let approach = self.approach(tranche);
-        let weight = match approach {
+        // Floor and cap are whole, so rounding after them gives what rounding before them would.
+        let figure = match approach {
             Approach::Fallback => FULL,
-            Approach::SecErba => self.limited(tranche, self.rated_weight(tranche, points)),
+            Approach::SecErba => self.limited(tranche, self.rated_figure(tranche, points)),
             Approach::SecSa => self.limited(tranche, self.formula(self.kind.parameter, points)),
             Approach::SecIrba => self.limited(tranche, self.formula(self.irba_parameter(tranche), points)),
         };
+        let weight = figure.ceil();
+        // The cast cuts the fraction off.
+        let least_weight = figure as u64;
         let weighted = tranche.held as f64 * weight;
         let risk_weighted = (weighted / 1e4).ceil();
         let capital = (weighted * 8.0 / 1e6).ceil();
@@ -114,28 +118,29 @@ impl Terms {
             weight as u64,
             risk_weighted as u64,
             capital as u64,
+            least_weight,
         ]
     }
 
-    /// A weight raised to the floor of its class, then lowered to the cap of class 1.
-    fn limited(&self, tranche: &Tranche, weight: f64) -> f64 {
+    /// A figure raised to the floor of its class, then lowered to the cap of class 1.
+    fn limited(&self, tranche: &Tranche, figure: f64) -> f64 {
         if tranche.class == 1 {
-            weight.max(self.kind.senior_floor).min(self.senior_cap)
+            figure.max(self.kind.senior_floor).min(self.senior_cap)
         } else {
-            weight.max(self.kind.floor)
+            figure.max(self.kind.floor)
         }
     }
 
-    /// The weight by the ratings that are present: of three the middle one, of fewer the highest.
-    fn rated_weight(&self, tranche: &Tranche, points: &Points) -> f64 {
+    /// The figure by the ratings that are present: of three the middle one, of fewer the highest.
+    fn rated_figure(&self, tranche: &Tranche, points: &Points) -> f64 {
         let months = self.months(tranche.maturity);
-        let mut weights = [0.0; RATINGS];
+        let mut figures = [0.0; RATINGS];
         let mut count = 0;
         for &code in tranche.ratings.iter().filter(|&&code| code != 0) {
-            weights[count] = rating::weight(self.kind.table, code, tranche.class == 1, months, points);
+            figures[count] = rating::figure(self.kind.table, code, tranche.class == 1, months, points);
             count += 1;
         }
-        let [first, second, third] = weights;
+        let [first, second, third] = figures;
         match count {
             RATINGS => first.max(second.min(third)).min(second.max(third)),
             _ => first.max(second),
@@ -160,7 +165,8 @@ impl Terms {
         }
     }
 
-    /// The raw weight of the formula. With D above K the tranche has a thickness: the other sheets were refused.
+    /// The raw weight of the formula, before it is rounded. With D above K the tranche has a thickness: the other sheets
+    /// were refused.
     fn formula(&self, parameter: f64, points: &Points) -> f64 {
         let Points { attachment, detachment } = *points;
         if detachment <= self.charge {
@@ -174,6 +180,6 @@ impl Terms {
         let upper = detachment - self.charge;
         let full_part = (self.charge - attachment).max(0.0);
         let part = full_part + scale * ((-lower / scale).exp() - (-upper / scale).exp());
-        (FULL * part / (detachment - attachment)).ceil().min(FULL)
+        (FULL * part / (detachment - attachment)).min(FULL)
     }
 }

@@ -1,5 +1,5 @@
-//! Document 01's checked deals and refusals, the STC deals of S-1, several ratings by S-2, the dates of S-3 and the IRB
-//! section of S-5, through the one function that callers have.
+//! Document 01's checked deals and refusals, the STC deals of S-1, several ratings by S-2, the dates of S-3, the IRB
+//! section of S-5 and the seventh word of S-6, through the one function that callers have.
 
 use plain::LINE_WORDS;
 
@@ -20,6 +20,9 @@ const APPROACH: usize = 0;
 
 /// Where a line holds its weight.
 const WEIGHT: usize = 3;
+
+/// Where a line holds the weight rounded down.
+const LEAST_WEIGHT: usize = 6;
 
 /// The whole deal of "Checked deals".
 const CHECKED: [u64; 36] = [
@@ -59,9 +62,9 @@ fn checked_deal_gives_the_lines_of_01_and_writes_no_later_word() {
     let mut results = [77; 3 * LINE_WORDS + 2];
     assert_eq!(plain::weigh(&CHECKED, &mut results), Ok((3, 101_000)));
     let (lines, later) = results.as_chunks::<LINE_WORDS>();
-    assert_eq!(lines[0], [1, 200_000, 1_000_000, 2_000, 160, 13]);
-    assert_eq!(lines[1], [1, 50_000, 200_000, 26_350, 264, 22]);
-    assert_eq!(lines[2], [2, 0, 50_000, 125_000, 625, 50]);
+    assert_eq!(lines[0], [1, 200_000, 1_000_000, 2_000, 160, 13, 2_000]);
+    assert_eq!(lines[1], [1, 50_000, 200_000, 26_350, 264, 22, 26_350]);
+    assert_eq!(lines[2], [2, 0, 50_000, 125_000, 625, 50, 125_000]);
     assert_eq!(later, [77, 77]);
 }
 
@@ -410,6 +413,97 @@ fn empty_tranche_under_irba_is_refused_by_its_charge() {
     assert_eq!(lines[1][..4], [3, 100_000, 100_000, 125_000]);
 }
 
+/// The weights of an accepted sheet, each with the seventh word.
+fn ends(sheet: &[u64]) -> Vec<[u64; 2]> {
+    let (_, lines) = weighed(sheet);
+    lines.iter().map(|line| [line[WEIGHT], line[LEAST_WEIGHT]]).collect()
+}
+
+/// The facts' section of an ordinary deal whose composition is not known.
+const UNKNOWN: [u64; 5] = [4, 0, 0, 1, 0];
+
+/// Loans of 10^6 at a weight of 100%.
+const LOANS: [Row; 1] = [[1_000_000, 1_000_000, 100, 0]];
+
+/// Senior AAA at 13 months, 1,508.33…; non-senior AAA at five years, 6,300 and 6,135.801.
+#[test]
+fn table_weights_are_rounded_up_and_down() {
+    let tranches = [
+        [700_000, 1, 13, 700_000, 1, 0, 0],
+        tranche(100_000, 2, 1),
+        tranche(123_457, 3, 1),
+    ];
+    let sheet = sheet(&FACTS, &LOANS, &tranches);
+    assert_eq!(ends(&sheet), [[1_509, 1_508], [6_300, 6_300], [6_136, 6_135]]);
+    // 700,000 × 1,509 × 8 / 10^6; by 1,508 it would be 8,445.
+    assert_eq!(weighed(&sheet).1[0][4..6], [105_630, 8_451]);
+}
+
+/// Non-senior AAA at five years, thickness 285,715: 4,999.995, and 5,000 by the short-term grade. Both are 5,000 rounded
+/// up. AA+ is above them and the best short-term grade below.
+#[test]
+fn seventh_word_is_picked_among_exact_figures() {
+    for (ratings, expected) in [
+        ([1, 0, 0], 4_999),
+        ([1, 22, 0], 5_000),
+        ([22, 0, 1], 5_000),
+        ([1, 22, 2], 5_000),
+        ([2, 22, 1], 5_000),
+        ([22, 1, 21], 4_999),
+        ([21, 1, 22], 4_999),
+    ] {
+        let [first, second, third] = ratings;
+        let tranches = [tranche(714_285, 1, 1), [285_715, 2, 72, 0, first, second, third]];
+        let found = ends(&sheet(&FACTS, &LOANS, &tranches));
+        assert_eq!(found[1], [5_000, expected], "{ratings:?}");
+    }
+}
+
+/// By the table of an STC deal 1,499.985, and by the formula 187.57: raised to 1,500. A cap of 1,508 over 1,508.33… and over
+/// 3,016 by the formula.
+#[test]
+fn floor_and_cap_act_on_the_seventh_word() {
+    let raised = [tranche(599_990, 1, 1), [10, 2, 12, 0, 1, 0, 0], tranche(100_000, 3, 0)];
+    let found = ends(&sheet(&STC, &LOANS, &raised));
+    assert_eq!(found, [[1_000, 1_000], [1_500, 1_500], [1_500, 1_500]]);
+    let loans = [[920_000, 920_000, 15, 0], [80_000, 80_000, 16, 0]];
+    let capped = [[500_000, 1, 13, 0, 1, 0, 0], tranche(500_000, 1, 0)];
+    assert_eq!(ends(&sheet(&FACTS, &loans, &capped)), [[1_508, 1_508]; 2]);
+    assert_eq!(ends(&sheet(&UNKNOWN, &loans, &capped))[0], [1_509, 1_508]);
+}
+
+/// 51,797.63 and, with D just above K, 124,999.99998; D not above K; K = 0 with no cap and with a cap of 0.
+#[test]
+fn formula_gives_both_ends() {
+    let tranches = [
+        tranche(750_000, 1, 0),
+        tranche(169_999, 2, 0),
+        tranche(40_001, 3, 0),
+        tranche(40_000, 4, 0),
+    ];
+    let found = ends(&sheet(&FACTS, &LOANS, &tranches));
+    assert_eq!(
+        found,
+        [[1_593, 1_592], [51_798, 51_797], [125_000, 124_999], [125_000, 125_000]]
+    );
+    let free = [[1_000_000, 1_000_000, 0, 0]];
+    assert_eq!(ends(&sheet(&UNKNOWN, &free, &tranches[..1])), [[1_500, 1_500]]);
+    assert_eq!(ends(&sheet(&FACTS, &free, &tranches[..1])), [[0, 0]]);
+}
+
+/// 39,815.54 in a re-securitisation, 111,683.67 in an STC deal, 79,616.09 under SEC-IRBA.
+#[test]
+fn formula_gives_both_ends_at_every_parameter() {
+    let tranches = [tranche(700_000, 1, 0), tranche(150_000, 2, 0)];
+    let resecuritisation = sheet(&[4, 0, 1, 1, 1], &[[1_000_000, 1_000_000, 100, 3]], &tranches);
+    assert_eq!(ends(&resecuritisation), [[10_000, 10_000], [39_816, 39_815]]);
+    let tranches = [tranche(900_000, 1, 1), tranche(40_000, 2, 0)];
+    assert_eq!(ends(&sheet(&STC, &LOANS, &tranches))[1], [111_684, 111_683]);
+    let irb_pool = sheet(&IRB, &[[1_000, 1_000, 100, 0]], &IRB_TRANCHES);
+    let found = ends(&[&irb_pool, &section(25, 0, 1_000_000)[..]].concat());
+    assert_eq!(found, [[1_816, 1_815], [79_617, 79_616], [125_000, 125_000]]);
+}
+
 /// The rating would give 2,000, and the cap 10,000.
 #[test]
 fn no_due_diligence_gives_the_fallback() {
@@ -418,7 +512,7 @@ fn no_due_diligence_gives_the_fallback() {
         &[[1_000, 1_000, 100, 0]],
         &[tranche(1_000, 1, 1)],
     ));
-    assert_eq!(lines[0], [0, 0, 1_000_000, 125_000, 12_500, 1_000]);
+    assert_eq!(lines[0], [0, 0, 1_000_000, 125_000, 12_500, 1_000, 125_000]);
 }
 
 /// Each change is made to the checked deal alone; the refusal and its place are 01's, and no result word is written.
