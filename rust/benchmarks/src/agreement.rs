@@ -45,14 +45,16 @@ fn difference(admitted: &Result<Deal, Refusal>, outcome: Outcome, results: &[u64
     (wrong > 0).then(|| format!("{wrong} of {} lines", lines.len()))
 }
 
-/// Whether the words are an admitted form of the line.
+/// Whether the words are an admitted form of the line: any admitted weight with its amounts, and any admitted least
+/// weight.
 fn admits(line: &Line, words: &[u64; LINE_WORDS]) -> bool {
-    let &[approach, attachment, detachment, weight, risk_weighted, capital] = words;
+    let &[approach, attachment, detachment, weight, risk_weighted, capital, least_weight] = words;
     (line.approach, line.attachment, line.detachment) == (approach, attachment, detachment)
         && line
             .amounts
             .iter()
             .any(|one| (one.weight, one.risk_weighted, one.capital) == (weight, risk_weighted, capital))
+        && line.least_weights.contains(&least_weight)
 }
 
 #[cfg(test)]
@@ -60,25 +62,44 @@ mod tests {
     use super::*;
     use crate::deals;
 
-    /// The exact answer itself is admitted; with any one word changed it is not.
+    /// The admitted forms of a line: each weight with its amounts, beside each least weight.
+    fn forms(line: &Line) -> Vec<[u64; LINE_WORDS]> {
+        let beside = |&least_weight: &u64| {
+            line.amounts.iter().map(move |one| {
+                [
+                    line.approach,
+                    line.attachment,
+                    line.detachment,
+                    one.weight,
+                    one.risk_weighted,
+                    one.capital,
+                    least_weight,
+                ]
+            })
+        };
+        line.least_weights.iter().flat_map(beside).collect()
+    }
+
+    /// The formula leaves open two weights and two least weights of the small deal's last line, and all pairs agree.
+    #[test]
+    fn every_admitted_form_agrees() {
+        let admitted = independent::weigh(&deals::small(), ROOM as u64);
+        let deal = admitted.as_ref().expect("the small deal is accepted");
+        let [senior, middle, junior] = [0, 1, 2].map(|number| forms(&deal.lines[number]));
+        assert_eq!([senior.len(), middle.len(), junior.len()], [1, 1, 4]);
+        for form in junior {
+            let results = [senior[0], middle[0], form].concat();
+            assert_eq!(difference(&admitted, Ok((3, deal.charge)), &results), None);
+        }
+    }
+
+    /// An admitted answer with any one word changed is not admitted.
     #[test]
     fn every_changed_word_is_a_difference() {
         let admitted = independent::weigh(&deals::small(), ROOM as u64);
         let deal = admitted.as_ref().expect("the small deal is accepted");
-        let words = |line: &Line| -> [u64; LINE_WORDS] {
-            let amounts = line.amounts[0];
-            [
-                line.approach,
-                line.attachment,
-                line.detachment,
-                amounts.weight,
-                amounts.risk_weighted,
-                amounts.capital,
-            ]
-        };
-        let results: Vec<u64> = deal.lines.iter().flat_map(words).collect();
+        let results: Vec<u64> = deal.lines.iter().flat_map(|line| forms(line)[0]).collect();
         let outcome = Ok((3, deal.charge));
-        assert_eq!(difference(&admitted, outcome, &results), None);
         for place in 0..results.len() {
             let mut changed = results.clone();
             changed[place] += 5;
