@@ -333,13 +333,13 @@ def cap_of(deal, approach, senior):
 
 
 def limited(deal, approach, senior, raw):
-    """Weights raised to the floor, then lowered to the cap."""
-    least, cap = parameter_and_floor(deal.resecuritised, deal.stc, senior)[1], cap_of(deal, approach, senior)
+    """Both ends raised to the floor, then lowered to the cap."""
+    lowest, cap = parameter_and_floor(deal.resecuritised, deal.stc, senior)[1], cap_of(deal, approach, senior)
 
     def within(weight):
-        return max(weight, least) if cap is None else min(max(weight, least), cap)
+        return max(weight, lowest) if cap is None else min(max(weight, lowest), cap)
 
-    return Ends(within(raw.weight), tuple(dict.fromkeys(within(v) for v in raw.least)))
+    return Ends(within(raw.weight), tuple(dict.fromkeys(within(least) for least in raw.least)))
 
 
 def irba_ends(deal, tranche, a, d, charge, coefficients):
