@@ -41,12 +41,13 @@ static const char *name_of(uint64_t approach)
     }
 }
 
-/* Prints the line of one tranche, points and weight in percent. */
+/* Prints the line of one tranche, points and weights in percent. */
 static void print_line(uint64_t number, const uint64_t *line)
 {
-    printf("tranche %" PRIu64 ": %s from %.4f%% to %.4f%%, weight %.2f%%, risk-weighted amount %" PRIu64 ", capital %" PRIu64 "\n", number,
-           name_of(line[TRANCHE_WEIGHTS_WORD_APPROACH]), line[TRANCHE_WEIGHTS_WORD_ATTACHMENT] / 1e4, line[TRANCHE_WEIGHTS_WORD_DETACHMENT] / 1e4,
-           line[TRANCHE_WEIGHTS_WORD_WEIGHT] / 1e2, line[TRANCHE_WEIGHTS_WORD_RISK_WEIGHTED_AMOUNT], line[TRANCHE_WEIGHTS_WORD_CAPITAL]);
+    printf("tranche %" PRIu64 ": %s from %.4f%% to %.4f%%, weight %.2f%%", number, name_of(line[TRANCHE_WEIGHTS_WORD_APPROACH]),
+           line[TRANCHE_WEIGHTS_WORD_ATTACHMENT] / 1e4, line[TRANCHE_WEIGHTS_WORD_DETACHMENT] / 1e4, line[TRANCHE_WEIGHTS_WORD_WEIGHT] / 1e2);
+    printf(", risk-weighted amount %" PRIu64 ", capital %" PRIu64 ", least weight %.2f%%\n", line[TRANCHE_WEIGHTS_WORD_RISK_WEIGHTED_AMOUNT],
+           line[TRANCHE_WEIGHTS_WORD_CAPITAL], line[TRANCHE_WEIGHTS_WORD_LEAST_WEIGHT] / 1e2);
 }
 
 /* Weighs the sheet of a file's bytes and prints its lines, or the refusal. Returns the refusal's number, 0 where there is none. */

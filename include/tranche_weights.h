@@ -35,7 +35,7 @@ extern "C" {
 #endif
 
 /* The version of the interface. */
-#define TRANCHE_WEIGHTS_INTERFACE 5
+#define TRANCHE_WEIGHTS_INTERFACE 6
 
 /*
  * The parts of a sheet: the fewest and the most facts, of one word each; the most pool rows and the words of one; the most tranches and the words of one; the words of
@@ -64,18 +64,28 @@ extern "C" {
 #define TRANCHE_WEIGHTS_BYTES_PER_WORD 8
 #define TRANCHE_WEIGHTS_FILE_BYTES (TRANCHE_WEIGHTS_BYTES_PER_WORD * TRANCHE_WEIGHTS_SHEET_WORDS)
 
-/* The places of the words in a line. */
+/*
+ * The places of the words in a line. Risk-weighted amount and capital come from the weight. The least weight shows how tight the weight is: what is exact, after floor
+ * and cap, lies between the two or is one of them.
+ * - By the formula the weight starts from a whole number that is no lower than the exact raw weight and less than 2 above it, and the least weight from one that is no
+ *   higher than the exact raw weight and less than 1.5 below it; both from 125000 where no part of the tranche lies above the pool charge, and from 0 where all of it
+ *   lies above a charge of 0.
+ * - By the rating tables the weight starts from the exact figure rounded up, and the least weight from that figure rounded down.
+ * - Floor and cap then act on the least weight as on the weight. In the fallback, which has neither, both are 125000.
+ * So the least weight is never above the weight. It is at most 3 below it by the formula, and at most 1 by the rating tables.
+ */
 enum {
     TRANCHE_WEIGHTS_WORD_APPROACH = 0,             /* an approach, as listed below */
     TRANCHE_WEIGHTS_WORD_ATTACHMENT = 1,           /* the attachment point, in millionths of the pool */
     TRANCHE_WEIGHTS_WORD_DETACHMENT = 2,           /* the detachment point, in millionths of the pool */
     TRANCHE_WEIGHTS_WORD_WEIGHT = 3,               /* the risk weight, in hundredths of a percent */
     TRANCHE_WEIGHTS_WORD_RISK_WEIGHTED_AMOUNT = 4, /* in whole currency units */
-    TRANCHE_WEIGHTS_WORD_CAPITAL = 5               /* in whole currency units */
+    TRANCHE_WEIGHTS_WORD_CAPITAL = 5,              /* in whole currency units */
+    TRANCHE_WEIGHTS_WORD_LEAST_WEIGHT = 6          /* the weight is certainly no lower than this, in hundredths of a percent */
 };
 
 /* How many words a line has, and result words that are enough for every sheet. */
-#define TRANCHE_WEIGHTS_LINE_WORDS 6
+#define TRANCHE_WEIGHTS_LINE_WORDS 7
 #define TRANCHE_WEIGHTS_RESULT_WORDS (TRANCHE_WEIGHTS_MOST_TRANCHES * TRANCHE_WEIGHTS_LINE_WORDS)
 
 /*
@@ -117,11 +127,11 @@ enum {
 };
 
 /* The functions as the archive names them. They take what the functions below take, and no null pointer. */
-uint64_t tranche_weights_weigh_v5(const uint64_t *sheet, size_t words, uint64_t *results, size_t room, uint64_t *place, uint64_t *count,
+uint64_t tranche_weights_weigh_v6(const uint64_t *sheet, size_t words, uint64_t *results, size_t room, uint64_t *place, uint64_t *count,
                                   uint64_t *charge);
-uint64_t tranche_weights_weigh_file_v5(const uint8_t *file, size_t size, uint64_t *results, size_t room, uint64_t *place, uint64_t *count,
+uint64_t tranche_weights_weigh_file_v6(const uint8_t *file, size_t size, uint64_t *results, size_t room, uint64_t *place, uint64_t *count,
                                        uint64_t *charge);
-uint64_t tranche_weights_report_v5(const uint8_t *file, size_t size, uint8_t *text, size_t room);
+uint64_t tranche_weights_report_v6(const uint8_t *file, size_t size, uint8_t *text, size_t room);
 
 /*
  * Weighs every tranche of a deal sheet.
@@ -139,7 +149,7 @@ static inline uint64_t tranche_weights_weigh(const uint64_t *sheet, size_t words
                                              uint64_t *count, uint64_t *charge)
 {
     uint64_t nothing = 0;
-    return tranche_weights_weigh_v5(words ? sheet : &nothing, words, room ? results : &nothing, room, place, count, charge);
+    return tranche_weights_weigh_v6(words ? sheet : &nothing, words, room ? results : &nothing, room, place, count, charge);
 }
 
 /*
@@ -155,7 +165,7 @@ static inline uint64_t tranche_weights_weigh_file(const uint8_t *file, size_t si
 {
     uint8_t no_byte = 0;
     uint64_t nothing = 0;
-    return tranche_weights_weigh_file_v5(size ? file : &no_byte, size, room ? results : &nothing, room, place, count, charge);
+    return tranche_weights_weigh_file_v6(size ? file : &no_byte, size, room ? results : &nothing, room, place, count, charge);
 }
 
 /*
@@ -170,7 +180,7 @@ static inline uint64_t tranche_weights_weigh_file(const uint8_t *file, size_t si
 static inline uint64_t tranche_weights_report(const uint8_t *file, size_t size, uint8_t *text, size_t room)
 {
     uint8_t nothing = 0;
-    return tranche_weights_report_v5(size ? file : &nothing, size, room ? text : &nothing, room);
+    return tranche_weights_report_v6(size ? file : &nothing, size, room ? text : &nothing, room);
 }
 
 #ifdef __cplusplus

@@ -36,15 +36,15 @@ longest=$(($(echo TRANCHE_WEIGHTS_FILE_BYTES | cc -E -P -xc -Iinclude -include t
 dd if=/dev/zero of="$room/longest" bs="$longest" count=1 2> "$room/dd.log"
 dd if=/dev/zero of="$room/longer" bs="$((longest + 1))" count=1 2>> "$room/dd.log"
 
-held "01's checked deal" "$room/checked" 0 "tranche 1: SEC-ERBA from 20.0000%% to 100.0000%%, weight 20.00%%, risk-weighted amount 160, capital 13
-tranche 2: SEC-ERBA from 5.0000%% to 20.0000%%, weight 263.50%%, risk-weighted amount 264, capital 22
-tranche 3: SEC-SA from 0.0000%% to 5.0000%%, weight 1250.00%%, risk-weighted amount 625, capital 50
+held "01's checked deal" "$room/checked" 0 "tranche 1: SEC-ERBA from 20.0000%% to 100.0000%%, weight 20.00%%, risk-weighted amount 160, capital 13, least weight 20.00%%
+tranche 2: SEC-ERBA from 5.0000%% to 20.0000%%, weight 263.50%%, risk-weighted amount 264, capital 22, least weight 263.50%%
+tranche 3: SEC-SA from 0.0000%% to 5.0000%%, weight 1250.00%%, risk-weighted amount 625, capital 50, least weight 1250.00%%
 pool charge 10.1000%%\n" ""
-held "mixed pool" "$room/irba" 0 "tranche 1: SEC-IRBA from 11.1776%% to 100.0000%%, weight 15.00%%, risk-weighted amount 30000000, capital 2400000
-tranche 2: SEC-IRBA from 11.1776%% to 100.0000%%, weight 35.66%%, risk-weighted amount 35660000, capital 2852800
-tranche 3: SEC-IRBA from 6.1876%% to 11.1776%%, weight 708.73%%, risk-weighted amount 141746000, capital 11339680
-tranche 4: SEC-IRBA from 2.1956%% to 6.1876%%, weight 1246.43%%, risk-weighted amount 124643000, capital 9971440
-tranche 5: SEC-IRBA from 0.1996%% to 2.1956%%, weight 1250.00%%, risk-weighted amount 125000000, capital 10000000
+held "mixed pool" "$room/irba" 0 "tranche 1: SEC-IRBA from 11.1776%% to 100.0000%%, weight 15.00%%, risk-weighted amount 30000000, capital 2400000, least weight 15.00%%
+tranche 2: SEC-IRBA from 11.1776%% to 100.0000%%, weight 35.66%%, risk-weighted amount 35660000, capital 2852800, least weight 35.65%%
+tranche 3: SEC-IRBA from 6.1876%% to 11.1776%%, weight 708.73%%, risk-weighted amount 141746000, capital 11339680, least weight 708.72%%
+tranche 4: SEC-IRBA from 2.1956%% to 6.1876%%, weight 1246.43%%, risk-weighted amount 124643000, capital 9971440, least weight 1246.42%%
+tranche 5: SEC-IRBA from 0.1996%% to 2.1956%%, weight 1250.00%%, risk-weighted amount 125000000, capital 10000000, least weight 1250.00%%
 pool charge 5.8160%%\n" ""
 held "refused sheet" "$room/refused" 1 "$(target/bin/tranche_report "$room/refused")\n" ""
 held "cut within a word" "$room/half" 1 "refused 15 at 0\n" ""

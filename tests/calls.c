@@ -1,8 +1,8 @@
 /*
  * Calls the functions of the header as a program in C does, on threads with small stacks, and prints the report on a file's bytes. Held here: lent memory that must
- * be as it was, the answer where the room is one byte short and where it is just enough, the four numbers of an accepted and of a refused sheet and file, the STC mark,
- * the reporting date, the IRB section, and a null pointer for every list of length 0. Stops with status 1 and one line where something is not what is due.
- * tests/c_example.sh runs it.
+ * be as it was, the answer where the room is one byte or word short and where it is just enough, the four numbers of an accepted and of a refused sheet and file, the
+ * least weight, the STC mark, the reporting date, the IRB section, and a null pointer for every list of length 0. Stops with status 1 and one line where something is
+ * not what is due. tests/c_example.sh runs it.
  */
 #include <pthread.h>
 #include <stdio.h>
@@ -28,9 +28,16 @@ static const uint64_t lines[TRANCHE_WEIGHTS_LINE_WORDS + 1] = {
     [TRANCHE_WEIGHTS_WORD_WEIGHT] = 1900,
     [TRANCHE_WEIGHTS_WORD_RISK_WEIGHTED_AMOUNT] = 16,
     [TRANCHE_WEIGHTS_WORD_CAPITAL] = 2,
+    [TRANCHE_WEIGHTS_WORD_LEAST_WEIGHT] = 1900,
     [TRANCHE_WEIGHTS_LINE_WORDS] = WORD_BEFORE,
 };
 #define WORDS (sizeof sheet / sizeof *sheet)
+
+/* The place of its maturity, and another one, at which AAA has 15 + 5 * 8 / 240 = 15.1667%; the weight and the least weight that it gives. */
+#define MONTHS_PLACE 13
+#define OTHER_MONTHS 14
+#define OTHER_WEIGHT 1517
+#define OTHER_LEAST_WEIGHT 1516
 
 /* The same sheet with a fifth fact, the STC mark, and the weight of its line; the facts of a re-securitisation with that mark, and its place. */
 static const uint64_t stc_sheet[WORDS + 1] = {5, 0, 0, 1, 1, 1, 1, 100, 100, 100, 0, 1, 80, 1, 60, 80, 1, 0, 0};
@@ -45,7 +52,8 @@ static const uint64_t dated_sheet[WORDS + 2] = {6, 0, 0, 1, 1, 0, 20240228, 1, 1
 
 /*
  * The same sheet as a mixed pool, with the IRB section after it; the places of its count, its number of loans and its share. The charge is 95% of 15% and 5% of 8%.
- * The parameter, 3.56 / 25 - 1.85 * 0.1465 + 0.55 * 0.45 + 0.07 * 4.2, is 0.412875, and the formula gives 39.025%, rounded up.
+ * The parameter, 3.56 / 25 - 1.85 * 0.1465 + 0.55 * 0.45 + 0.07 * 4.2, is 0.412875, and the formula gives 39.0249%, rounded up. That is at least the least weight
+ * and less than 0.015% above it: the rules leave open whether it is the number below or one less.
  */
 static const uint64_t irb_sheet[WORDS + 1 + TRANCHE_WEIGHTS_IRB_WORDS] = {4, 2, 0, 1, 1, 1, 100, 100, 100, 0, 1, 80, 1, 60, 80, 1, 0, 0,
                                                                           1, 150000, 450000, 25, 0, 950000, 12000};
@@ -55,6 +63,7 @@ static const uint64_t irb_sheet[WORDS + 1 + TRANCHE_WEIGHTS_IRB_WORDS] = {4, 2, 
 #define SHARE_PLACE (WORDS + 5)
 #define IRB_CHARGE 146500
 #define IRB_WEIGHT 3903
+#define IRB_LEAST_WEIGHT 3902
 
 static unsigned char file[TRANCHE_WEIGHTS_FILE_BYTES + 1];
 static size_t size;
@@ -180,12 +189,23 @@ static void *try_dates(void *unused)
     return unused;
 }
 
+/* The least weight, where it is another than the weight. */
+static void *try_least_weight(void *unused)
+{
+    struct given g = weigh_with(sheet, WORDS, MONTHS_PLACE, OTHER_MONTHS);
+    due(g.number == TRANCHE_WEIGHTS_ACCEPTED && g.results[TRANCHE_WEIGHTS_WORD_WEIGHT] == OTHER_WEIGHT, "a weight rounded up");
+    due(g.results[TRANCHE_WEIGHTS_WORD_LEAST_WEIGHT] == OTHER_LEAST_WEIGHT, "a least weight rounded down");
+    return unused;
+}
+
 /* The IRB section: the line is that of SEC-IRBA, with a share below 95% that of the SA pool; a wrong count, figures outside their limits, a section too many, none. */
 static void *try_irb(void *unused)
 {
     struct given g = weigh(irb_sheet, IRB_SHEET_WORDS, TRANCHE_WEIGHTS_LINE_WORDS);
     due(g.number == TRANCHE_WEIGHTS_ACCEPTED && g.charge == IRB_CHARGE, "the charge of a mixed pool");
     due(g.results[TRANCHE_WEIGHTS_WORD_APPROACH] == TRANCHE_WEIGHTS_BY_SEC_IRBA && g.results[TRANCHE_WEIGHTS_WORD_WEIGHT] == IRB_WEIGHT, "a SEC-IRBA line");
+    uint64_t least = g.results[TRANCHE_WEIGHTS_WORD_LEAST_WEIGHT];
+    due(least == IRB_LEAST_WEIGHT || least == IRB_LEAST_WEIGHT - 1, "the least weight of a SEC-IRBA line");
     accepted(weigh_with(irb_sheet, IRB_SHEET_WORDS, SHARE_PLACE, 949999), "a mixed pool with a share below 95%");
     refused(weigh_with(irb_sheet, IRB_SHEET_WORDS, IRB_COUNT_PLACE, 0), TRANCHE_WEIGHTS_REFUSED_COUNT, IRB_COUNT_PLACE, "a count of no IRB section");
     refused(weigh_with(irb_sheet, IRB_SHEET_WORDS, LOANS_PLACE, 0), TRANCHE_WEIGHTS_REFUSED_IRB_FIGURE, LOANS_PLACE, "no loans");
@@ -248,6 +268,7 @@ int main(int argc, char **argv)
     on_stack(WEIGH_STACK, try_weigh);
     on_stack(WEIGH_STACK, try_stc);
     on_stack(WEIGH_STACK, try_dates);
+    on_stack(WEIGH_STACK, try_least_weight);
     on_stack(WEIGH_STACK, try_irb);
     on_stack(FILE_STACK, try_weigh_file);
     on_stack(FILE_STACK, try_null);

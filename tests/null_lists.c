@@ -16,7 +16,7 @@ static void there(const void *pointer, const char *what)
     }
 }
 
-uint64_t tranche_weights_weigh_v5(const uint64_t *sheet, size_t words, uint64_t *results, size_t room, uint64_t *place, uint64_t *count,
+uint64_t tranche_weights_weigh_v6(const uint64_t *sheet, size_t words, uint64_t *results, size_t room, uint64_t *place, uint64_t *count,
                                   uint64_t *charge)
 {
     there(sheet, "sheet");
@@ -25,7 +25,7 @@ uint64_t tranche_weights_weigh_v5(const uint64_t *sheet, size_t words, uint64_t 
     return words + room;
 }
 
-uint64_t tranche_weights_weigh_file_v5(const uint8_t *file, size_t size, uint64_t *results, size_t room, uint64_t *place, uint64_t *count,
+uint64_t tranche_weights_weigh_file_v6(const uint8_t *file, size_t size, uint64_t *results, size_t room, uint64_t *place, uint64_t *count,
                                        uint64_t *charge)
 {
     there(file, "file");
@@ -34,7 +34,7 @@ uint64_t tranche_weights_weigh_file_v5(const uint8_t *file, size_t size, uint64_
     return size + room;
 }
 
-uint64_t tranche_weights_report_v5(const uint8_t *file, size_t size, uint8_t *text, size_t room)
+uint64_t tranche_weights_report_v6(const uint8_t *file, size_t size, uint8_t *text, size_t room)
 {
     there(file, "file of a report");
     there(text, "text");
