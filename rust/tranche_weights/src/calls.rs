@@ -42,7 +42,7 @@ pub fn reply_to_words(sheet: &[u64], results: &mut [u64]) -> Reply {
 /// let mut results = [7; LINE_WORDS + 2];
 /// let weighed = weigh_words(&sheet, &mut results)?;
 /// assert_eq!((weighed.count, weighed.charge), (1, 80_000));
-/// assert_eq!(results, [1, 200_000, 1_000_000, 1_900, 16, 2, 7, 7]);
+/// assert_eq!(results, [1, 200_000, 1_000_000, 1_900, 16, 2, 1_900, 7, 7]);
 ///
 /// let mut results = [7; LINE_WORDS - 1];
 /// let refusal = weigh_words(&sheet, &mut results).unwrap_err();
@@ -67,7 +67,7 @@ pub fn weigh_words(sheet: &[u64], results: &mut [u64]) -> Result<Weighed, Refusa
 /// let file = sheet.map(u64::to_le_bytes).concat();
 /// let mut results = [0; RESULT_WORDS];
 /// assert_eq!(reply_to_file(&file, &mut results), Reply::accepting(1, 80_000));
-/// assert_eq!(results[..LINE_WORDS], [1, 200_000, 1_000_000, 1_900, 16, 2]);
+/// assert_eq!(results[..LINE_WORDS], [1, 200_000, 1_000_000, 1_900, 16, 2, 1_900]);
 ///
 /// assert_eq!(reply_to_file(&file[1..], &mut results), Reply::refusing(15, 0));
 /// ```

@@ -1,4 +1,4 @@
-//! A weighed deal and its lines (document 01, "The deal sheet", the results).
+//! A weighed deal and its lines (document 01, "The deal sheet", the results; document 02, S-6).
 
 use std::fmt;
 
@@ -37,6 +37,25 @@ impl Deal {
 }
 
 /// The line of a tranche.
+///
+/// ```
+/// use tranche_weights::weigh_file;
+///
+/// // One loan of 1,000,000 at 100%, a senior tranche of 500,000, and below it one of 285,715 that is held in full; both
+/// // have six years and AAA.
+/// let facts_and_pool = [4, 0, 0, 1, 1, 1, 1_000_000, 1_000_000, 100, 0];
+/// let tranches = [2, 500_000, 1, 72, 0, 1, 0, 0, 285_715, 2, 72, 285_715, 1, 0, 0];
+/// let words = facts_and_pool.into_iter().chain(tranches);
+/// let file: Vec<u8> = words.flat_map(u64::to_le_bytes).collect();
+///
+/// // The tranche is 28.5715% thick, and 70% times 1 less that is 49.99995%.
+/// let line = weigh_file(&file)?.lines[1];
+/// assert_eq!((line.attachment, line.detachment), (214_285, 500_000));
+/// assert_eq!((line.least_weight, line.weight), (4_999, 5_000));
+/// // The amounts come from the weight.
+/// assert_eq!((line.risk_weighted_amount, line.capital), (142_858, 11_429));
+/// # Ok::<(), tranche_weights::Refusal>(())
+/// ```
 #[derive(Debug, Clone, Copy, PartialEq, Eq, Hash)]
 #[non_exhaustive]
 pub struct Line {
@@ -51,18 +70,37 @@ pub struct Line {
     /// The risk weight after floor and cap, in hundredths of a percent: 125,000 is 1250%.
     ///
     /// Under the formula (SEC-SA or SEC-IRBA), the weight before floor and cap is no lower than the formula's exact
-    /// value and less than 2 above it.
+    /// value and less than 2 above it. By a rating table it is the exact figure rounded up.
     pub weight: u64,
     /// The risk-weighted amount of what is held, in whole currency units, rounded up.
     pub risk_weighted_amount: u64,
     /// The capital for what is held, 8% of held amount times weight, in whole currency units, rounded up.
     pub capital: u64,
+    /// The least weight: the weight is certainly no lower than this, in hundredths of a percent.
+    ///
+    /// It shows how tight [`weight`](Line::weight) is: what is exact, after floor and cap, lies between the two or is
+    /// one of them. Exact is the formula's value or the rating table's figure for points, charge and parameter as they
+    /// are; how far these were rounded, it does not show.
+    ///
+    /// Floor and cap act on it as on the weight. Before floor and cap it is
+    ///
+    /// - under the formula no higher than the formula's exact value and less than 1.5 below it; where that value is
+    ///   125,000, since no part of the tranche lies above the pool charge, or 0, since all of it lies above a charge of
+    ///   0, it is that value;
+    /// - by a rating table the exact figure rounded down. Of several ratings the exact figures are compared: of two the
+    ///   higher counts, of three the middle one.
+    ///
+    /// So it is never above the weight, under the formula at most 3 below it, and by a rating table at most 1. In the
+    /// fallback, which has neither floor nor cap, both are 125,000.
+    ///
+    /// No amount comes from it: risk-weighted amount and capital come from the weight.
+    pub least_weight: u64,
 }
 
 impl Line {
     /// The line that its result words state.
     pub(crate) fn of(words: &[u64; LINE_WORDS]) -> Line {
-        let &[approach, attachment, detachment, weight, risk_weighted_amount, capital] = words;
+        let &[approach, attachment, detachment, weight, risk_weighted_amount, capital, least_weight] = words;
         Line {
             approach: approach.into(),
             attachment,
@@ -70,6 +108,7 @@ impl Line {
             weight,
             risk_weighted_amount,
             capital,
+            least_weight,
         }
     }
 }

@@ -85,8 +85,8 @@
 //! `TRANCHE_WEIGHTS_LIB` names another folder; a relative one counts from the crate's folder. Without the archive,
 //! checking and documenting work, with a warning; building does not.
 //!
-//! The crate calls version 5 of the library's interface. Every symbol of the archive carries its version, as in
-//! `tranche_weights_weigh_v5`, so that an archive of another version fails to link.
+//! The crate calls version 6 of the library's interface. Every symbol of the archive carries its version, as in
+//! `tranche_weights_weigh_v6`, so that an archive of another version fails to link.
 //!
 //! The library keeps no state, so threads can call it at the same time. Of the calling thread's stack 64 KB are enough.
 //!

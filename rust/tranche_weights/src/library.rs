@@ -1,4 +1,4 @@
-//! The three C functions of the static library, version 5, and the crate's only unsafe code.
+//! The three C functions of the static library, version 6, and the crate's only unsafe code.
 
 #![allow(unsafe_code)]
 
@@ -6,7 +6,7 @@ use crate::reply::Reply;
 
 extern "C" {
     /// Weighs the sheet; returns the refusal's number, 0 where weighed.
-    #[link_name = "tranche_weights_weigh_v5"]
+    #[link_name = "tranche_weights_weigh_v6"]
     fn tranche_weights_weigh(
         sheet: *const u64,
         words: usize,
@@ -18,7 +18,7 @@ extern "C" {
     ) -> u64;
 
     /// Weighs the sheet that the file's bytes state; returns the refusal's number, 0 where weighed.
-    #[link_name = "tranche_weights_weigh_file_v5"]
+    #[link_name = "tranche_weights_weigh_file_v6"]
     fn tranche_weights_weigh_file(
         file: *const u8,
         size: usize,
@@ -30,7 +30,7 @@ extern "C" {
     ) -> u64;
 
     /// Writes the report's text where it fits the room, else nothing; returns the text's length.
-    #[link_name = "tranche_weights_report_v5"]
+    #[link_name = "tranche_weights_report_v6"]
     fn tranche_weights_report(file: *const u8, size: usize, text: *mut u8, room: usize) -> u64;
 }
 

@@ -1,5 +1,5 @@
 //! The parts of a sheet, of a line and of a report, with the sizes that follow from them, and the limits of a sheet's
-//! numbers (document 01, "The deal sheet" and "Checked deals"; document 02, S-1, S-3 and S-5).
+//! numbers (document 01, "The deal sheet" and "Checked deals"; document 02, S-1, S-3, S-5 and S-6).
 //!
 //! A size that has parts is worked out from them, so that each number stands here once.
 
@@ -46,7 +46,7 @@ pub const BYTES_PER_WORD: usize = 8;
 pub const FILE_BYTES: usize = BYTES_PER_WORD * SHEET_WORDS;
 
 /// The result words of one tranche, in the order of the fields of [`Line`](crate::Line).
-pub const LINE_WORDS: usize = 6;
+pub const LINE_WORDS: usize = 7;
 
 /// Result words that are enough for every sheet: the lines of the most tranches.
 pub const RESULT_WORDS: usize = MOST_TRANCHES * LINE_WORDS;

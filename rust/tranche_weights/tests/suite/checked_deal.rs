@@ -1,4 +1,5 @@
-//! The first of document 01's "Checked deals": its words, its text and its making by the builder.
+//! The first of document 01's "Checked deals", with the seventh word of document 02's S-6: its words, its text and its
+//! making by the builder.
 
 use crate::places::{statuses, RESECURITISATION};
 use tranche_weights::{
@@ -12,18 +13,19 @@ pub const WORDS: [u64; 36] = [
     72, 50, 0, 0, 0,
 ];
 
-/// The report on it, as document 01 prints it.
+/// The report on it, as documents 01 and 02 print it.
 pub const TEXT: &str = "\
 charge 101000 tranches 3
-1 1 200000 1000000 2000 160 13
-2 1 50000 200000 26350 264 22
-3 2 0 50000 125000 625 50
+1 1 200000 1000000 2000 160 13 2000
+2 1 50000 200000 26350 264 22 26350
+3 2 0 50000 125000 625 50 125000
 total 1049 85
 ";
 
 /// The result words of its three lines.
 pub const RESULTS: [u64; 3 * LINE_WORDS] = [
-    1, 200_000, 1_000_000, 2_000, 160, 13, 1, 50_000, 200_000, 26_350, 264, 22, 2, 0, 50_000, 125_000, 625, 50,
+    1, 200_000, 1_000_000, 2_000, 160, 13, 2_000, 1, 50_000, 200_000, 26_350, 264, 22, 26_350, 2, 0, 50_000, 125_000,
+    625, 50, 125_000,
 ];
 
 /// The sheet as a re-securitisation, each of whose rows is a securitisation tranche.

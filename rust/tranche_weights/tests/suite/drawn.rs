@@ -1,4 +1,5 @@
-//! Sheets drawn by a seeded generator: each is built, and the library refuses none of them but by 13.
+//! Sheets drawn by a seeded generator: each is built, and the library refuses none of them but by 13; the least weights
+//! of its lines lie near the weights (document 02, S-6).
 
 use crate::checked_deal::file_of;
 use crate::places::{
@@ -7,9 +8,9 @@ use crate::places::{
 };
 use crate::texts::text_of;
 use tranche_weights::{
-    report, weigh_file, AverageWeight, Date, Facts, IrbFigures, Loans, Millionths, Months, PoolAmount, PoolKind,
-    Rating, Reason, RiskWeight, Row, Sheet, SheetBuilder, SheetError, Status, Tranche, TrancheAmount, MOST_ROWS,
-    MOST_TRANCHES, ROW_WORDS, TRANCHE_WORDS,
+    report, weigh_file, Approach, AverageWeight, Date, Facts, IrbFigures, Loans, Millionths, Months, PoolAmount,
+    PoolKind, Rating, Reason, RiskWeight, Row, Sheet, SheetBuilder, SheetError, Status, Tranche, TrancheAmount,
+    MOST_ROWS, MOST_TRANCHES, ROW_WORDS, TRANCHE_WORDS,
 };
 
 /// The statuses of an ordinary pool, by status word.
@@ -313,5 +314,36 @@ fn a_built_sheet_is_refused_by_13_alone() -> Result<(), SheetError> {
         weighed.iter().chain(&refused).all(|count| *count >= 20),
         "weighed {weighed:?}, refused {refused:?}"
     );
+    Ok(())
+}
+
+/// How far below the weight a least weight can lie, by the approach: both are the fallback's; a table's figure is rounded
+/// up and down; the formula's weight is less than 2 above the exact value, and its least weight less than 1.5 below.
+fn farthest(approach: Approach) -> u64 {
+    match approach {
+        Approach::Fallback => 0,
+        Approach::SecErba => 1,
+        _ => 3,
+    }
+}
+
+/// No least weight is above its weight, and none is farther below it than its approach admits. Each approach but the
+/// fallback has lines where the two differ and lines where they do not.
+#[test]
+fn a_least_weight_is_near_its_weight() -> Result<(), SheetError> {
+    let mut generator = Generator(0x6c65_6173_7473_0001);
+    // Lines by the word of their approach: those whose weights are equal, then those whose weights differ.
+    let mut seen = [[0; 2]; 4];
+    for _ in 0..1800 {
+        let words = generator.words();
+        let lines = built(&words)?.weigh().map_or_else(|_| Vec::new(), |deal| deal.lines);
+        for line in lines {
+            let within = line.weight.saturating_sub(farthest(line.approach))..=line.weight;
+            assert!(within.contains(&line.least_weight), "{line:?}, {words:?}");
+            seen[line.approach.word() as usize][usize::from(line.least_weight != line.weight)] += 1;
+        }
+    }
+    let counts = seen.as_flattened();
+    assert_eq!(counts.iter().filter(|count| **count >= 20).count(), 7, "{seen:?}");
     Ok(())
 }

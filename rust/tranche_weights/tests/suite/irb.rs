@@ -1,4 +1,4 @@
-//! Pool kinds, the IRB section and SEC-IRBA (document 02, S-5).
+//! Pool kinds, the IRB section and SEC-IRBA (document 02, S-5 and, for the least weight, S-6).
 
 use crate::checked_deal::{
     both_facts, file_of, resecuritised, row, tranche, with_rows_and_tranches, RESULTS, TEXT, WORDS,
@@ -8,8 +8,8 @@ use crate::places::{first_figure, ratings, statuses, with_irb, AVERAGE, COMPOSIT
 use crate::results::weighed;
 use std::error::Error;
 use tranche_weights::{
-    report, Approach, AverageWeight, Date, Deal, Facts, IrbFigures, Loans, Millionths, Months, PoolKind, Reply,
-    SheetBuilder, SheetError, Status, Tranche, TrancheAmount, IRB_WORDS, LINE_WORDS,
+    report, weigh_file, Approach, AverageWeight, Date, Deal, Facts, IrbFigures, Line, Loans, Millionths, Months,
+    PoolKind, Refusal, Reply, SheetBuilder, SheetError, Status, Tranche, TrancheAmount, IRB_WORDS,
 };
 
 /// The figures of an IRB section, as words: a mixed pool whose share is the lowest under SEC-IRBA.
@@ -183,23 +183,27 @@ fn ratings_and_statuses_play_no_part() {
     }
 }
 
-/// The weight of class 1 in a sheet that is accepted.
-fn senior_weight(words: &[u64]) -> u64 {
-    let (reply, results) = weighed(words);
-    assert_eq!(reply.number, 0, "{words:?}");
-    assert_eq!(results[..LINE_WORDS][0], Approach::SecIrba.word(), "{words:?}");
-    results[..LINE_WORDS][3]
+/// The line of class 1 in a sheet that is accepted.
+fn senior_line(words: &[u64]) -> Result<Line, Refusal> {
+    let line = weigh_file(&file_of(words))?.lines[0];
+    assert_eq!(line.approach, Approach::SecIrba, "{words:?}");
+    Ok(line)
 }
 
-/// The cap of class 1 is the IRB average weight as it stands, also below the floor, where the composition is known.
+/// The cap of class 1 is the IRB average weight as it stands, also below the floor, where the composition is known. It
+/// acts on the least weight too. The exact raw weight is 3,879.05, so the rules leave two least weights open.
 #[test]
-fn the_cap_is_the_irb_average_weight() {
+fn the_cap_is_the_irb_average_weight() -> Result<(), Refusal> {
     for (average, weight) in [(0, 0), (1_200, 1_200), (3_879, 3_879), (3_881, 3_880), (125_000, 3_880)] {
         let mut words = with_figure(AVERAGE, average);
-        assert_eq!(senior_weight(&words), weight);
+        let capped = senior_line(&words)?;
         words[COMPOSITION] = 0;
-        assert_eq!(senior_weight(&words), 3_880);
+        let uncapped = senior_line(&words)?;
+        assert_eq!((capped.weight, uncapped.weight), (weight, 3_880));
+        assert_eq!(capped.least_weight, uncapped.least_weight.min(average));
+        assert!([3_878, 3_879].contains(&uncapped.least_weight), "{uncapped:?}");
     }
+    Ok(())
 }
 
 /// A deal with maturities as dates has the report of the months.

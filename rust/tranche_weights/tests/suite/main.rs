@@ -8,6 +8,7 @@ mod checked_deal;
 mod dates;
 mod drawn;
 mod irb;
+mod least_weight;
 mod numbers;
 mod places;
 mod ratings;

@@ -1,5 +1,5 @@
 //! Each refusal, with its number, place and reason (document 01, "Refusals, by who can cause them"; document 02, S-1,
-//! S-3 and S-5).
+//! S-3, S-5 and S-6).
 
 use crate::checked_deal::{file_of, resecuritised, RESULTS, WORDS};
 use crate::dates::{dated, MATURITY, REPORTING_DATE};
@@ -10,7 +10,7 @@ use crate::places::{
 };
 use tranche_weights::{
     reply_to_file, reply_to_words, report, weigh_file, weigh_words, Reason, Refusal, Reply, BYTES_PER_WORD, FILE_BYTES,
-    LINE_WORDS, RESULT_WORDS,
+    RESULT_WORDS,
 };
 
 /// The checked deal with one word replaced.
@@ -214,10 +214,11 @@ fn facts_of_0_move_later_places() {
     }
 }
 
-/// Too little room for the lines is 14 at 0, and the results are as they were.
+/// Any room too small for the lines, also that of a word less for each of the three, is 14 at 0, and the results are as
+/// they were; the lines' words are enough.
 #[test]
 fn too_little_room_leaves_the_results() {
-    for room in [0, LINE_WORDS, RESULTS.len() - 1] {
+    for room in 0..RESULTS.len() {
         let before: Vec<u64> = (900..).take(room).collect();
         let mut results = before.clone();
         hold(weigh_words(&WORDS, &mut results).unwrap_err(), 14, 0, Reason::Room);
@@ -225,6 +226,8 @@ fn too_little_room_leaves_the_results() {
         assert_eq!(reply_to_file(&file_of(&WORDS), &mut results), Reply::refusing(14, 0));
         assert_eq!(results, before);
     }
+    let reply = reply_to_words(&WORDS, &mut [0; RESULTS.len()]);
+    assert_eq!(reply, Reply::accepting(3, 101_000));
 }
 
 /// A file's length is a multiple of a word's bytes and at most the longest; any other is 15 at 0, before all that its

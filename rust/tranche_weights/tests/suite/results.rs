@@ -1,10 +1,10 @@
-//! The lent results (document 01, "The deal sheet").
+//! The lent results (document 01, "The deal sheet"; document 02, S-6).
 
 use crate::checked_deal::{file_of, RESULTS, WORDS};
 use crate::places::DUE_DILIGENCE;
 use tranche_weights::{
-    reply_to_file, reply_to_words, weigh_file, weigh_words, Approach, Reply, FILE_BYTES, LINE_WORDS, MOST_TRANCHES,
-    NUMBER_DIGITS, RESULT_WORDS, SHEET_WORDS, TEXT_ROOM,
+    reply_to_file, reply_to_words, weigh_file, weigh_words, Approach, Line, Reply, FILE_BYTES, LINE_WORDS,
+    MOST_TRANCHES, NUMBER_DIGITS, RESULT_WORDS, SHEET_WORDS, TEXT_ROOM,
 };
 
 /// The approaches, by their words.
@@ -54,13 +54,13 @@ fn an_accepted_sheet_has_number_and_place_0() {
     assert_eq!(reply.outcome(), Ok(weighed));
 }
 
-/// The sizes that are worked out from their parts are those of documents 01 and 02: six words for each of 32 tranches;
+/// The sizes that are worked out from their parts are those of documents 01 and 02: seven words for each of 32 tranches;
 /// a file of at most 33,920 bytes; the bytes of a report as the library has them.
 #[test]
 fn sizes_are_those_of_the_papers() {
-    assert_eq!((LINE_WORDS, MOST_TRANCHES, RESULT_WORDS), (6, 32, 192));
+    assert_eq!((LINE_WORDS, MOST_TRANCHES, RESULT_WORDS), (7, 32, 224));
     assert_eq!((SHEET_WORDS, FILE_BYTES), (4240, 33_920));
-    assert_eq!((NUMBER_DIGITS, TEXT_ROOM), (20, 4810));
+    assert_eq!((NUMBER_DIGITS, TEXT_ROOM), (20, 5482));
 }
 
 /// A deal's lines hold the result words, each in its field.
@@ -78,19 +78,21 @@ fn a_line_holds_its_words() {
             line.weight,
             line.risk_weighted_amount,
             line.capital,
+            line.least_weight,
         ];
         assert_eq!(fields, words);
     }
 }
 
-/// Without due diligence every line is the fallback's.
+/// Without due diligence every line is the fallback's, its weight exact and with neither floor nor cap.
 #[test]
 fn without_due_diligence_every_line_is_the_fallback() {
     let mut words = WORDS;
     words[DUE_DILIGENCE] = 0;
     let deal = weigh_file(&file_of(&words)).expect("the sheet is accepted");
-    let seen: Vec<_> = deal.lines.iter().map(|line| (line.approach, line.weight)).collect();
-    assert_eq!(seen, [(Approach::Fallback, 125_000); 3]);
+    let seen = |line: &Line| (line.approach, line.weight, line.least_weight);
+    let seen: Vec<_> = deal.lines.iter().map(seen).collect();
+    assert_eq!(seen, [(Approach::Fallback, 125_000, 125_000); 3]);
 }
 
 /// An approach prints as the standard names it, to the width asked for.

@@ -8,9 +8,9 @@ use tranche_weights::{reply_to_words, report, Reply, SheetBuilder, SheetError};
 /// third tranche lies within the pool charge.
 const STC_TEXT: &str = "\
 charge 101000 tranches 3
-1 1 200000 1000000 1000 80 7
-2 1 50000 200000 21675 217 18
-3 2 0 50000 125000 625 50
+1 1 200000 1000000 1000 80 7 1000
+2 1 50000 200000 21675 217 18 21675
+3 2 0 50000 125000 625 50 125000
 total 922 75
 ";
 

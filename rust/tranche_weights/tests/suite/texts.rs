@@ -1,4 +1,4 @@
-//! The report's text and the lent room for it (document 01, "Checked deals").
+//! The report's text and the lent room for it (document 01, "Checked deals"; document 02, S-6).
 
 use crate::checked_deal::{file_of, TEXT, WORDS};
 use crate::places::{affirmed_on, with_irb, COMPOSITION, DUE_DILIGENCE, STC};
@@ -8,7 +8,7 @@ use tranche_weights::{
     TRANCHE_WORDS,
 };
 
-/// The report's text that document 01 describes for an answer.
+/// The report's text that documents 01 and 02 describe for an answer.
 pub fn text_of(outcome: &Result<Deal, Refusal>) -> String {
     let deal = match outcome {
         Ok(deal) => deal,
@@ -19,7 +19,7 @@ pub fn text_of(outcome: &Result<Deal, Refusal>) -> String {
         let approach = line.approach.word();
         let points = format!("{} {}", line.attachment, line.detachment);
         let amounts = format!("{} {} {}", line.weight, line.risk_weighted_amount, line.capital);
-        text += &format!("{number} {approach} {points} {amounts}\n");
+        text += &format!("{number} {approach} {points} {amounts} {}\n", line.least_weight);
     }
     text + &format!("total {} {}\n", deal.total_risk_weighted_amount(), deal.total_capital())
 }
