@@ -41,8 +41,8 @@ impl Deal {
 /// ```
 /// use tranche_weights::weigh_file;
 ///
-/// // One loan of 1,000,000 at 100%, a senior tranche of 500,000, and below it one of 285,715 that is held in full; both
-/// // have six years and AAA.
+/// // One loan of 1,000,000 at 100%; a senior tranche of 500,000, and below it one of 285,715 that is held in full, both
+/// // six years, AAA.
 /// let facts_and_pool = [4, 0, 0, 1, 1, 1, 1_000_000, 1_000_000, 100, 0];
 /// let tranches = [2, 500_000, 1, 72, 0, 1, 0, 0, 285_715, 2, 72, 285_715, 1, 0, 0];
 /// let words = facts_and_pool.into_iter().chain(tranches);
