@@ -72,7 +72,8 @@ extern "C" {
  *   lies above a charge of 0.
  * - By the rating tables the weight starts from the exact figure rounded up, and the least weight from that figure rounded down.
  * - Floor and cap then act on the least weight as on the weight. In the fallback, which has neither, both are 125000.
- * So the least weight is never above the weight. It is at most 3 below it by the formula, and at most 1 by the rating tables.
+ * So the least weight is never above the weight. It is at most 2 below it by the formula, both being worked out together (the rules alone would allow 3), and at most 1 by
+ * the rating tables.
  */
 enum {
     TRANCHE_WEIGHTS_WORD_APPROACH = 0,             /* an approach, as listed below */

@@ -452,7 +452,8 @@ def print_figures():
     for months in MONTHS:
         say(["maturity of months %d: %d" % (months, maturity(months))])
     for inputs in INPUTS:
-        say(["raw weight at A %d D %d K %d p %d: %d" % (*inputs, raw_ends(*inputs).weight)])
+        ends = raw_ends(*inputs)
+        say(["raw weight at A %d D %d K %d p %d: %d to %d" % (*inputs, low, ends.weight) for low in ends.least])
     for n in PLACES:
         say(["decay entry %d: %d" % (n, int(2**32 * (-Decimal(n) / 16).exp()))])
 

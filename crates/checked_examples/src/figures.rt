@@ -20,7 +20,7 @@ fn print_maturity(months: u64) {
     print_value(ratings::maturity_fifths(months));
 }
 
-// Writes the raw weight of the formula.
+// Writes the raw weight of the formula, its low number and its high one.
 fn print_raw_weight(a: u64, d: u64, k: u64, p: u64) {
     print_labelled(b"raw weight at A ", a);
     print_labelled(b" D ", d);
@@ -28,7 +28,11 @@ fn print_raw_weight(a: u64, d: u64, k: u64, p: u64) {
     print_labelled(b" p ", p);
     let raw = formula::raw_weight(a, d, k, p);
     match raw {
-        RawWeight::Weight(w) => print_value(w),
+        RawWeight::Weight(e) => {
+            print_labelled(b": ", e.low);
+            print_labelled(b" to ", e.high);
+            io::write_all(STDOUT_FILENO, b"\n");
+        }
         RawWeight::NoThickness => {
             io::write_all(STDOUT_FILENO, b": no thickness\n");
         }
@@ -54,7 +58,7 @@ fn print_maturities() {
     print_maturity(1200); // 4,812, held at 300
 }
 
-// Writes raw weights that the rules settle: 125,000 where D is not above K, 0 where K is 0.
+// Writes raw weights that the rules settle: 125,000 where D is not above K, 0 where K is 0, both numbers alike.
 fn print_settled_weights() {
     // A = D = K: D is not above K; misread: divides by zero.
     print_raw_weight(100000, 100000, 100000, 1000000);
@@ -68,7 +72,8 @@ fn print_settled_weights() {
     print_raw_weight(0, 1, 0, 1500000);
 }
 
-// Writes raw weights of the open cases that 01 names and of published examples: the exact value, rounded up, is the lower of the two that pass.
+// Writes raw weights of the open cases that 01 names and of published examples: the exact value, rounded up, is the lower of the two that pass above. From below the exact value
+// rounded down passes, and where the value is less than a half above that, so does one less.
 fn print_published_weights() {
     // About 79015.069853; 79,016 or 79,017 passes. 125,000 × (1 - e^(-1)); misread (e^(-u/s) as 0): 125,000.
     print_raw_weight(100000, 200000, 100000, 1000000);

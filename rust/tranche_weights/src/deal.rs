@@ -90,8 +90,9 @@ pub struct Line {
     /// - by a rating table the exact figure rounded down. Of several ratings the exact figures are compared: of two the
     ///   higher counts, of three the middle one.
     ///
-    /// So it is never above the weight, under the formula at most 3 below it, and by a rating table at most 1. In the
-    /// fallback, which has neither floor nor cap, both are 125,000.
+    /// So it is never above the weight, under the formula at most 2 below it, both being worked out together (the rules
+    /// alone would allow 3), and by a rating table at most 1. In the fallback, which has neither floor nor cap, both are
+    /// 125,000.
     ///
     /// No amount comes from it: risk-weighted amount and capital come from the weight.
     pub least_weight: u64,

@@ -318,12 +318,12 @@ fn a_built_sheet_is_refused_by_13_alone() -> Result<(), SheetError> {
 }
 
 /// How far below the weight a least weight can lie, by the approach: both are the fallback's; a table's figure is rounded
-/// up and down; the formula's weight is less than 2 above the exact value, and its least weight less than 1.5 below.
+/// up and down; the formula's two numbers are worked out together, at most 2 apart.
 fn farthest(approach: Approach) -> u64 {
     match approach {
         Approach::Fallback => 0,
         Approach::SecErba => 1,
-        _ => 3,
+        _ => 2,
     }
 }
 

@@ -6,7 +6,7 @@ use borrow.Author.Needs.{needs}
 use Rattle.deal.specs.Lines.{tranche, line}
 use Rattle.weights.specs.declared.Tranche.{Tranche}
 use Rattle.judgement.proofs.SheetLimits.{good-tranche}
-use Rattle.weights.proofs.WeightLaws.{weight-at-most}
+use Rattle.weights.proofs.WeightLaws.{weight-at-most, weight-within}
 use Rattle.deal.proofs.lines.line_of.Statement.{statement}
 use Rattle.deal.proofs.lines.line_of.Tie as tie
 
@@ -19,23 +19,27 @@ weight-requires c κs = search needs
 approach-requires : tie.Need-approach-requires
 approach-requires c κs = search needs
 
--- what is held is at most the tranche's amount, and the weight is at most 125,000
+-- what is held is at most the tranche's amount, and neither end of the weight is above 125,000
 within :
     (c : tie.After-weight) →
-    (c .before .tranche-of .result .held ≤ 10000000000000) × (c .weight .result .high ≤ 125000)
+    (c .before .tranche-of .result .held ≤ 10000000000000) × (c .weight .result .low ≤ 125000) × (c .weight .result .high ≤ 125000)
 unfolding tranche
 within c =
     let start = c .before .before .before in
-    let limits = good-tranche (start .args .s .now) (start .args .i) (start .pre .0 .good) (start .pre .3) in (
+    let limits = good-tranche (start .args .s .now) (start .args .i) (start .pre .0 .good) (start .pre .3) in
+    let t = c .before .tranche-of .result in
+    let ends = weight-within t (start .args .d) in
+    let most = weight-at-most t (start .args .d) in (
       omega (arith, ap (λ (t : Tranche). t .held) (c .before .tranche-of .ensures), limits),
-      rw (c .weight .ensures .0) (weight-at-most _ _),
+      rw (c .weight .ensures .0) (omega (arith, ends .ordered, most)),
+      rw (c .weight .ensures .0) most,
     )
 
 risk-weighted-amount-requires : tie.Need-risk-weighted-amount-requires
-risk-weighted-amount-requires c κs = within (c .before)
+risk-weighted-amount-requires c κs = omega (arith, within (c .before))
 
 capital-requires : tie.Need-capital-requires
-capital-requires c κs = within (c .before .before)
+capital-requires c κs = omega (arith, within (c .before .before))
 
 returns : tie.Need-returns
 unfolding line
