@@ -16,13 +16,16 @@ pub struct Deal {
 
 /// One tranche's line. Approach is 0 for the fallback, 1 for SEC-ERBA, 2 for SEC-SA, 3 for SEC-IRBA. Attachment and
 /// detachment are A and D in millionths. `amounts` lists every triple that the papers admit, in rising order of
-/// weight: one triple, or two where two raw weights pass and still differ after floor and cap.
+/// weight: one triple, or two where two raw weights pass and still differ after floor and cap. `least_weights` lists
+/// every least weight that S-6 admits, in rising order: one, or two where two numbers pass and still differ after floor
+/// and cap. Each triple may stand with each least weight, and none of these is above its weight.
 #[derive(Debug, Clone, PartialEq, Eq)]
 pub struct Line {
     pub approach: u64,
     pub attachment: u64,
     pub detachment: u64,
     pub amounts: Vec<Amounts>,
+    pub least_weights: Vec<u64>,
 }
 
 /// The weight in hundredths of a percent, and the two amounts that follow from it and the amount held.

@@ -1,9 +1,9 @@
-//! "Which approach, then floor, then cap" of document 01, with the STC deals of S-1 and SEC-IRBA of S-5. Weights are in
-//! hundredths of a percent.
+//! "Which approach, then floor, then cap" of document 01, with the STC deals of S-1, SEC-IRBA of S-5 and the least weight
+//! of S-6. Weights are in hundredths of a percent.
 
 use crate::answer::{Amounts, Line, Refusal};
 use crate::charge::{average_risk_weight_times, pool_charge, to_word, Points};
-use crate::formula::{raw_weights, Terms, HIGHEST_WEIGHT};
+use crate::formula::{raw_weights, Admitted, Terms, HIGHEST_WEIGHT};
 use crate::irba;
 use crate::rating::{self, Table};
 use crate::sheet::{Facts, Irb, Row, Sheet, Tranche};
@@ -166,42 +166,60 @@ pub fn parameter(figures: &Figures, tranche: &Tranche) -> u64 {
     }
 }
 
-/// The weight that a raw weight of a tranche gives: raised to the floor of its class, then lowered to the cap.
+/// What a number gives that a weight or a least weight of a tranche starts from: raised to the floor of its class, then
+/// lowered to the cap.
 pub fn limited(figures: &Figures, tranche: &Tranche, raw: u64) -> u64 {
     let floor = DealKind::of(figures.facts).floor(tranche.class);
     floor_then_cap(raw, floor, cap(figures, tranche))
 }
 
-/// A tranche's line. The fallback is 125,000, without floor and cap. The other approaches give their raw weights, each of
-/// which is raised to the floor, then lowered to the cap. The raw weights rise, and floor and cap keep that order, so
-/// equal weights stand side by side and one of them is dropped.
-pub fn line(figures: &Figures, tranche: &Tranche, approach: Approach, points: Points) -> Line {
-    let Points { attachment, detachment } = points;
-    let limited = |raw: Vec<u64>| raw.into_iter().map(|raw| limited(figures, tranche, raw)).collect();
-    let mut weights: Vec<u64> = match approach {
-        Approach::Fallback => vec![HIGHEST_WEIGHT],
-        Approach::SecErba => limited(vec![rating::weight(
-            Table::of(figures.facts.stc),
-            tranche,
-            detachment - attachment,
-        )]),
-        Approach::SecSa | Approach::SecIrba => limited(raw_weights(&Terms {
+/// What the rating table of the deal gives a tranche, before floor and cap.
+fn by_table(figures: &Figures, tranche: &Tranche, thickness: u64) -> Admitted {
+    let table = Table::of(figures.facts.stc);
+    Admitted {
+        weights: vec![rating::weight(table, tranche, thickness)],
+        least_weights: vec![rating::least_weight(table, tranche, thickness)],
+    }
+}
+
+/// Raises each of some numbers to the floor, then lowers it to the cap. The numbers rise, and floor and cap keep that
+/// order, so equal ones stand side by side then and one of them is dropped.
+fn limit_all(figures: &Figures, tranche: &Tranche, numbers: &mut Vec<u64>) {
+    for number in numbers.iter_mut() {
+        *number = limited(figures, tranche, *number);
+    }
+    numbers.dedup();
+}
+
+/// The weights and least weights that the papers admit. Both are 125,000 under the fallback, without floor and cap. Under
+/// the other approaches floor and cap act on each number that the approach admits.
+fn admitted(figures: &Figures, tranche: &Tranche, approach: Approach, points: &Points) -> Admitted {
+    let &Points { attachment, detachment } = points;
+    let mut numbers = match approach {
+        Approach::Fallback => return Admitted::both(HIGHEST_WEIGHT),
+        Approach::SecErba => by_table(figures, tranche, detachment - attachment),
+        Approach::SecSa | Approach::SecIrba => raw_weights(&Terms {
             charge: figures.charge,
             attachment,
             detachment,
             parameter: parameter(figures, tranche),
-        })),
+        }),
     };
-    weights.dedup();
-    let amounts = weights
-        .into_iter()
-        .map(|weight| amounts(tranche.held, weight))
-        .collect();
+    limit_all(figures, tranche, &mut numbers.weights);
+    limit_all(figures, tranche, &mut numbers.least_weights);
+    numbers
+}
+
+/// A tranche's line. Each admitted weight has its own amounts; the least weight has none.
+pub fn line(figures: &Figures, tranche: &Tranche, approach: Approach, points: Points) -> Line {
+    let Admitted { weights, least_weights } = admitted(figures, tranche, approach, &points);
+    let amounts = weights.into_iter().map(|weight| amounts(tranche.held, weight));
     Line {
         approach: approach as u64,
-        attachment,
-        detachment,
-        amounts,
+        attachment: points.attachment,
+        detachment: points.detachment,
+        amounts: amounts.collect(),
+        least_weights,
     }
 }
 

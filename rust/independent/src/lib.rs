@@ -1,5 +1,5 @@
-//! Exact tranche weights: the crate follows document 01 (the scope paper), requests S-1 to S-3 and S-5 of document 02
-//! (the paper of later requests) and the rating figures of source document 001 alone, and shares nothing with the
+//! Exact tranche weights: the crate follows document 01 (the scope paper), requests S-1 to S-3, S-5 and S-6 of document
+//! 02 (the paper of later requests) and the rating figures of source document 001 alone, and shares nothing with the
 //! proved code.
 //!
 //! Nothing is rounded but where the papers name a rounding. Sums and products are whole numbers of 128 bits, where

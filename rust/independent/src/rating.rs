@@ -1,5 +1,5 @@
-//! "The rating table" of document 01, with the second table of S-1 and the several ratings of S-2. Table figures are in
-//! percent, weights in hundredths of a percent.
+//! "The rating table" of document 01, with the second table of S-1, the several ratings of S-2 and the least weight of
+//! S-6. Table figures are in percent, weights in hundredths of a percent.
 
 use crate::charge::{to_word, WHOLE};
 use crate::sheet::Tranche;
@@ -81,17 +81,50 @@ pub const ONE_YEAR: u64 = 60;
 /// Five years in fifths of a month.
 const FIVE_YEARS: u64 = 300;
 
+/// The parts of a hundredth of a percent in which every exact weight is whole: 240 from the line between the two
+/// maturities, and 10^6 from the thickness.
+const PARTS: u128 = (FIVE_YEARS - ONE_YEAR) as u128 * WHOLE;
+
+/// The exact weight by one rating, in those parts.
+#[derive(Debug, Clone, Copy, PartialEq, Eq, PartialOrd, Ord)]
+struct Exact(u128);
+
+impl Exact {
+    /// The least whole number of hundredths that is not below the weight.
+    fn rounded_up(self) -> u64 {
+        to_word(self.0.div_ceil(PARTS))
+    }
+
+    /// The largest whole number of hundredths that is not above the weight.
+    fn rounded_down(self) -> u64 {
+        to_word(self.0 / PARTS)
+    }
+}
+
 /// The weight of a rated tranche whose thickness D - A is given in millionths. The weight by each rating is worked out in
-/// full before they are compared. Rating code 0 is no rating.
+/// full, rounded up, before they are compared.
 pub fn weight(table: &Table, tranche: &Tranche, thickness: u64) -> u64 {
+    let exact = exact_weights(table, tranche, thickness);
+    that_counts(exact.into_iter().map(Exact::rounded_up).collect())
+}
+
+/// The number from which the least weight of such a tranche starts. The exact weights are compared, and the one that
+/// counts is rounded down.
+pub fn least_weight(table: &Table, tranche: &Tranche, thickness: u64) -> u64 {
+    that_counts(exact_weights(table, tranche, thickness)).rounded_down()
+}
+
+/// The exact weight by each rating of a tranche. Rating code 0 is no rating.
+fn exact_weights(table: &Table, tranche: &Tranche, thickness: u64) -> Vec<Exact> {
     let rated = tranche.ratings.iter().filter(|&&code| code != 0);
-    let weights = rated.map(|&code| grade_weight(table, code, tranche.class == 1, tranche.months, thickness));
-    weight_that_counts(weights.collect())
+    rated
+        .map(|&code| exact_weight(table, code, tranche.class == 1, tranche.months, thickness))
+        .collect()
 }
 
 /// Which of the weights by one, two or three ratings counts. One is on its own; of two the higher counts; of three the
 /// two lowest are picked, and the higher of these counts.
-fn weight_that_counts(mut weights: Vec<u64>) -> u64 {
+fn that_counts<W: Ord + Copy>(mut weights: Vec<W>) -> W {
     weights.sort_unstable();
     match weights[..] {
         [only] => only,
@@ -106,15 +139,12 @@ pub fn maturity(months: u64) -> u64 {
     (4 * months + 12).clamp(ONE_YEAR, FIVE_YEARS)
 }
 
-/// The weight of one rating. Short-term grades are unadjusted. A senior tranche takes the senior figure. A non-senior
-/// one takes its own figure times (1 - min(D - A, one half)), then, where the table compares them, no lower than the
-/// senior figure.
-///
-/// To round up once only, both figures are kept as whole numbers over a common divisor: 240 from the line between the
-/// two maturities, and 10^6 from the thickness.
-fn grade_weight(table: &Table, code: u64, senior: bool, months: u64, thickness: u64) -> u64 {
+/// The exact weight by one rating. Short-term grades are unadjusted. A senior tranche takes the senior figure. A
+/// non-senior one takes its own figure times (1 - min(D - A, one half)), then, where the table compares them, no lower
+/// than the senior figure.
+fn exact_weight(table: &Table, code: u64, senior: bool, months: u64, thickness: u64) -> Exact {
     if code > 18 {
-        return 100 * table.short_term[code as usize - 21];
+        return Exact(100 * u128::from(table.short_term[code as usize - 21]) * PARTS);
     }
     let [senior_one, senior_five, junior_one, junior_five] = table.long_term[code as usize - 1];
     let senior_figure = between(senior_one, senior_five, months) * WHOLE;
@@ -125,7 +155,7 @@ fn grade_weight(table: &Table, code: u64, senior: bool, months: u64, thickness: 
         (false, true) => junior_figure.max(senior_figure),
         (false, false) => junior_figure,
     };
-    to_word((100 * figure).div_ceil(u128::from(FIVE_YEARS - ONE_YEAR) * WHOLE))
+    Exact(100 * figure)
 }
 
 /// 240 times the figure at the tranche's maturity, on the straight line from `one_year` at 60 to `five_years` at 300.
@@ -144,6 +174,17 @@ mod tests {
     fn maturity_in_fifths() {
         let months = [1, 12, 13, 36, 71, 72, 73, 1200];
         assert_eq!(months.map(maturity), [60, 60, 64, 156, 296, 300, 300, 300]);
+    }
+
+    /// The exact weight by one rating, rounded up and rounded down.
+    fn both_ways(table: &Table, code: u64, senior: bool, months: u64, thickness: u64) -> [u64; 2] {
+        let exact = exact_weight(table, code, senior, months, thickness);
+        [exact.rounded_up(), exact.rounded_down()]
+    }
+
+    /// The weight by one rating.
+    fn grade_weight(table: &Table, code: u64, senior: bool, months: u64, thickness: u64) -> u64 {
+        exact_weight(table, code, senior, months, thickness).rounded_up()
     }
 
     /// Checked deal: senior AA, 36 months: 3,100. A senior tranche's thickness does not count.
@@ -188,25 +229,83 @@ mod tests {
         assert_eq!(grade_weight(&STC, 12, false, 72, 1_000_000), 32_750);
     }
 
-    /// Short-term grades take no adjustment.
+    /// Short-term grades take no adjustment, and their weights are whole.
     #[test]
     fn short_term_is_unadjusted() {
-        let short_term = |table| [21, 22, 23, 24].map(|code| grade_weight(table, code, false, 72, 500_000));
-        assert_eq!(short_term(&GENERAL), [1_500, 5_000, 10_000, 125_000]);
-        assert_eq!(short_term(&STC), [1_000, 3_000, 6_000, 125_000]);
+        let short_term = |table| [21, 22, 23, 24].map(|code| both_ways(table, code, false, 72, 500_000));
+        assert_eq!(
+            short_term(&GENERAL),
+            [1_500, 5_000, 10_000, 125_000].map(|weight| [weight; 2])
+        );
+        assert_eq!(
+            short_term(&STC),
+            [1_000, 3_000, 6_000, 125_000].map(|weight| [weight; 2])
+        );
     }
 
-    /// The weight of a tranche of 72 months without thickness that has these ratings.
-    fn rated(table: &Table, class: u64, ratings: [u64; 3]) -> u64 {
-        let tranche = Tranche {
+    /// An exact weight is rounded down and up, and stays where it is whole: senior AA has 25% + 15% x 1/60 = 25.25% at 13
+    /// months, and AA+ 15% + 15% x 1/60 = 15.25%; AAA 15% + 5% x 1/60 = 15.0833%, and at 15 months 15.25%. Non-senior BB
+    /// of 72 months has 760% x 0.999999 = 759.99924%, and 760% without thickness.
+    #[test]
+    fn rounded_both_ways() {
+        assert_eq!(both_ways(&GENERAL, 3, true, 13, 0), [2_525; 2]);
+        assert_eq!(both_ways(&GENERAL, 2, true, 13, 0), [1_525; 2]);
+        assert_eq!(both_ways(&GENERAL, 1, true, 13, 0), [1_509, 1_508]);
+        assert_eq!(both_ways(&GENERAL, 1, true, 15, 0), [1_525; 2]);
+        assert_eq!(both_ways(&GENERAL, 12, false, 72, 1), [76_000, 75_999]);
+        assert_eq!(both_ways(&GENERAL, 12, false, 72, 0), [76_000; 2]);
+        assert_eq!(both_ways(&STC, 3, false, 13, 100_000), [1_433, 1_432]);
+    }
+
+    /// A tranche of 72 months that has these ratings.
+    fn tranche(class: u64, ratings: [u64; 3]) -> Tranche {
+        Tranche {
             amount: 1,
             class,
             months: 72,
             held: 1,
             ratings,
             place: 0,
+        }
+    }
+
+    /// The weight of such a tranche without thickness.
+    fn rated(table: &Table, class: u64, ratings: [u64; 3]) -> u64 {
+        weight(table, &tranche(class, ratings), 0)
+    }
+
+    /// Of several ratings the exact weights are compared. Non-senior AAA, 285,715 millionths thick, is 70% x 0.714285 =
+    /// 49.99995%, and the short-term grade 22 is 50%: both weigh 5,000, and the least weight is that of the higher, of
+    /// two and of the two lowest of three, in any order. Of three with a lower one, AAA is the higher of the two lowest.
+    #[test]
+    fn exact_weights_are_compared() {
+        let both = |table, ratings| {
+            let tranche = tranche(2, ratings);
+            [weight, least_weight].map(|worked: fn(&Table, &Tranche, u64) -> u64| worked(table, &tranche, 285_715))
         };
-        weight(table, &tranche, 0)
+        assert_eq!(
+            [1, 22].map(|code| both(&GENERAL, [code, 0, 0])),
+            [[5_000, 4_999], [5_000; 2]]
+        );
+        for ratings in [[1, 22, 0], [22, 1, 0], [0, 1, 22], [22, 0, 1]] {
+            assert_eq!(both(&GENERAL, ratings), [5_000; 2], "{ratings:?}");
+        }
+        for ratings in [[1, 22, 23], [22, 1, 23], [23, 1, 22], [22, 23, 1]] {
+            assert_eq!(both(&GENERAL, ratings), [5_000; 2], "{ratings:?}");
+        }
+        for ratings in [
+            [1, 22, 21],
+            [22, 1, 21],
+            [21, 1, 22],
+            [22, 21, 1],
+            [1, 1, 22],
+            [1, 22, 1],
+        ] {
+            assert_eq!(both(&GENERAL, ratings), [5_000, 4_999], "{ratings:?}");
+        }
+        // In an STC deal AAA is 40% x 0.714285 = 28.5714%, and the grade 22 is 30%.
+        assert_eq!(both(&STC, [1, 22, 0]), [3_000; 2]);
+        assert_eq!(both(&STC, [1, 22, 21]), [2_858, 2_857]);
     }
 
     /// One rating counts in any of the words; of two the higher weight counts, whichever word has none.

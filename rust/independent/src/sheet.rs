@@ -65,8 +65,8 @@ const WORD_BYTES: usize = 8;
 /// The most bytes a file may have: the most facts, rows and tranches, the IRB section, and the four counts.
 pub const FILE_BYTES: usize =
     WORD_BYTES * (1 + FACTS_MOST + 1 + ROWS_MOST * ROW_WORDS + 1 + TRANCHES_MOST * TRANCHE_WORDS + 1 + IRB_WORDS);
-/// How many result words a tranche takes.
-pub const LINE_WORDS: usize = 6;
+/// How many result words a tranche takes: approach, A, D, weight, risk-weighted amount, capital, least weight.
+pub const LINE_WORDS: usize = 7;
 /// The largest amount of a pool row.
 const POOL_AMOUNT_MOST: u64 = 10_000_000_000;
 /// The highest risk weight.

@@ -1,5 +1,5 @@
 //! The checked deals and the misreadings of document 01, the STC deals of S-1, several ratings by S-2, maturities as
-//! dates by S-3, and the largest deal, as whole sheets. The deals of S-5 stand apart.
+//! dates by S-3, and the largest deal, as whole sheets. The deals of S-5 stand apart, and so do floor and cap of S-6.
 
 mod common;
 
@@ -35,12 +35,27 @@ fn weights(line: &Line) -> Vec<u64> {
     line.amounts.iter().map(|amounts| amounts.weight).collect()
 }
 
-/// The approach, A, D and the weights of each line.
-fn summary(deal: &Deal) -> Vec<(u64, u64, u64, Vec<u64>)> {
-    deal.lines
-        .iter()
-        .map(|line| (line.approach, line.attachment, line.detachment, weights(line)))
-        .collect()
+/// The approach, A, D, the weights and the least weights of a line.
+type Summary = (u64, u64, u64, Vec<u64>, Vec<u64>);
+
+/// The summary of each line.
+fn summary(deal: &Deal) -> Vec<Summary> {
+    let of_line = |line: &Line| {
+        let least_weights = line.least_weights.clone();
+        (
+            line.approach,
+            line.attachment,
+            line.detachment,
+            weights(line),
+            least_weights,
+        )
+    };
+    deal.lines.iter().map(of_line).collect()
+}
+
+/// The summary of a line whose weight is not open, and its least weight too.
+fn closed(approach: u64, attachment: u64, detachment: u64, weight: u64) -> Summary {
+    (approach, attachment, detachment, vec![weight], vec![weight])
 }
 
 /// Checked deal: the whole report of the sample sheet, read as a file, with its totals.
@@ -61,6 +76,7 @@ fn sample_sheet() {
             attachment,
             detachment,
             amounts,
+            least_weights: vec![weight],
         }
     };
     let lines = vec![
@@ -85,7 +101,7 @@ fn rated_tranches() {
     );
     assert_eq!(
         summary(&deal),
-        [(1, 500_000, 1_000_000, vec![3_100]), (1, 0, 500_000, vec![4_000])]
+        [closed(1, 500_000, 1_000_000, 3_100), closed(1, 0, 500_000, 4_000)]
     );
 }
 
@@ -139,10 +155,11 @@ fn unknown_rows() {
     assert_eq!((within.charge, within.lines[0].approach), (126_000, 2));
     // 31,500 x (e^(-374/126) - e^(-874/126)) = 1,588.3
     assert_eq!(weights(&within.lines[0]), [1_589, 1_590]);
-    let rated = (1, 0, 500_000, vec![15_500]);
+    assert_eq!(within.lines[0].least_weights, [1_587, 1_588]);
+    let rated = closed(1, 0, 500_000, 15_500);
     assert_eq!(
         (above.charge, summary(&above)),
-        (1_000_000, vec![(0, 500_000, 1_000_000, vec![125_000]), rated])
+        (1_000_000, vec![closed(0, 500_000, 1_000_000, 125_000), rated])
     );
 }
 
@@ -153,15 +170,15 @@ fn charge_zero() {
     let tranches = [tranche(500, 1, 72, 0), tranche(500, 2, 72, 0), tranche(1, 3, 72, 0)];
     let deal = weighed(ORDINARY, &pool_at(0), &tranches);
     let lines = [
-        (2, 500_000, 1_000_000, vec![0]),
-        (2, 0, 500_000, vec![1_500]),
-        (2, 0, 0, vec![125_000]),
+        closed(2, 500_000, 1_000_000, 0),
+        closed(2, 0, 500_000, 1_500),
+        closed(2, 0, 0, 125_000),
     ];
     assert_eq!((deal.charge, summary(&deal)), (0, lines.to_vec()));
 }
 
 /// Checked deals: D = K gives 125,000; K = A = 100,000 and D = 200,000 give 79,016 or 79,017, where e^(-u/s) taken as 0
-/// would give 125,000. Each weight has its own amounts.
+/// would give 125,000. The value is 79,015.07. Each weight has its own amounts.
 #[test]
 fn formula_at_the_charge() {
     let tranches = [tranche(800, 1, 72, 0), tranche(100, 2, 72, 0), tranche(100, 3, 72, 0)];
@@ -170,8 +187,8 @@ fn formula_at_the_charge() {
     assert_eq!(
         summary(&deal)[1..],
         [
-            (2, 100_000, 200_000, vec![79_016, 79_017]),
-            (2, 0, 100_000, vec![125_000])
+            (2, 100_000, 200_000, vec![79_016, 79_017], vec![79_014, 79_015]),
+            closed(2, 0, 100_000, 125_000)
         ]
     );
     let mut held_more = tranches;
@@ -191,7 +208,7 @@ fn formula_at_the_charge() {
     assert_eq!(weighed(ORDINARY, &pool, &held_more).lines[1].amounts, two);
 }
 
-/// Checked deal: K = 100,000, A = 50,000 and D = 150,000 give 111,684 or 111,685.
+/// Checked deal: K = 100,000, A = 50,000 and D = 150,000 give 111,684 or 111,685. The value is 111,683.67.
 #[test]
 fn formula_across_the_charge() {
     let tranches = [tranche(850, 1, 72, 0), tranche(100, 2, 72, 0), tranche(50, 3, 72, 0)];
@@ -199,8 +216,8 @@ fn formula_across_the_charge() {
     assert_eq!(
         summary(&deal)[1..],
         [
-            (2, 50_000, 150_000, vec![111_684, 111_685]),
-            (2, 0, 50_000, vec![125_000])
+            (2, 50_000, 150_000, vec![111_684, 111_685], vec![111_683]),
+            closed(2, 0, 50_000, 125_000)
         ]
     );
 }
@@ -212,9 +229,10 @@ fn resecuritisation() {
     let tranches = [tranche(800, 1, 72, 1), tranche(100, 2, 72, 24), tranche(100, 3, 72, 0)];
     let deal = weighed(RESECURITISATION, &[[1_000, 1_000, 125, 3]], &tranches);
     assert_eq!(deal.charge, 100_000);
-    assert_eq!(summary(&deal)[1], (2, 100_000, 200_000, vec![91_235, 91_236]));
+    let open = (2, 100_000, 200_000, vec![91_235, 91_236], vec![91_233, 91_234]);
+    assert_eq!(summary(&deal)[1], open);
     let low_charge = weighed(RESECURITISATION, &[[1_000, 1_000, 1, 3]], &tranches);
-    assert_eq!(summary(&low_charge)[0], (2, 200_000, 1_000_000, vec![10_000]));
+    assert_eq!(summary(&low_charge)[0], closed(2, 200_000, 1_000_000, 10_000));
 }
 
 /// A fifth fact of 0 changes nothing, in an ordinary deal and in a re-securitisation.
@@ -237,9 +255,9 @@ fn stc_parameter() {
     let tranches = [tranche(800, 1, 72, 0), tranche(100, 2, 72, 0), tranche(100, 3, 72, 0)];
     let deal = weighed(STC, &pool_at(125), &tranches);
     let lines = [
-        (2, 200_000, 1_000_000, vec![1_058, 1_059]),
-        (2, 100_000, 200_000, vec![54_042, 54_043]),
-        (2, 0, 100_000, vec![125_000]),
+        (2, 200_000, 1_000_000, vec![1_058, 1_059], vec![1_056, 1_057]),
+        (2, 100_000, 200_000, vec![54_042, 54_043], vec![54_041]),
+        closed(2, 0, 100_000, 125_000),
     ];
     assert_eq!((deal.charge, summary(&deal)), (100_000, lines.to_vec()));
 }
@@ -329,10 +347,10 @@ fn stc_non_senior_below_senior() {
 fn stc_fallback() {
     let tranches = [tranche(900, 1, 72, 1), tranche(100, 2, 72, 0)];
     let without = weighed(&[0, 0, 0, 1, 1], &pool_at(100), &tranches);
-    let lines = [(0, 100_000, 1_000_000, vec![125_000]), (0, 0, 100_000, vec![125_000])];
+    let lines = [closed(0, 100_000, 1_000_000, 125_000), closed(0, 0, 100_000, 125_000)];
     assert_eq!(summary(&without), lines);
     let unknown = weighed(STC, &[[949, 949, 100, 0], [51, 51, 100, 2]], &tranches);
-    let rated = (1, 100_000, 1_000_000, vec![1_000]);
+    let rated = closed(1, 100_000, 1_000_000, 1_000);
     assert_eq!(summary(&unknown), [rated, lines[1].clone()]);
 }
 
@@ -340,7 +358,7 @@ fn stc_fallback() {
 #[test]
 fn no_due_diligence() {
     let tranches = [tranche(900, 1, 72, 1), tranche(100, 2, 72, 0)];
-    let lines = [(0, 100_000, 1_000_000, vec![125_000]), (0, 0, 100_000, vec![125_000])];
+    let lines = [closed(0, 100_000, 1_000_000, 125_000), closed(0, 0, 100_000, 125_000)];
     for (resecuritisation, status) in [(0, 0), (1, 3)] {
         let deal = weighed(&[0, resecuritisation, 0, 1], &[[1_000, 1_000, 10, status]], &tranches);
         assert_eq!((deal.charge, summary(&deal)), (8_000, lines.to_vec()));
@@ -357,8 +375,8 @@ fn pari_passu_and_equal_weights() {
         tranche(400, 3, 72, 0),
     ];
     let deal = weighed(&[0, 0, 1, 0], &pool_at(100), &tranches);
-    assert_eq!(summary(&deal)[0], (2, 800_000, 1_000_000, vec![1_500]));
-    assert_eq!(summary(&deal)[1], (2, 400_000, 800_000, vec![1_500]));
+    assert_eq!(summary(&deal)[0], closed(2, 800_000, 1_000_000, 1_500));
+    assert_eq!(summary(&deal)[1], closed(2, 400_000, 800_000, 1_500));
     assert_eq!(summary(&deal)[2], summary(&deal)[1]);
 }
 
@@ -479,6 +497,7 @@ fn largest_amounts() {
         .lines
         .iter()
         .all(|line| line.approach == Approach::SecIrba as u64 && line.attachment == 0 && line.amounts == [amounts]));
+    assert!(deal.lines.iter().all(|line| line.least_weights == [125_000]));
     assert!(deal
         .lines
         .iter()
@@ -486,8 +505,8 @@ fn largest_amounts() {
         .all(|(i, line)| line.detachment == if i == 0 { 1_000_000 } else { 0 }));
 }
 
-/// The largest deal once more, cut into equal slices that all go through the formula: weights rise toward the most
-/// junior slice, and every slice above the charge admits two neighbours, one only at 125,000.
+/// The largest deal once more, cut into equal slices that all go through the formula: weights and least weights rise
+/// toward the most junior slice, and every slice above the charge admits two neighbours, one only at 125,000.
 #[test]
 fn largest_deal_in_slices() {
     let most = 10_000_000_000;
@@ -499,8 +518,9 @@ fn largest_deal_in_slices() {
     let deal = weighed(&[0, 0, 1, 0], &pool, &tranches);
     assert_eq!(deal.charge, 16_000);
     let all: Vec<Vec<u64>> = deal.lines.iter().map(weights).collect();
-    assert!(all.windows(2).all(|pair| pair[0] <= pair[1]));
-    assert_eq!(all[0], [1_500]);
+    assert!(all.is_sorted());
+    assert!(deal.lines.iter().map(|line| &line.least_weights).is_sorted());
+    assert_eq!((&all[0], &deal.lines[0].least_weights), (&vec![1_500], &vec![1_500]));
     assert!(all[30].len() == 2 && all[30][1] == all[30][0] + 1);
     assert_eq!((deal.lines[31].attachment, deal.lines[31].detachment), (0, 31_250));
 }

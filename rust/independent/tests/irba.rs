@@ -4,7 +4,7 @@
 mod common;
 
 use common::{file, room, sheet, sheet_with, Facts, Irb, Row, Tranche};
-use independent::formula::{raw_weights, Terms};
+use independent::formula::{raw_weights, Admitted, Terms};
 use independent::{weigh, weigh_file, Deal, Line};
 
 /// Facts of an IRB pool's deal with due diligence, whose composition is not known, so that no cap holds.
@@ -43,28 +43,33 @@ fn weighed(irb: Irb, facts: Facts, pool: &[Row], tranches: &[Tranche]) -> Deal {
     weigh_file(&file, room(tranches.len())).expect("an accepted file")
 }
 
-/// The weights that a line admits.
-fn weights(line: &Line) -> Vec<u64> {
-    line.amounts.iter().map(|amounts| amounts.weight).collect()
+/// The weights and the least weights that a line admits.
+fn admitted(line: &Line) -> Admitted {
+    Admitted {
+        weights: line.amounts.iter().map(|amounts| amounts.weight).collect(),
+        least_weights: line.least_weights.clone(),
+    }
 }
 
-/// The approach and the weights of each line.
-fn summary(deal: &Deal) -> Vec<(u64, Vec<u64>)> {
-    deal.lines.iter().map(|line| (line.approach, weights(line))).collect()
+/// What each line of a deal under SEC-IRBA admits.
+fn all_admitted(deal: &Deal) -> Vec<Admitted> {
+    assert!(deal.lines.iter().all(|line| line.approach == 3));
+    deal.lines.iter().map(admitted).collect()
 }
 
-/// The lines of an example's tranches, senior first, each of a class of its own, with these amounts and months.
-fn example(irb: Irb, amounts: &[u64], months: u64) -> Vec<(u64, Vec<u64>)> {
+/// What the lines of an example's tranches admit, senior first, each of a class of its own, with these amounts and
+/// months.
+fn example(irb: Irb, amounts: &[u64], months: u64) -> Vec<Admitted> {
     let classes = (1..).zip(amounts);
     let tranches: Vec<Tranche> = classes.map(|(class, &amount)| tranche(amount, class, months)).collect();
-    summary(&weighed(irb, IRB, POOL, &tranches))
+    all_admitted(&weighed(irb, IRB, POOL, &tranches))
 }
 
 /// That a published weight, at a final legal maturity of 34.5 months, lies between those at 34 and 35.
-fn lies_between(published: u64, at: impl Fn(u64) -> Vec<u64>) {
+fn lies_between(published: u64, at: impl Fn(u64) -> Admitted) {
     let [earlier, later] = [34, 35].map(at);
     assert!(
-        earlier[1] < published && published < later[0],
+        earlier.weights[1] < published && published < later.least_weights[0],
         "{earlier:?} {published} {later:?}"
     );
 }
@@ -80,12 +85,17 @@ fn published_example_a() {
         detachment: 1_000_000,
         parameter: 300_000,
     };
-    assert_eq!(raw_weights(&least), [2_878, 2_879]);
+    // 11,378.6 x (e^(-0.0876 / 0.06372) - e^(-0.7876 / 0.06372)) = 2,877.58
+    let senior = Admitted {
+        weights: vec![2_878, 2_879],
+        least_weights: vec![2_877],
+    };
+    assert_eq!(raw_weights(&least), senior);
     for months in [34, 35] {
         let lines = at(months);
-        assert_eq!([&lines[0], &lines[2]], [&(3, vec![2_878, 2_879]), &(3, vec![125_000])]);
+        assert_eq!([&lines[0], &lines[2]], [&senior, &Admitted::both(125_000)]);
     }
-    lies_between(105_694, |months| at(months)[1].1.clone());
+    lies_between(105_694, |months| at(months)[1].clone());
 }
 
 /// Published example B, each component as a sheet of its own: component (i) has 56.58%, the second loss, detached at
@@ -93,15 +103,14 @@ fn published_example_a() {
 #[test]
 fn published_example_b() {
     lies_between(5_658, |months| {
-        example(wholesale(70_000, 450_000, 100), &[950_000, 50_000], months)[0]
-            .1
-            .clone()
+        example(wholesale(70_000, 450_000, 100), &[950_000, 50_000], months)[0].clone()
     });
     let dilution = |amounts: &[u64], months| example(wholesale(142_400, 1_000_000, 100), amounts, months);
-    lies_between(92_547, |months| dilution(&[736_800, 263_200], months)[1].1.clone());
+    lies_between(92_547, |months| dilution(&[736_800, 263_200], months)[1].clone());
     for months in [34, 35] {
         let lines = dilution(&[700_000, 250_000, 50_000], months);
-        assert_eq!([&lines[0], &lines[2]], [&(3, vec![1_500]), &(3, vec![125_000])]);
+        let [floor, highest] = [1_500, 125_000].map(Admitted::both);
+        assert_eq!([&lines[0], &lines[2]], [&floor, &highest]);
     }
 }
 
@@ -115,17 +124,21 @@ fn across(months: u64) -> [Tranche; 3] {
     ]
 }
 
-/// The weights of the first two of these tranches in a deal with this section and a charge of 100,000.
-fn by_section(irb: Irb, facts: Facts, months: u64) -> [Vec<u64>; 2] {
-    let deal = weighed(irb, facts, POOL, &across(months));
-    assert_eq!(deal.charge, 100_000);
-    assert!(deal.lines.iter().all(|line| line.approach == 3));
-    assert_eq!(weights(&deal.lines[2]), [125_000]);
-    [0, 1].map(|tranche| weights(&deal.lines[tranche]))
+/// What the first two of these tranches admit in a deal.
+fn first_two(deal: &Deal) -> [Admitted; 2] {
+    [0, 1].map(|tranche| admitted(&deal.lines[tranche]))
 }
 
-/// The weights of the first two of these tranches by the formula with these parameters.
-fn by_parameters(parameters: [u64; 2]) -> [Vec<u64>; 2] {
+/// What the first two of these tranches admit in a deal with this section and a charge of 100,000.
+fn by_section(irb: Irb, facts: Facts, months: u64) -> [Admitted; 2] {
+    let deal = weighed(irb, facts, POOL, &across(months));
+    assert_eq!(deal.charge, 100_000);
+    assert_eq!(all_admitted(&deal)[2], Admitted::both(125_000));
+    first_two(&deal)
+}
+
+/// What the first two of these tranches admit by the formula with these parameters. Neither floor nor cap acts.
+fn by_parameters(parameters: [u64; 2]) -> [Admitted; 2] {
     let [senior, junior] = parameters;
     [(120_000, 1_000_000, senior), (50_000, 120_000, junior)].map(|(attachment, detachment, parameter)| {
         raw_weights(&Terms {
@@ -207,7 +220,7 @@ fn charge_of_a_mixed_pool() {
         ];
         let deal = weighed(irb, MIXED, &pool, &across(36));
         assert_eq!(deal.charge, 100_000);
-        assert_eq!([0, 1].map(|tranche| weights(&deal.lines[tranche])), expected);
+        assert_eq!(first_two(&deal), expected);
     }
 }
 
@@ -277,39 +290,44 @@ fn section_without_sec_irba() {
 }
 
 /// The cap under SEC-IRBA is the IRB average as it stands, below the floor and 0 too, for class 1 of a deal with known
-/// composition alone. The pool's own average, 10,000, is not read.
+/// composition alone. The pool's own average, 10,000, is not read. It lowers the least weight as the weight: a cap at the
+/// lower raw weight leaves the least weight as it is.
 #[test]
 fn cap_by_the_irb_average() {
     let capped = |composition, average| {
         let irb = [100_000, 500_000, 25, 0, 1_000_000, average];
-        let deal = weighed(irb, &[1, 0, 1, composition], POOL, &across(36));
-        [0, 1].map(|tranche| weights(&deal.lines[tranche]))
+        first_two(&weighed(irb, &[1, 0, 1, composition], POOL, &across(36)))
     };
     let [senior, junior] = by_parameters([414_400, 458_800]);
-    for average in [0, 1, 1_499, 1_501, senior[0]] {
-        assert_eq!(capped(1, average), [vec![average], junior.clone()]);
+    for average in [0, 1, 1_499, 1_501, senior.least_weights[0]] {
+        assert_eq!(capped(1, average), [Admitted::both(average), junior.clone()]);
         assert_eq!(capped(0, average), [senior.clone(), junior.clone()]);
     }
-    for average in [senior[1], 125_000] {
+    let lower = Admitted {
+        weights: vec![senior.weights[0]],
+        ..senior.clone()
+    };
+    assert_eq!(capped(1, senior.weights[0]), [lower, junior.clone()]);
+    for average in [senior.weights[1], 125_000] {
         assert_eq!(capped(1, average), [senior.clone(), junior.clone()]);
     }
 }
 
 /// The floors under SEC-IRBA: 1,500, and in an STC deal 1,000 for class 1. A charge of 0 gives raw weight 0, which they
-/// raise; no point lies below it but 0, whose weight is 125,000.
+/// raise; no point lies below it but 0, whose weight is 125,000. The least weight is the same.
 #[test]
 fn floors() {
     let tranches = [tranche(500_000, 1, 36), tranche(500_000, 2, 36), tranche(1, 3, 36)];
     let all = |facts, charge| {
         let deal = weighed(wholesale(charge, 0, 25), facts, POOL, &tranches);
         assert_eq!(deal.charge, charge);
-        deal.lines.iter().map(weights).collect::<Vec<_>>()
+        all_admitted(&deal)
     };
-    assert_eq!(all(IRB, 0), [[1_500], [1_500], [125_000]]);
-    assert_eq!(all(STC, 0), [[1_000], [1_500], [125_000]]);
-    assert_eq!(all(STC, 1)[..2], [[1_000], [1_500]]);
-    assert_eq!(all(IRB, 500_000)[1..], [[125_000], [125_000]]);
-    assert_eq!(all(IRB, 1_000_000), [[125_000]; 3]);
+    assert_eq!(all(IRB, 0), [1_500, 1_500, 125_000].map(Admitted::both));
+    assert_eq!(all(STC, 0), [1_000, 1_500, 125_000].map(Admitted::both));
+    assert_eq!(all(STC, 1)[..2], [1_000, 1_500].map(Admitted::both));
+    assert_eq!(all(IRB, 500_000)[1..], [125_000; 2].map(Admitted::both));
+    assert_eq!(all(IRB, 1_000_000), [125_000; 3].map(Admitted::both));
 }
 
 /// Months count from a reporting date as in any deal: from 31 January 2024 they are 36 up to 31 January 2027 and 37 the
@@ -319,7 +337,7 @@ fn months_from_a_reporting_date() {
     let irb = wholesale(100_000, 500_000, 25);
     let dated = |maturity| {
         let deal = weighed(irb, &[1, 0, 1, 0, 0, 20_240_131], POOL, &across(maturity));
-        [0, 1].map(|tranche| weights(&deal.lines[tranche]))
+        first_two(&deal)
     };
     assert_eq!(dated(20_270_131), by_section(irb, IRB, 36));
     assert_eq!(dated(20_270_201), by_section(irb, IRB, 37));

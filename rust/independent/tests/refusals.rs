@@ -442,12 +442,12 @@ fn thin(facts: Facts, status: u64, rating: u64) -> Vec<u64> {
     sheet(facts, &pool, &[tranche(1_000_000, 1), tranche(1, 2), tranche(1, 3)])
 }
 
-/// Refusal 14: room for less than six words per tranche. After 3, before 13.
+/// Refusal 14: room for less than seven words per tranche, six for each too. After 3, before 13.
 #[test]
 fn short_results() {
     let words = plain(0, 0);
-    assert_eq!(room(1), 6);
-    for short in [0, room(3) - 1] {
+    assert_eq!(room(1), 7);
+    for short in [0, 6 * 3, room(3) - 1] {
         assert_eq!(weigh(&words, short), Err(refusal(14, 0)));
         assert_eq!(weigh(&[words.clone(), vec![0]].concat(), short), Err(refusal(3, 36)));
         assert_eq!(weigh(&thin(&[0, 0, 1, 1], 0, 0), short), Err(refusal(14, 0)));

@@ -42,9 +42,14 @@ impl End {
         }
     }
 
-    /// Whether this end is at most the whole number.
-    pub fn at_most(&self, whole: u64) -> bool {
-        self.gain.at_most(&Ratio::of_words(whole, 1).plus(&self.loss))
+    /// Whether this end is at most the number.
+    pub fn at_most(&self, number: &Ratio) -> bool {
+        self.gain.at_most(&number.plus(&self.loss))
+    }
+
+    /// Whether this end is at least the number.
+    pub fn at_least(&self, number: &Ratio) -> bool {
+        number.plus(&self.loss).at_most(&self.gain)
     }
 
     /// Whether this end is more than the whole number less two.
@@ -79,9 +84,17 @@ impl Ends {
         })
     }
 
-    /// Whether a whole number passes by this k: it is not above 125,000, the upper end is at most it, and the lower end
-    /// is more than it minus 2.
+    /// Whether a whole number passes by this k as a raw weight: it is not above 125,000, the upper end is at most it, and
+    /// the lower end is more than it minus 2.
     pub fn pass(&self, weight: u64) -> bool {
-        weight <= HIGHEST_WEIGHT && self.upper.at_most(weight) && self.lower.more_than_less_two(weight)
+        let at_most = self.upper.at_most(&Ratio::of_words(weight, 1));
+        weight <= HIGHEST_WEIGHT && at_most && self.lower.more_than_less_two(weight)
+    }
+
+    /// Whether the least weight may start from a whole number by this k: the lower end is at least it, and the upper end
+    /// is less than it plus 1.5.
+    pub fn pass_least(&self, weight: u64) -> bool {
+        let at_least = self.lower.at_least(&Ratio::of_words(weight, 1));
+        at_least && !self.upper.at_least(&Ratio::of_words(2 * weight + 3, 2))
     }
 }

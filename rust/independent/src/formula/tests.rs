@@ -3,6 +3,7 @@
 use super::rational::Ratio;
 use super::series::{low_and_up, End, Ends};
 use super::*;
+use std::ops::RangeInclusive;
 
 /// The terms of an ordinary deal.
 fn ordinary(charge: u64, attachment: u64, detachment: u64) -> Terms {
@@ -30,43 +31,102 @@ fn resecuritisation(charge: u64, attachment: u64, detachment: u64) -> Terms {
     }
 }
 
+/// Holds the quick decision to these raw weights, and to these numbers from which the least weight starts.
+#[track_caller]
+fn admits(terms: Terms, weights: &[u64], least_weights: &[u64]) {
+    let admitted = Admitted {
+        weights: weights.to_vec(),
+        least_weights: least_weights.to_vec(),
+    };
+    assert_eq!(raw_weights(&terms), admitted, "{terms:?}");
+}
+
 /// Checked deals: K = 0 and D above 0: raw 0. K = 0 and D = 0: 125,000. D = K: 125,000, also with A = D = K, which sent
-/// through the exponential would divide by zero.
+/// through the exponential would divide by zero. The least weight starts from the same.
 #[test]
 fn charge_zero_and_detachment_at_charge() {
-    assert_eq!(raw_weights(&ordinary(0, 0, 1)), [0]);
-    assert_eq!(raw_weights(&resecuritisation(0, 500_000, 1_000_000)), [0]);
-    assert_eq!(raw_weights(&stc(0, 500_000, 1_000_000)), [0]);
-    assert_eq!(raw_weights(&stc(100_000, 100_000, 100_000)), [125_000]);
-    assert_eq!(raw_weights(&ordinary(0, 0, 0)), [125_000]);
-    assert_eq!(raw_weights(&ordinary(100_000, 0, 100_000)), [125_000]);
-    assert_eq!(raw_weights(&ordinary(100_000, 100_000, 100_000)), [125_000]);
-    assert_eq!(raw_weights(&ordinary(1_000_000, 0, 1_000_000)), [125_000]);
+    for terms in [
+        ordinary(0, 0, 1),
+        resecuritisation(0, 500_000, 1_000_000),
+        stc(0, 500_000, 1_000_000),
+    ] {
+        admits(terms, &[0], &[0]);
+    }
+    for terms in [
+        stc(100_000, 100_000, 100_000),
+        ordinary(0, 0, 0),
+        ordinary(100_000, 0, 100_000),
+        ordinary(100_000, 100_000, 100_000),
+        ordinary(1_000_000, 0, 1_000_000),
+    ] {
+        admits(terms, &[125_000], &[125_000]);
+    }
 }
 
 /// Checked deals: K = A = 100,000 and D = 200,000 give 79,016 or 79,017. To take e^(-u/s) as 0 would give 125,000.
-/// K = 100,000, A = 50,000 and D = 150,000 give 111,684 or 111,685.
+/// K = 100,000, A = 50,000 and D = 150,000 give 111,684 or 111,685. The values are 79,015.07 and 111,683.67: two numbers
+/// lie less than one and a half below the first, one below the second.
 #[test]
 fn two_neighbours_pass() {
-    assert_eq!(raw_weights(&ordinary(100_000, 100_000, 200_000)), [79_016, 79_017]);
-    assert_eq!(raw_weights(&ordinary(100_000, 50_000, 150_000)), [111_684, 111_685]);
+    admits(
+        ordinary(100_000, 100_000, 200_000),
+        &[79_016, 79_017],
+        &[79_014, 79_015],
+    );
+    admits(ordinary(100_000, 50_000, 150_000), &[111_684, 111_685], &[111_683]);
 }
 
 /// The same points in an STC deal: 62,500 x (1 - e^(-2)) = 54,041.54, and 62,500 x (2 - e^(-1)) = 102,007.53.
 #[test]
 fn two_neighbours_pass_in_an_stc_deal() {
-    assert_eq!(raw_weights(&stc(100_000, 100_000, 200_000)), [54_042, 54_043]);
-    assert_eq!(raw_weights(&stc(100_000, 50_000, 150_000)), [102_008, 102_009]);
+    admits(stc(100_000, 100_000, 200_000), &[54_042, 54_043], &[54_041]);
+    admits(stc(100_000, 50_000, 150_000), &[102_008, 102_009], &[102_007]);
 }
 
-/// Where the value is above 124,999, only 125,000 passes: a raw weight is never above it.
+/// The first of these points in a re-securitisation: 187,500 x (1 - e^(-2/3)) = 91,234.29.
+#[test]
+fn two_neighbours_pass_in_a_resecuritisation() {
+    let terms = resecuritisation(100_000, 100_000, 200_000);
+    admits(terms, &[91_235, 91_236], &[91_233, 91_234]);
+}
+
+/// Where the value is above 124,999, only 125,000 passes as a raw weight, which is never above it. The least weight never
+/// starts from 125,000 there, however near the value is: 124,999.99999994, .96, .99999987 and .88, then 124,998.99.
 #[test]
 fn one_passes_at_the_top() {
-    assert_eq!(raw_weights(&ordinary(999_999, 0, 1_000_000)), [125_000]);
-    assert_eq!(raw_weights(&resecuritisation(999_999, 999_999, 1_000_000)), [125_000]);
-    assert_eq!(raw_weights(&stc(999_999, 0, 1_000_000)), [125_000]);
-    assert_eq!(raw_weights(&ordinary(500_000, 500_000, 500_001)), [125_000]);
-    assert_eq!(raw_weights(&ordinary(62_000, 62_000, 62_001)), [124_999, 125_000]);
+    for terms in [
+        ordinary(999_999, 0, 1_000_000),
+        resecuritisation(999_999, 999_999, 1_000_000),
+        stc(999_999, 0, 1_000_000),
+        ordinary(500_000, 500_000, 500_001),
+    ] {
+        admits(terms, &[125_000], &[124_999]);
+    }
+    admits(ordinary(62_000, 62_000, 62_001), &[124_999, 125_000], &[124_998]);
+}
+
+/// At the bottom, with K = 1, A = 0 and D far above, the value is 250,000 / D less next to nothing. The least weight
+/// starts from 0 up to a value of 1.5, and from 1 above 1.
+#[test]
+fn zero_passes_at_the_bottom() {
+    admits(ordinary(1, 0, 1_000_000), &[1, 2], &[0]); // 0.25
+    admits(ordinary(1, 0, 400_000), &[1, 2], &[0]); // 0.625
+    admits(ordinary(1, 0, 249_999), &[2, 3], &[0, 1]); // 1.000004
+    admits(ordinary(1, 0, 200_000), &[2, 3], &[0, 1]); // 1.25
+    admits(ordinary(1, 0, 160_000), &[2, 3], &[1]); // 1.5625
+    admits(ordinary(1, 0, 110_000), &[3, 4], &[1, 2]); // 2.27
+}
+
+/// The highest number that the least weight may start from is just below the lowest raw weight, and no number of the one
+/// sort is more than three below one of the other.
+#[test]
+fn least_weights_lie_below_weights() {
+    for terms in varied_terms(2_000, 1_000_000).iter().chain(&edge_terms()) {
+        let Admitted { weights, least_weights } = raw_weights(terms);
+        let [highest, highest_least] = [&weights, &least_weights].map(|list| list[list.len() - 1]);
+        assert_eq!(weights[0], highest_least + 1, "{terms:?}");
+        assert!(highest <= least_weights[0] + 3, "{terms:?}");
+    }
 }
 
 /// Refusal 13 keeps a tranche without thickness above the charge away from the formula.
@@ -114,7 +174,8 @@ fn varied_terms(count: u64, most: u64) -> Vec<Terms> {
 }
 
 /// Terms at the edges of their limits whose exponent u/s is moderate: the largest charges, the smallest charges, l/s up
-/// to 2,000, and at the end some whose value is so near to a whole number that 64 bits do not decide.
+/// to 2,000, and at the end some whose value is so near to a whole number, then some whose value is so near to a whole
+/// number and a half, that 64 bits do not decide.
 fn edge_terms() -> Vec<Terms> {
     vec![
         ordinary(999_999, 0, 1_000_000),
@@ -135,6 +196,11 @@ fn edge_terms() -> Vec<Terms> {
         ordinary(20_833, 20_833, 20_834),
         resecuritisation(41_666, 41_666, 41_669),
         ordinary(187_499, 187_499, 187_502),
+        ordinary(74_999, 74_999, 75_002),
+        ordinary(62_499, 62_496, 62_502),
+        ordinary(8_333, 8_333, 8_334),
+        resecuritisation(16_666, 16_666, 16_669),
+        stc(149_998, 149_998, 150_001),
     ]
 }
 
@@ -143,16 +209,20 @@ fn edge_terms() -> Vec<Terms> {
 /// of the quick decision, and from some k on they must be all of them.
 fn agrees_with_series(terms: &Terms) {
     let quick = raw_weights(terms);
-    let near = quick[0].saturating_sub(3)..=quick[0] + 3;
+    let near = quick.weights[0].saturating_sub(3)..=quick.weights[0] + 3;
     let first = (2 * terms.u()).div_ceil(terms.s()); // k + 2 >= 2q
     for added in [0, 4, 30, 60, 120] {
         let ends = Ends::new(terms, first + added).expect("k is admitted");
-        let slow: Vec<u64> = near.clone().filter(|&weight| ends.pass(weight)).collect();
+        let slow = Admitted {
+            weights: near.clone().filter(|&weight| ends.pass(weight)).collect(),
+            least_weights: near.clone().filter(|&weight| ends.pass_least(weight)).collect(),
+        };
         if slow == quick {
             return;
         }
+        let among = |some: &[u64], all: &[u64]| some.iter().all(|weight| all.contains(weight));
         assert!(
-            slow.iter().all(|weight| quick.contains(weight)),
+            among(&slow.weights, &quick.weights) && among(&slow.least_weights, &quick.least_weights),
             "{terms:?}: {slow:?} pass, not {quick:?}"
         );
     }
@@ -171,10 +241,10 @@ fn quick_decision_agrees_with_series() {
 /// Holds the quick decision to an exact bound that is good for exponents of any size. Low(j) is below e^q for every j,
 /// also one that is not admitted, so e^(-u/s) lies between 0 and 1/Low(j). For e^(-l/s) the bounds are 1 where l is 0,
 /// 1/Up(j) and 1/Low(j) where j is admitted, else 0 and 1/Low(j). The value then lies between the two ends made of these
-/// bounds, and above 0. Both must lie between the lowest raw weight that passes and that weight minus 1.
+/// bounds, and above 0. So each number near it is told to pass or not to pass by the distances of document 01 and S-6,
+/// here counted in halves.
 fn agrees_with_bound(terms: &Terms) {
     let j = 160;
-    let lowest = raw_weights(terms)[0];
     let (low_l, up_l) = low_and_up(terms.l(), terms.s(), j);
     let (low_u, _) = low_and_up(terms.u(), terms.s(), j);
     let zero = Ratio::of_words(0, 1);
@@ -182,35 +252,53 @@ fn agrees_with_bound(terms: &Terms) {
     let least_l = if admitted { up_l.inverse() } else { zero.clone() };
     let upper = End::new(terms, &low_l.inverse(), &zero);
     let lower = End::new(terms, &least_l, &low_u.inverse());
-    assert!(upper.at_most(lowest), "{terms:?}: {lowest} is too low");
-    assert!(
-        lowest == 1 || lower.more_than_less_two(lowest + 1),
-        "{terms:?}: {lowest} is too high"
-    );
-    assert_eq!(raw_weights(terms), [lowest, lowest + 1]);
+    let above = |halves: u64| halves == 0 || lower.at_least(&Ratio::of_words(halves, 2));
+    let below = |halves: u64| upper.at_most(&Ratio::of_words(halves, 2));
+    let between = |least: u64, most: u64| {
+        let inside = above(least) && below(most);
+        assert!(
+            inside || below(least) || above(most),
+            "{terms:?}: the bound does not tell"
+        );
+        inside
+    };
+    let quick = raw_weights(terms);
+    let near = quick.weights[0].saturating_sub(3)..=quick.weights[0] + 3;
+    let slow = Admitted {
+        weights: near
+            .clone()
+            .filter(|weight| between((2 * weight).saturating_sub(4), 2 * weight))
+            .collect(),
+        least_weights: near.filter(|weight| between(2 * weight, 2 * weight + 3)).collect(),
+    };
+    assert_eq!(quick, slow, "{terms:?}");
 }
 
 /// Exponents from 70 to nearly 2,000,000, where the value is below a whole number by far less than any unit (K = 1 and
-/// D = 250,000 give 1 less e^(-249,999) / 2), or above 0 by as little.
+/// D = 250,000 give 1 less e^(-249,999) / 2), below a whole number and a half by as little (K = 3 and D = 500,000 give
+/// 1.5 less next to nothing), or above 0 by as little.
 #[test]
 fn quick_decision_agrees_with_bound_for_large_exponents() {
-    assert_eq!(raw_weights(&ordinary(1, 0, 250_000)), [1, 2]);
-    assert_eq!(raw_weights(&ordinary(16, 0, 1_000_000)), [4, 5]);
-    assert_eq!(raw_weights(&ordinary(1, 999_999, 1_000_000)), [1, 2]);
-    assert_eq!(raw_weights(&stc(1, 0, 187_500)), [1, 2]);
-    assert_eq!(raw_weights(&stc(16, 0, 1_000_000)), [3, 4]);
-    let mut terms = vec![
+    let mut terms = Vec::new();
+    for (at, weights, least_weights) in [
+        (ordinary(1, 0, 250_000), [1, 2], &[0][..]),
+        (ordinary(16, 0, 1_000_000), [4, 5], &[3]),
+        (ordinary(1, 999_999, 1_000_000), [1, 2], &[0]),
+        (stc(1, 0, 187_500), [1, 2], &[0]),
+        (stc(16, 0, 1_000_000), [3, 4], &[2]),
+        (ordinary(1, 0, 500_000), [1, 2], &[0]),
+        (ordinary(3, 0, 500_000), [2, 3], &[0, 1]),
+        (ordinary(5, 0, 500_000), [3, 4], &[1, 2]),
+        (resecuritisation(2, 0, 250_000), [3, 4], &[1, 2]),
+    ] {
+        admits(at, &weights, least_weights);
+        terms.push(at);
+    }
+    terms.extend([
         ordinary(1, 2, 1_000_000),
         ordinary(1, 1, 1_000_000),
         resecuritisation(1, 0, 1_000_000),
         stc(1, 0, 1_000_000),
-    ];
-    terms.extend([
-        stc(1, 0, 187_500),
-        stc(16, 0, 1_000_000),
-        ordinary(1, 0, 250_000),
-        ordinary(16, 0, 1_000_000),
-        ordinary(1, 999_999, 1_000_000),
     ]);
     for charge in [1, 2, 3, 40, 1_000, 2_345, 9_000] {
         for attachment in [0, charge - 1, charge, charge + 1, charge * 4, charge * 60, charge * 110] {
@@ -222,18 +310,19 @@ fn quick_decision_agrees_with_bound_for_large_exponents() {
     terms.iter().for_each(agrees_with_bound);
 }
 
-/// A first try that does not decide is followed by one that does, and longer numbers do not change what was decided.
+/// A first try that does not decide is followed by one that does, and longer numbers do not change what was decided. The
+/// values lie just above 124,998 and just above 124,997.5.
 #[test]
 fn more_precision_changes_nothing() {
-    let near_whole = ordinary(93_749, 93_749, 93_752);
-    assert_eq!(rounded_up_within::<2>(&near_whole), None);
-    assert_eq!(rounded_up_within::<3>(&near_whole), Some(124_999));
+    for (near, halves) in [
+        (ordinary(93_749, 93_749, 93_752), 249_997),
+        (ordinary(74_999, 74_999, 75_002), 249_996),
+    ] {
+        assert_eq!(halves_within::<2>(&near), None);
+        assert_eq!(halves_within::<3>(&near), Some(halves));
+    }
     for terms in varied_terms(2_000, 1_000_000) {
-        assert_eq!(
-            rounded_up_within::<5>(&terms),
-            Some(value_rounded_up(&terms)),
-            "{terms:?}"
-        );
+        assert_eq!(halves_within::<5>(&terms), Some(halves_rounded_up(&terms)), "{terms:?}");
     }
 }
 
@@ -249,8 +338,8 @@ fn rounding_down_falls_short() {
     let difference = rounded_down(terms.l(), 32) - rounded_down(terms.u(), 60);
     let t = u128::from(WHOLE / HIGHEST_WEIGHT * terms.thickness());
     let misread = (difference * u128::from(terms.s())).div_ceil(t << 60);
-    assert!(misread + 1 < raw_weights(&terms)[0].into());
-    assert!(misread + 100 > raw_weights(&terms)[0].into());
+    let lowest = u128::from(raw_weights(&terms).weights[0]);
+    assert!(misread + 1 < lowest && misread + 100 > lowest);
 }
 
 /// A k below 2q - 2 is not admitted, and an admitted k may still have ends too far apart for any number to pass by it.
@@ -261,11 +350,35 @@ fn rounding_down_falls_short() {
 #[test]
 fn only_admitted_k_count() {
     let terms = ordinary(10, 50, 60); // l/s = 4, u/s = 5
+    let whole = |number| Ratio::of_words(number, 1);
     assert!(Ends::new(&terms, 7).is_none());
     let coarse = Ends::new(&terms, 8).expect("8 + 2 >= 2 x 5");
-    assert!(coarse.upper.at_most(1_501) && !coarse.upper.at_most(1_500));
-    assert!(coarse.lower.at_most(1_375) && !coarse.lower.at_most(1_374));
+    assert!(coarse.upper.at_most(&whole(1_501)) && !coarse.upper.at_most(&whole(1_500)));
+    assert!(coarse.upper.at_least(&whole(1_500)) && !coarse.upper.at_least(&whole(1_501)));
+    assert!(coarse.lower.at_most(&whole(1_375)) && !coarse.lower.at_most(&whole(1_374)));
+    assert!(coarse.lower.at_least(&whole(1_374)) && !coarse.lower.at_least(&whole(1_375)));
     assert!(coarse.lower.more_than_less_two(1_376) && !coarse.lower.more_than_less_two(1_377));
-    assert!(!raw_weights(&terms).iter().any(|&weight| coarse.pass(weight)));
+    let Admitted { weights, least_weights } = raw_weights(&terms);
+    assert!(!weights.iter().any(|&weight| coarse.pass(weight)));
+    assert!(!least_weights.iter().any(|&weight| coarse.pass_least(weight)));
     agrees_with_series(&terms);
+}
+
+/// The ends of the checked deals. For K = A = 100,000 and D = 200,000, k = 7 has the ends 79,014.599 and 79,015.438, by
+/// which one number passes each way; k = 8 has 79,015.018 and 79,015.111, by which all do. For K = 100,000, A = 50,000
+/// and D = 150,000, k = 5 has 111,682.594 and 111,684.589, by which none does; k = 6 has 111,683.592 and 111,683.734.
+#[test]
+fn numbers_that_pass_by_one_k() {
+    let passing = |terms: &Terms, k, near: RangeInclusive<u64>| {
+        let ends = Ends::new(terms, k).expect("an admitted k");
+        let weights: Vec<u64> = near.clone().filter(|&weight| ends.pass(weight)).collect();
+        let least_weights: Vec<u64> = near.filter(|&weight| ends.pass_least(weight)).collect();
+        (weights, least_weights)
+    };
+    let at_charge = |k| passing(&ordinary(100_000, 100_000, 200_000), k, 79_005..=79_025);
+    assert_eq!(at_charge(7), (vec![79_016], vec![79_014]));
+    assert_eq!(at_charge(8), (vec![79_016, 79_017], vec![79_014, 79_015]));
+    let across = |k| passing(&ordinary(100_000, 50_000, 150_000), k, 111_675..=111_695);
+    assert_eq!(across(5), (vec![], vec![]));
+    assert_eq!(across(6), (vec![111_684, 111_685], vec![111_683]));
 }
