@@ -1,5 +1,5 @@
-//! The numbers of an answer, by "The deal sheet" and "Refusals, by who can cause them" of document 01, by S-1, by S-3
-//! and by S-5: the words of a line, the approaches, the refusals.
+//! The numbers of an answer, by "The deal sheet" and "Refusals, by who can cause them" of document 01, by S-1, S-3, S-5
+//! and S-6: the words of a line, the approaches, the refusals.
 
 use crate::sheet::TRANCHES;
 
@@ -18,6 +18,8 @@ pub enum LineWord {
     RiskWeighted,
     /// The capital.
     Capital,
+    /// The least weight.
+    LeastWeight,
 }
 
 impl LineWord {
@@ -30,12 +32,13 @@ impl LineWord {
             LineWord::Weight => "weight",
             LineWord::RiskWeighted => "risk-weighted amount",
             LineWord::Capital => "capital",
+            LineWord::LeastWeight => "least weight",
         }
     }
 }
 
 /// Result words for each tranche.
-pub const LINE_WORDS: usize = LineWord::Capital as usize + 1;
+pub const LINE_WORDS: usize = LineWord::LeastWeight as usize + 1;
 /// Result words for the most tranches.
 pub const MOST_RESULTS: usize = LINE_WORDS * TRANCHES as usize;
 

@@ -1,6 +1,5 @@
 //! One sheet of a run with all that is done with it: its room for results, its file, and a second sheet made from it.
 
-use crate::answer::LINE_WORDS;
 use crate::damage;
 use crate::dates;
 use crate::irb;
@@ -69,7 +68,7 @@ impl Case {
         dates::state(self.kind, sound, &mut random, &mut self.deal);
         self.deal.write(&mut self.sheet);
         self.room_kind = Room::draw(&mut random);
-        self.room = self.room_kind.words(LINE_WORDS * self.deal.tranches.len(), &mut random);
+        self.room = self.room_kind.words(self.deal.tranches.len(), &mut random);
         if !self.kind.is_sound() {
             damage::apply(self.kind, &mut random, self.deal.layout(), &mut self.sheet);
         }
@@ -175,7 +174,7 @@ fn fill_deal(kind: Kind, random: &mut Random, deal: &mut Deal) {
 fn facts(kind: Kind, random: &mut Random) -> Facts {
     let resecuritisation = match kind {
         Kind::Resecuritisation => true,
-        Kind::Ordinary | Kind::Stc | Kind::HalfThick => false,
+        Kind::Ordinary | Kind::Stc | Kind::HalfThick | Kind::NearRatings => false,
         Kind::UnknownShare | Kind::AllUnknown | Kind::AllDelinquent => false,
         _ => random.once_in(5),
     };

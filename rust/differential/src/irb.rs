@@ -4,8 +4,11 @@ use crate::kind::Kind;
 use crate::random::Random;
 use crate::sheet::{pool_kind, status, Deal, Fact, Irb, IrbWord, IRB_AVERAGE, IRB_SHARE, LOANS, MANY_LOANS, WHOLE};
 use crate::tranches;
-use independent::approach::Figures;
+use independent::approach::{self, Figures};
+use independent::charge::{self, Points};
+use independent::formula::{raw_weights, Terms};
 use independent::irba::Sum;
+use independent::sheet::Sheet;
 
 /// Draws the pool kind of a deal of this kind. Most deals that are to show something else have an SA pool.
 pub fn draw_pool_kind(kind: Kind, random: &mut Random) -> u64 {
@@ -81,16 +84,46 @@ fn average(random: &mut Random) -> u64 {
     }
 }
 
-/// Now and then sets the loss of a deal under SEC-IRBA, whose tranches must be there already, so that the parameter's
-/// sum of one of them is within some millionths of 0.3, or of 0.6, of which an STC deal takes half.
+/// Aims the section of a deal under SEC-IRBA, whose tranches must be there already, now and then at a sum of the
+/// parameter, and now and then at the weight of class 1.
 pub fn aim(random: &mut Random, deal: &mut Deal) {
-    if !deal.is_under_irba() || !random.once_in(3) {
-        return;
+    if deal.is_under_irba() && random.once_in(3) {
+        aim_at_sum(random, deal);
     }
-    let target = random.pick(&[300_000, 600_000]) + i128::from(random.below(7)) - 3;
+    if deal.is_under_irba() && random.once_in(8) {
+        aim_at_weight(random, deal);
+    }
+}
+
+/// The deal as the independent implementation reads it.
+fn read(deal: &Deal) -> Sheet {
     let mut words = Vec::new();
     deal.write(&mut words);
-    let sheet = independent::sheet::read(&words).expect("a sound sheet");
+    independent::sheet::read(&words).expect("a sound sheet")
+}
+
+/// Sets the IRB average, which is the cap, to the lower raw weight of class 1 or up to two beside it.
+fn aim_at_weight(random: &mut Random, deal: &mut Deal) {
+    let sheet = read(deal);
+    let figures = Figures::of(&sheet);
+    let senior = &sheet.tranches[0];
+    let Points { attachment, detachment } =
+        charge::points(charge::nominal_sum(&sheet.pool), &sheet.tranches, senior.class);
+    let raw = raw_weights(&Terms {
+        charge: figures.charge,
+        attachment,
+        detachment,
+        parameter: approach::parameter(&figures, senior),
+    });
+    let aimed = (raw.weights[0] + random.below(5)).saturating_sub(2);
+    deal.irb.average = aimed.min(IRB_AVERAGE);
+}
+
+/// Sets the loss so that the parameter's sum of a tranche is within some millionths of 0.3, or of 0.6, of which an STC
+/// deal takes half.
+fn aim_at_sum(random: &mut Random, deal: &mut Deal) {
+    let target = random.pick(&[300_000, 600_000]) + i128::from(random.below(7)) - 3;
+    let sheet = read(deal);
     let figures = Figures::of(&sheet);
     let tranche = random.pick(&sheet.tranches);
     let irb = *figures.irb.expect("a deal under SEC-IRBA");

@@ -1,6 +1,7 @@
 //! The kinds of sheets, the kinds of room for results and the kinds of files that a run is made of, each with its name
 //! and its share.
 
+use crate::answer::LINE_WORDS;
 use crate::random::Random;
 
 /// An entry of a table of kinds: the kind, its name in the printed counts, and its share of the draws.
@@ -48,6 +49,8 @@ pub enum Kind {
     Rated,
     /// Good ratings on tranches about half as thick as the pool, whose weights lie near the senior figures.
     HalfThick,
+    /// Ratings of one weight on a tranche whose exact figures by them differ.
+    NearRatings,
     /// Up to 1,000 rows.
     LargePool,
     /// An IRB pool, with its section.
@@ -80,7 +83,7 @@ pub enum Kind {
 
 impl Kind {
     /// All kinds, in the order of the enum.
-    pub const TABLE: [Entry<Kind>; 27] = [
+    pub const TABLE: [Entry<Kind>; 28] = [
         (Kind::Ordinary, "ordinary", 24),
         (Kind::Stc, "STC", 24),
         (Kind::Resecuritisation, "re-securitisation", 10),
@@ -94,6 +97,7 @@ impl Kind {
         (Kind::SmallCharge, "small charge", 6),
         (Kind::Rated, "rated", 18),
         (Kind::HalfThick, "rated and half thick", 6),
+        (Kind::NearRatings, "near ratings", 6),
         (Kind::LargePool, "large pool", 3),
         (Kind::IrbPool, "IRB pool", 16),
         (Kind::MixedPool, "mixed pool", 18),
@@ -148,6 +152,8 @@ pub enum Room {
     Exact,
     /// One word less.
     OneLess,
+    /// One word less for each tranche.
+    OneLessEach,
     /// Any number that is too small.
     Short,
     /// No word.
@@ -156,10 +162,11 @@ pub enum Room {
 
 impl Room {
     /// All kinds of room, in the order of the enum.
-    pub const TABLE: [Entry<Room>; 5] = [
+    pub const TABLE: [Entry<Room>; 6] = [
         (Room::Ample, "room to spare", 30),
         (Room::Exact, "exact room", 6),
         (Room::OneLess, "one word short", 1),
+        (Room::OneLessEach, "one word short for each tranche", 1),
         (Room::Short, "some words short", 1),
         (Room::Nothing, "no room", 1),
     ];
@@ -169,13 +176,15 @@ impl Room {
         draw(&Room::TABLE, random)
     }
 
-    /// The number of words to lend, where the lines need `needed` words.
-    pub fn words(self, needed: usize, random: &mut Random) -> usize {
+    /// The number of words to lend for the lines of so many tranches, at least one.
+    pub fn words(self, tranches: usize, random: &mut Random) -> usize {
+        let needed = LINE_WORDS * tranches;
         match self {
             Room::Ample => needed + random.between(1, 24) as usize,
             Room::Exact => needed,
-            Room::OneLess => needed.saturating_sub(1),
-            Room::Short => random.below(needed.max(1) as u64) as usize,
+            Room::OneLess => needed - 1,
+            Room::OneLessEach => needed - tranches,
+            Room::Short => random.below(needed as u64) as usize,
             Room::Nothing => 0,
         }
     }
@@ -259,6 +268,7 @@ impl Relation {
 #[cfg(test)]
 mod tests {
     use super::*;
+    use std::collections::BTreeSet;
 
     /// Counts are kept by the enum's order, so each table must follow it.
     #[test]
@@ -293,12 +303,26 @@ mod tests {
         }
     }
 
+    /// The room for the lines of three tranches: 21 words, and less by one, by one for each, or by any number.
+    #[test]
+    fn rooms_follow_the_words_of_a_line() {
+        let mut random = Random::of_sheet(6, 0);
+        let mut words = |room: Room| (0..2_000).map(|_| room.words(3, &mut random)).collect::<BTreeSet<_>>();
+        let fixed = [Room::Exact, Room::OneLess, Room::OneLessEach, Room::Nothing];
+        assert_eq!(
+            fixed.map(&mut words),
+            [21, 20, 18, 0].map(|word| BTreeSet::from([word]))
+        );
+        assert_eq!(words(Room::Short), (0..21).collect());
+        assert_eq!(words(Room::Ample), (22..=45).collect());
+    }
+
     /// Every kind is drawn, about as often as its share says.
     #[test]
     fn draws_follow_the_shares() {
         let mut random = Random::of_sheet(3, 0);
         let mut counts = [0u64; Room::TABLE.len()];
-        (0..39_000).for_each(|_| counts[Room::draw(&mut random) as usize] += 1);
+        (0..40_000).for_each(|_| counts[Room::draw(&mut random) as usize] += 1);
         for (count, (_, name, share)) in counts.iter().zip(Room::TABLE) {
             assert!((share * 800..share * 1_200).contains(count), "{name}: {count}");
         }

@@ -203,6 +203,7 @@ mod tests {
                 attachment,
                 detachment,
                 amounts,
+                least_weights: vec![1_500],
             };
             Feature::ThinAboveCharge.shown(&Seen {
                 line: &line,

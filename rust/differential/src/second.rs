@@ -103,17 +103,37 @@ mod tests {
         reply
     }
 
-    /// The proved library, with all tranches' ratings added to each attachment point.
-    fn ratings_matter(sheet: &[u64], results: &mut [u64]) -> Reply {
+    /// Adds a number to one word of each line that a reply says was written.
+    fn add_to_lines(reply: &Reply, results: &mut [u64], word: LineWord, number: u64) {
+        let (lines, _) = results.as_chunks_mut::<LINE_WORDS>();
+        let written = lines.iter_mut().take(reply.count as usize);
+        written.for_each(|line| line[word as usize] += number);
+    }
+
+    /// The proved library, with all tranches' ratings added to a word of each line.
+    fn ratings_matter(word: LineWord, sheet: &[u64], results: &mut [u64]) -> Reply {
         let reply = (Library::PROVED.weigh)(sheet, results);
         let layout = Layout::of_sheet(sheet);
         let ratings = |tranche| layout.tranche_word(tranche, TrancheWord::FirstRating)..layout.tranche(tranche + 1);
         let sum: u64 = (0..layout.tranches)
             .map(|tranche| sheet[ratings(tranche)].iter().sum::<u64>())
             .sum();
-        let (lines, _) = results.as_chunks_mut::<LINE_WORDS>();
-        let written = lines.iter_mut().take(reply.count as usize);
-        written.for_each(|line| line[LineWord::Attachment as usize] += sum);
+        add_to_lines(&reply, results, word, sum);
+        reply
+    }
+
+    /// The proved library, with a number added to each least weight: how many words the sheet has, and the first
+    /// exposure, first rating and first maturity. In each relation one of these may differ between the two sheets.
+    fn least_weights_change(sheet: &[u64], results: &mut [u64]) -> Reply {
+        let reply = (Library::PROVED.weigh)(sheet, results);
+        if reply.number == 0 {
+            let layout = Layout::of_sheet(sheet);
+            let words = [TrancheWord::FirstRating, TrancheWord::Maturity].map(|word| layout.tranche_word(0, word));
+            let of_tranche = words.map(|place| sheet[place]).iter().sum::<u64>();
+            let exposure = layout.pool(sheet)[0][RowWord::Exposure as usize];
+            let number = layout.words() as u64 + exposure + of_tranche;
+            add_to_lines(&reply, results, LineWord::LeastWeight, number);
+        }
         reply
     }
 
@@ -179,7 +199,8 @@ mod tests {
 
     /// A library for which the order of rows or of ratings matters, or the form of the maturities, in the answer or in
     /// a refusal's place, is found out; so is one for which an IRB section matters that is not read, and one for which
-    /// statuses or ratings matter under SEC-IRBA; the proved one is not.
+    /// statuses or ratings matter under SEC-IRBA; and one for which any of these matters to the least weights. The
+    /// proved one is not.
     #[test]
     fn orders_and_forms_are_compared() {
         let compare = |relation, part, weigh| {
@@ -204,27 +225,30 @@ mod tests {
         assert!(compare(irba.0, irba.1, statuses_matter) > 10);
         assert!(compare(irba.0, irba.1, rating_order_matters) > 10);
         for (relation, part) in [rows, ratings, dates, sa_pool, irba] {
+            assert!(compare(relation, part, least_weights_change) > 10);
             assert_eq!(compare(relation, part, Library::PROVED.weigh), 0);
         }
     }
 
-    /// A library for which another tranche's ratings matter is found out; the proved one is not.
+    /// A library for which another tranche's ratings matter, to the points or to the least weights, is found out; the
+    /// proved one is not.
     #[test]
     fn other_ratings_are_compared() {
-        let wrong = Library {
-            weigh: ratings_matter,
-            ..Library::PROVED
-        };
-        let compare = |library| {
-            let other = |case: &Case| compare_other_ratings(library, case, &mut Lent::default()).map(|_| ());
+        let compare = |weigh| {
+            let library = Library {
+                weigh,
+                ..Library::PROVED
+            };
+            let other = |case: &Case| compare_other_ratings(&library, case, &mut Lent::default()).map(|_| ());
             differences(Relation::OtherRatings, other)
         };
-        assert!(compare(&wrong) > 10);
-        assert_eq!(compare(&Library::PROVED), 0);
+        assert!(compare(|sheet, results| ratings_matter(LineWord::Attachment, sheet, results)) > 10);
+        assert!(compare(|sheet, results| ratings_matter(LineWord::LeastWeight, sheet, results)) > 10);
+        assert_eq!(compare(Library::PROVED.weigh), 0);
     }
 
-    /// A library for which a fact of 0 matters, in the answer or in a refusal's place, is found out; the proved one is
-    /// not.
+    /// A library for which a fact of 0 matters, in the answer, in a line's least weight or in a refusal's place, is found
+    /// out; the proved one is not.
     #[test]
     fn added_facts_are_compared() {
         let compare = |weigh| {
@@ -237,6 +261,7 @@ mod tests {
             })
         };
         assert!(compare(places_as_before) > 10);
+        assert!(compare(least_weights_change) > 10);
         assert!(compare(|sheet, results| stated_fact_matters(Fact::Stc, sheet, results)) > 10);
         assert!(compare(|sheet, results| stated_fact_matters(Fact::ReportingDate, sheet, results)) > 10);
         assert_eq!(compare(Library::PROVED.weigh), 0);

@@ -1,11 +1,11 @@
 //! A line of an accepted sheet with what of the sheet bears on its weight ("Which approach, then floor, then cap", with
-//! S-1 for STC deals, S-2 for several ratings, S-3 for dates and S-5 for SEC-IRBA).
+//! S-1 for STC deals, S-2 for several ratings, S-3 for dates, S-5 for SEC-IRBA and S-6 for the least weight).
 
 use crate::answer::Approach;
 use crate::dates;
 use crate::sheet::{Fact, IrbWord, Layout, TrancheWord, RATINGS};
 use independent::date::Date;
-use independent::formula::HIGHEST_WEIGHT;
+use independent::formula::{raw_weights, Terms, HIGHEST_WEIGHT};
 use independent::irba::Sum;
 use independent::rating::{self, Table};
 use independent::sheet::{Irb, Tranche};
@@ -43,6 +43,15 @@ impl DealKind {
             (DealKind::Resecuritisation, _) => 10_000,
         }
     }
+
+    /// The supervisory parameter under SEC-SA, in millionths.
+    fn parameter(self) -> u64 {
+        match self {
+            DealKind::Ordinary => 1_000_000,
+            DealKind::Stc => 500_000,
+            DealKind::Resecuritisation => 1_500_000,
+        }
+    }
 }
 
 /// What the deal's rating table gives a tranche.
@@ -59,6 +68,10 @@ pub struct Rated {
     pub codes: [u64; RATINGS],
     /// The weight by each of the words alone, before floor and cap; none where the word is no rating.
     pub weights: [Option<u64>; RATINGS],
+    /// The least weight before floor and cap.
+    pub least_weight: u64,
+    /// The least weight by each of the words alone, before floor and cap; none where the word is no rating.
+    pub least_weights: [Option<u64>; RATINGS],
 }
 
 impl Rated {
@@ -70,22 +83,25 @@ impl Rated {
             ratings: codes,
             ..
         } = tranche;
-        let weight = |class, months, ratings| {
-            let tranche = Tranche {
-                class,
-                months,
-                ratings,
-                ..*tranche
-            };
-            rating::weight(Table::of(kind == DealKind::Stc), &tranche, thickness)
+        let table = Table::of(kind == DealKind::Stc);
+        let with = |class, months, ratings| Tranche {
+            class,
+            months,
+            ratings,
+            ..*tranche
         };
+        let weight = |tranche: Tranche| rating::weight(table, &tranche, thickness);
+        let least_weight = |tranche: Tranche| rating::least_weight(table, &tranche, thickness);
+        let alone = codes.map(|code| (code != 0).then(|| with(class, months, [code, 0, 0])));
         Rated {
-            weight: weight(class, months, codes),
-            senior_weight: weight(1, months, codes),
-            longer_weight: weight(class, months + 1, codes),
+            weight: weight(*tranche),
+            senior_weight: weight(with(1, months, codes)),
+            longer_weight: weight(with(class, months + 1, codes)),
             months,
             codes,
-            weights: codes.map(|code| (code != 0).then(|| weight(class, months, [code, 0, 0]))),
+            weights: alone.map(|tranche| tranche.map(weight)),
+            least_weight: least_weight(*tranche),
+            least_weights: alone.map(|tranche| tranche.map(least_weight)),
         }
     }
 
@@ -214,6 +230,11 @@ impl<'a> Seen<'a> {
         self.line.amounts[0].weight
     }
 
+    /// The least weight; the lower one where two are admitted.
+    pub fn least_weight(&self) -> u64 {
+        self.line.least_weights[0]
+    }
+
     /// The floor of the tranche.
     pub fn floor(&self) -> u64 {
         self.kind.floor(self.senior)
@@ -234,10 +255,24 @@ impl<'a> Seen<'a> {
         self.under_formula() && self.line.detachment > self.charge
     }
 
+    /// Whether the weight comes from the exponentials: K is at least 1 and D above K.
+    fn by_exponentials(&self) -> bool {
+        self.by_formula() && self.charge > 0
+    }
+
     /// Whether the raw weight is 125,000 because D is at most K.
+    fn at_most_charge(&self) -> bool {
+        self.under_formula() && self.line.detachment <= self.charge
+    }
+
+    /// Whether the weight is 125,000 because D is at most K.
     pub fn below_charge(&self) -> bool {
-        let below = self.under_formula() && self.line.detachment <= self.charge;
-        below && self.weight() == HIGHEST_WEIGHT
+        self.at_most_charge() && self.weight() == HIGHEST_WEIGHT
+    }
+
+    /// Whether the cap lowers a weight that is 125,000 before it because D is at most K.
+    pub fn capped_below_charge(&self) -> bool {
+        self.at_most_charge() && self.weight() < HIGHEST_WEIGHT
     }
 
     /// Whether K is 0 and D above it, under the formula.
@@ -257,12 +292,12 @@ impl<'a> Seen<'a> {
 
     /// Whether A is K, and both are above 0, under the formula.
     pub fn starts_at_charge(&self) -> bool {
-        self.by_formula() && self.charge > 0 && self.line.attachment == self.charge
+        self.by_exponentials() && self.line.attachment == self.charge
     }
 
     /// Whether K is at least 1, D above K and the thickness one millionth, the least that is accepted there.
     pub fn thin_above_charge(&self) -> bool {
-        self.by_formula() && self.charge > 0 && self.line.detachment - self.line.attachment == 1
+        self.by_exponentials() && self.line.detachment - self.line.attachment == 1
     }
 
     /// Whether two raw weights pass and give two weights.
@@ -310,6 +345,81 @@ impl<'a> Seen<'a> {
         self.capped && !self.is(Approach::Fallback) && self.weight() < self.floor()
     }
 
+    /// Whether two numbers pass for the least weight and give two.
+    pub fn two_least_weights(&self) -> bool {
+        self.line.least_weights.len() == 2
+    }
+
+    /// Whether weight and least weight start from different numbers: they come from the exponentials, or the exact figure
+    /// of the table is not whole.
+    fn ends_differ(&self) -> bool {
+        match &self.rated {
+            Some(rated) => rated.least_weight < rated.weight,
+            None => self.by_exponentials(),
+        }
+    }
+
+    /// Whether they do, and neither floor nor cap changes them. By the formula that is so where two weights are left,
+    /// neither of which the cap then lowers, and a least weight above the floor.
+    pub fn ends_kept(&self) -> bool {
+        let kept = match &self.rated {
+            Some(rated) => (self.weight(), self.least_weight()) == (rated.weight, rated.least_weight),
+            None => self.two_weights() && self.least_weight() > self.floor(),
+        };
+        self.ends_differ() && kept
+    }
+
+    /// Whether they start from one number that the table gives, and neither floor nor cap changes it.
+    pub fn whole_figure_kept(&self) -> bool {
+        let kept = |rated: &Rated| rated.least_weight == rated.weight && self.weight() == rated.weight;
+        self.rated.as_ref().is_some_and(kept)
+    }
+
+    /// Whether they start from different numbers, and the floor makes weight and least weight equal.
+    pub fn equal_by_floor(&self) -> bool {
+        let raised = match &self.rated {
+            Some(rated) => rated.weight <= self.floor(),
+            None => !self.two_weights(),
+        };
+        self.ends_differ() && raised && !self.capped && self.weight() == self.floor()
+    }
+
+    /// Whether they start from different numbers, which the floor leaves different, and the cap makes weight and least
+    /// weight equal. By the formula this counts above the floor.
+    pub fn equal_by_cap(&self) -> bool {
+        let left_different = match &self.rated {
+            Some(rated) => rated.weight > self.floor(),
+            None => self.weight() > self.floor(),
+        };
+        let equal = !self.two_weights() && self.line.least_weights == [self.weight()];
+        self.ends_differ() && left_different && equal
+    }
+
+    /// Whether the cap leaves one of two weights, above the floor, and a least weight below it. Without the cap one weight
+    /// alone is above the floor at 125,000 only.
+    pub fn cap_between(&self) -> bool {
+        let taken = self.capped && !self.two_weights() && self.weight() < HIGHEST_WEIGHT;
+        self.by_exponentials() && taken && self.weight() > self.floor() && self.least_weight() < self.weight()
+    }
+
+    /// The supervisory parameter of a line under the formula, in millionths.
+    fn parameter(&self) -> u64 {
+        let stc = self.kind == DealKind::Stc;
+        self.irba().map_or(self.kind.parameter(), |(_, sum)| sum.parameter(stc))
+    }
+
+    /// Whether the exact value of the formula is below 1, so that the least weight starts from 0. The raw weights are 1
+    /// and 2 then, of which the floor makes one.
+    pub fn value_below_one(&self) -> bool {
+        let terms = || Terms {
+            charge: self.charge,
+            attachment: self.line.attachment,
+            detachment: self.line.detachment,
+            parameter: self.parameter(),
+        };
+        self.by_exponentials() && !self.two_weights() && raw_weights(&terms()).least_weights == [0]
+    }
+
     /// The code of the only rating and the tranche's months, where the cap did not lower its weight.
     pub fn grade(&self) -> Option<(u64, u64)> {
         let rated = self.rated.as_ref()?;
@@ -340,10 +450,13 @@ mod tests {
         [0, 1].map(|tranche| see(Seen::new(&sheet, &deal, tranche)))
     }
 
-    /// The kind of the deal, its floors and its cap, with four, five and six facts.
+    /// The kind of the deal, its floors and its cap, with four, five and six facts; and its parameter.
     #[test]
     fn kinds_and_floors() {
         let terms = |facts: &[u64]| see(facts, [0, 0], |seen| (seen.kind, seen.floor(), seen.capped));
+        let parameter = |facts: &[u64]| see(facts, [0, 0], |seen| seen.parameter())[0];
+        let parameters = [&[0, 0, 1, 1][..], &[0, 0, 1, 1, 1], &[0, 1, 1, 1]].map(parameter);
+        assert_eq!(parameters, [1_000_000, 500_000, 1_500_000]);
         let ordinary = |floor, capped| (DealKind::Ordinary, floor, capped);
         assert_eq!(terms(&[0, 0, 1, 1]), [ordinary(1_500, true), ordinary(1_500, false)]);
         assert_eq!(
@@ -360,10 +473,13 @@ mod tests {
     }
 
     /// What the table gives a rated line, as it stands and in class 1: A+ half thick, whose weight is the senior figure,
-    /// or in an STC deal lies below it.
+    /// or in an STC deal lies below it. These figures are whole, so that each is its least weight too.
     #[test]
     fn table_weights() {
-        let weights = |rated: Rated| (rated.weight, rated.senior_weight);
+        let weights = |rated: Rated| {
+            assert_eq!(rated.least_weight, rated.weight);
+            (rated.weight, rated.senior_weight)
+        };
         let rated = |facts: &[u64]| see(facts, [5, 5], |seen| seen.rated.map(weights));
         assert_eq!(rated(&[0, 0, 1, 0]), [Some((4_000, 4_000)); 2]);
         assert_eq!(rated(&[0, 0, 1, 0, 1]), [Some((2_000, 2_000)), Some((1_750, 2_000))]);
@@ -423,6 +539,10 @@ mod tests {
             let deal = independent::weigh(&sheet, 2 * LINE_WORDS as u64).expect("an accepted sheet");
             let seen = Seen::new(&sheet, &deal, 0);
             let parameter = |sum: Sum| sum.numerator / sum.denominator;
+            assert_eq!(
+                seen.parameter(),
+                if seen.irba().is_some() { 300_000 } else { 1_000_000 }
+            );
             let sums = seen
                 .irba()
                 .map(|(irb, sum)| [sum, seen.longer_sum(&irb)].map(parameter));
@@ -446,5 +566,11 @@ mod tests {
         let several = Rated::new(DealKind::Stc, &tranche_of(&[1, 2, 12, 0, 5, 5, 0], 12), 0);
         assert_eq!((several.weight, several.only_code()), (3_500, None));
         assert_eq!(several.weights, [Some(3_500), Some(3_500), None]);
+        let near = Rated::new(DealKind::Ordinary, &tranche_of(&[1, 2, 72, 0, 1, 0, 22], 72), 285_715);
+        assert_eq!((near.weights, near.weight), ([Some(5_000), None, Some(5_000)], 5_000));
+        assert_eq!(
+            (near.least_weights, near.least_weight),
+            ([Some(4_999), None, Some(5_000)], 5_000)
+        );
     }
 }

@@ -1,7 +1,7 @@
-//! What a run must meet on some sheet by its count of facts, its fifth fact (S-1) and its sixth (S-3), and on some
-//! file.
+//! What a run must meet on some sheet by its count of facts, its fifth fact (S-1) and its sixth (S-3), on some sheet by
+//! the room for its results, and on some file.
 
-use crate::answer::refusal;
+use crate::answer::{refusal, LINE_WORDS};
 use crate::seen::DealKind;
 use crate::sheet::{Fact, Layout, FACTS, FEWEST_FACTS, FILE_BYTES, WORD_BYTES};
 use independent::approach::irb_of;
@@ -124,6 +124,41 @@ fn is_stc_under_sa(sheet: &[u64]) -> bool {
     read.facts.stc && irb_of(&read).is_none()
 }
 
+/// What must be met by the room for the results of some sheet. Of one tranche, one word less is one less for each.
+#[derive(Debug, Clone, Copy, PartialEq, Eq)]
+pub enum RoomFeature {
+    /// Accepted with just the words of its lines.
+    Exact,
+    /// Refused with one word less, where there are several tranches.
+    OneLess,
+    /// Refused with one word less for each of several tranches.
+    OneLessEach,
+}
+
+impl RoomFeature {
+    /// All features with their names, in the order of the enum.
+    pub(crate) const TABLE: [(RoomFeature, &'static str); 3] = [
+        (RoomFeature::Exact, "accepted with just the words of its lines"),
+        (RoomFeature::OneLess, "refusal 14 with one word less"),
+        (RoomFeature::OneLessEach, "refusal 14 with one less for each tranche"),
+    ];
+
+    /// Whether a sheet with so much room and this answer shows the feature. A sheet that is refused for its room has
+    /// its counts right.
+    pub(crate) fn shown(self, sheet: &[u64], room: usize, answer: &Result<Deal, Refusal>) -> bool {
+        let number = answer.as_ref().map_or_else(|refused| refused.number, |_| 0);
+        let less_by = |words: fn(usize) -> usize| {
+            let tranches = Layout::of_sheet(sheet).tranches;
+            room + words(tranches) == LINE_WORDS * tranches && (number == 0 || tranches > 1)
+        };
+        match self {
+            RoomFeature::Exact => number == 0 && less_by(|_| 0),
+            RoomFeature::OneLess => number == refusal::ROOM && less_by(|_| 1),
+            RoomFeature::OneLessEach => number == refusal::ROOM && less_by(|tranches| tranches),
+        }
+    }
+}
+
 /// What must be met on some file.
 #[derive(Debug, Clone, Copy, PartialEq, Eq)]
 pub enum FileFeature {
@@ -180,6 +215,9 @@ mod tests {
     fn tables_follow_the_enums() {
         assert!((0..)
             .zip(SheetFeature::TABLE)
+            .all(|(place, entry)| entry.0 as usize == place));
+        assert!((0..)
+            .zip(RoomFeature::TABLE)
             .all(|(place, entry)| entry.0 as usize == place));
         assert!((0..)
             .zip(FileFeature::TABLE)
@@ -258,5 +296,39 @@ mod tests {
             assert_eq!(shown(other), [], "{other:?}");
         }
         assert_eq!(shown(&sheet(&[0, 0, 1, 0], 0)), []);
+    }
+
+    /// What a sheet shows by so much room.
+    fn shown_by_room(sheet: &[u64], room: usize) -> Vec<RoomFeature> {
+        let answer = independent::weigh(sheet, room as u64);
+        let features = RoomFeature::TABLE.map(|(feature, _)| feature);
+        features
+            .into_iter()
+            .filter(|feature| feature.shown(sheet, room, &answer))
+            .collect()
+    }
+
+    /// Rooms count about the words of a line for each tranche, of two tranches 14: just that, one less, and 12. Other
+    /// rooms do not count, neither do sheets that are refused for something else, and of one tranche just that alone.
+    #[test]
+    fn rooms_are_counted() {
+        let two = sheet(&[0, 0, 0, 0], 0);
+        assert_eq!(shown_by_room(&two, 14), [RoomFeature::Exact]);
+        assert_eq!(shown_by_room(&two, 13), [RoomFeature::OneLess]);
+        assert_eq!(shown_by_room(&two, 12), [RoomFeature::OneLessEach]);
+        assert!([0, 7, 11, 15, 21]
+            .into_iter()
+            .all(|room| shown_by_room(&two, room).is_empty()));
+        let one = [4, 0, 0, 0, 0, 1, 1, 1, 1, 0, 1, 1, 1, 1, 0, 0, 0, 0];
+        assert_eq!(shown_by_room(&one, 7), [RoomFeature::Exact]);
+        assert_eq!(shown_by_room(&one, 6), []);
+        let thin = sheet(&[0, 0, 1, 0], 0);
+        assert_eq!(
+            [14, 12].map(|room| shown_by_room(&thin, room)),
+            [vec![], vec![RoomFeature::OneLessEach]]
+        );
+        assert!([&[][..], &[4], &two[1..]]
+            .into_iter()
+            .all(|sheet| shown_by_room(sheet, 7).is_empty()));
     }
 }

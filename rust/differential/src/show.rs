@@ -46,17 +46,21 @@ fn numbers(reply: &Reply) -> String {
     format!("number {number} place {place} count {count} charge {charge}\n")
 }
 
-/// What the independent implementation answers: the four numbers, and the lines with their admitted amounts.
+/// What is admitted, with a word between.
+fn one_of(admitted: impl Iterator<Item = String>) -> String {
+    admitted.collect::<Vec<_>>().join(" or ")
+}
+
+/// What the independent implementation answers: the four numbers, and the lines with their admitted amounts and least
+/// weights.
 fn independent_answer(answer: &Result<Deal, Refusal>) -> String {
     let mut text = numbers(&due(answer));
     for line in answer.iter().flat_map(|deal| &deal.lines) {
-        let amounts = line
-            .amounts
-            .iter()
-            .map(|a| format!("{} {} {}", a.weight, a.risk_weighted, a.capital));
-        let amounts = amounts.collect::<Vec<_>>().join(" or ");
+        let amounts = line.amounts.iter();
+        let amounts = one_of(amounts.map(|a| format!("{} {} {}", a.weight, a.risk_weighted, a.capital)));
+        let least_weights = one_of(line.least_weights.iter().map(u64::to_string));
         text += &format!(
-            "  {} {} {} {amounts}\n",
+            "  {} {} {} {amounts}, least weight {least_weights}\n",
             line.approach, line.attachment, line.detachment
         );
     }

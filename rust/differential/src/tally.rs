@@ -1,18 +1,19 @@
 //! What a run went through, counted, and what of it must occur for the run to count as one.
 
-use crate::answer::{refusal, Approach, LineWord};
+use crate::answer::{refusal, Approach, LineWord, LINE_WORDS};
 use crate::case::Case;
 use crate::date_feature::{DateFeature, DatedLineFeature};
 use crate::irb_feature::{
     is_under_irba, parameter_names, parameter_place, IrbFeature, IrbLineFeature, IrbRefusal, PARAMETERS,
 };
 use crate::kind::{File, Kind, Relation, Room};
+use crate::least_feature::LeastFeature;
 use crate::lent::Lent;
 use crate::line_feature::{Feature, StcFeature};
 use crate::rating_feature::RatingFeature;
 use crate::seen::{DealKind, Seen};
 use crate::sheet::{status, Layout, RowWord, LONG_TERM, SHORT_TERM};
-use crate::sheet_feature::{FileFeature, SheetFeature};
+use crate::sheet_feature::{FileFeature, RoomFeature, SheetFeature};
 use independent::{Deal, Refusal};
 use std::fmt;
 
@@ -74,6 +75,7 @@ fn names() -> Vec<String> {
     names.push("accepted".to_string());
     names.extend(refusal::MET.iter().map(|number| format!("refusal {number}")));
     names.extend(SheetFeature::TABLE.map(|(_, name)| name.to_string()));
+    names.extend(RoomFeature::TABLE.map(|(_, name)| name.to_string()));
     names.extend(DateFeature::TABLE.map(|(_, name)| name.to_string()));
     names.extend(IrbRefusal::TABLE.map(|(_, name)| name.to_string()));
     names.extend(IrbFeature::TABLE.map(|(_, name)| name.to_string()));
@@ -85,6 +87,7 @@ fn names() -> Vec<String> {
     names.extend(RatingFeature::TABLE.map(|(_, name)| name.to_string()));
     names.extend(DatedLineFeature::TABLE.map(|(_, name)| name.to_string()));
     names.extend(IrbLineFeature::TABLE.map(|(_, name)| name.to_string()));
+    names.extend(LeastFeature::TABLE.map(|(_, name)| name.to_string()));
     names.extend(parameter_names());
     names.extend(COLUMNS.map(|name| format!("lines: rarest grade, {name}")));
     names.extend(FileFeature::TABLE.map(|(_, name)| name.to_string()));
@@ -108,6 +111,8 @@ pub struct Tally {
     pub refusals: [u64; refusal::MET.len()],
     /// Sheets that show each feature.
     pub sheet_features: [u64; SheetFeature::TABLE.len()],
+    /// Sheets whose room for results shows each feature.
+    pub room_features: [u64; RoomFeature::TABLE.len()],
     /// Refused sheets whose dates show each feature.
     pub date_features: [u64; DateFeature::TABLE.len()],
     /// Refused sheets whose pool kind or IRB section shows each feature.
@@ -128,6 +133,8 @@ pub struct Tally {
     pub dated_line_features: [u64; DatedLineFeature::TABLE.len()],
     /// Lines that show each feature by the IRB section.
     pub irb_line_features: [u64; IrbLineFeature::TABLE.len()],
+    /// Lines whose weight and least weight show each feature.
+    pub least_features: [u64; LeastFeature::TABLE.len()],
     /// Lines under SEC-IRBA whose weight the exponentials decide, by row of coefficients, deal and least parameter.
     pub parameters: [u64; PARAMETERS],
     /// Lines whose weight one grade gives, by column and grade.
@@ -136,6 +143,10 @@ pub struct Tally {
     pub file_features: [u64; FileFeature::TABLE.len()],
     /// Lines with two admitted weights where the higher one is taken.
     pub higher_taken: u64,
+    /// Lines with two admitted least weights where the lower one is taken.
+    pub lower_taken: u64,
+    /// Lines with weight and least weight three apart, the most that is admitted.
+    pub three_apart: u64,
 }
 
 impl Tally {
@@ -146,6 +157,9 @@ impl Tally {
         self.files[case.file_kind as usize] += 1;
         for (count, (feature, _)) in self.sheet_features.iter_mut().zip(SheetFeature::TABLE) {
             *count += u64::from(feature.shown(&case.sheet, answer));
+        }
+        for (count, (feature, _)) in self.room_features.iter_mut().zip(RoomFeature::TABLE) {
+            *count += u64::from(feature.shown(&case.sheet, case.room, answer));
         }
         match answer {
             Ok(deal) => {
@@ -192,15 +206,25 @@ impl Tally {
         self.features[Feature::UnknownAtLimit as usize] += u64::from(at_limit && !is_under_irba(deal));
     }
 
-    /// Notes the lines of an accepted sheet, with the weights that were written.
+    /// Notes the lines of an accepted sheet, with the words that were written.
     fn note_lines(&mut self, sheet: &[u64], deal: &Deal, lent: &Lent) {
-        let written = lent.lines(deal.lines.len() as u64);
-        for (tranche, (line, words)) in deal.lines.iter().zip(written).enumerate() {
-            self.approaches[line.approach as usize] += 1;
-            self.note_seen(&Seen::new(sheet, deal, tranche));
-            let higher = line.amounts.get(1).map(|amounts| amounts.weight);
-            self.higher_taken += u64::from(higher == Some(words[LineWord::Weight as usize]));
+        for (tranche, words) in lent.lines(deal.lines.len() as u64).iter().enumerate() {
+            let seen = Seen::new(sheet, deal, tranche);
+            self.approaches[seen.line.approach as usize] += 1;
+            self.note_seen(&seen);
+            self.note_ends(&seen, words);
         }
+    }
+
+    /// Notes what a line shows by its weight and its least weight, and which of two admitted ones were written.
+    fn note_ends(&mut self, seen: &Seen, words: &[u64; LINE_WORDS]) {
+        let [weight, least_weight] = [LineWord::Weight, LineWord::LeastWeight].map(|word| words[word as usize]);
+        for (count, (feature, _)) in self.least_features.iter_mut().zip(LeastFeature::TABLE) {
+            *count += u64::from(feature.shown(seen, weight - least_weight));
+        }
+        self.higher_taken += u64::from(weight > seen.weight());
+        self.lower_taken += u64::from(seen.two_least_weights() && least_weight == seen.least_weight());
+        self.three_apart += u64::from(weight - least_weight == 3);
     }
 
     /// Notes what a line shows.
@@ -268,6 +292,7 @@ impl Tally {
         self.accepted += other.accepted;
         add(&mut self.refusals, &other.refusals);
         add(&mut self.sheet_features, &other.sheet_features);
+        add(&mut self.room_features, &other.room_features);
         add(&mut self.date_features, &other.date_features);
         add(&mut self.irb_refusals, &other.irb_refusals);
         add(&mut self.irb_features, &other.irb_features);
@@ -278,10 +303,13 @@ impl Tally {
         add(&mut self.rating_features, &other.rating_features);
         add(&mut self.dated_line_features, &other.dated_line_features);
         add(&mut self.irb_line_features, &other.irb_line_features);
+        add(&mut self.least_features, &other.least_features);
         add(&mut self.parameters, &other.parameters);
         add(self.grades.as_flattened_mut(), other.grades.as_flattened());
         add(&mut self.file_features, &other.file_features);
         self.higher_taken += other.higher_taken;
+        self.lower_taken += other.lower_taken;
+        self.three_apart += other.three_apart;
     }
 
     /// The counts of what must occur, in the order of their names.
@@ -295,6 +323,7 @@ impl Tally {
             &[self.accepted],
             &self.refusals,
             &self.sheet_features,
+            &self.room_features,
             &self.date_features,
             &self.irb_refusals,
             &self.irb_features,
@@ -305,6 +334,7 @@ impl Tally {
             &self.rating_features,
             &self.dated_line_features,
             &self.irb_line_features,
+            &self.least_features,
             &self.parameters,
             &rarest_grades,
             &self.file_features,
@@ -316,11 +346,12 @@ impl Tally {
     fn named(&self) -> Vec<(String, u64, bool)> {
         let must = names().into_iter().zip(self.counts());
         let mut named: Vec<_> = must.map(|(name, count)| (name, count, true)).collect();
-        named.push((
-            "lines: the higher of two weights taken".to_string(),
-            self.higher_taken,
-            false,
-        ));
+        let printed = [
+            ("lines: the higher of two weights taken", self.higher_taken),
+            ("lines: the lower of two least weights taken", self.lower_taken),
+            ("lines: ends three apart", self.three_apart),
+        ];
+        named.extend(printed.map(|(name, count)| (name.to_string(), count, false)));
         named
     }
 
@@ -344,7 +375,7 @@ impl fmt::Display for Tally {
 #[cfg(test)]
 mod tests {
     use super::*;
-    use crate::answer::LINE_WORDS;
+    use crate::least_feature::Ends;
     use crate::sheet::{pool_kind, Fact, Irb, Row, Tranche, FILE_BYTES, WHOLE, WORD_BYTES};
 
     /// Each grade has a place of its own, in the order of the codes.
@@ -438,19 +469,21 @@ mod tests {
         assert_eq!(pool_counts(pool_kind::SA, &[(100, 3), (1, 3)]), ([0, 0, 0, 1], 0));
     }
 
-    /// An empty run misses every count but the one that is only printed, and each count that occurs is no longer
+    /// An empty run misses every count but the three that are only printed, and each count that occurs is no longer
     /// missed.
     #[test]
     fn missing_names_each_count_that_is_zero() {
         let mut tally = Tally::default();
-        let all = tally.named().len();
-        assert_eq!(tally.missing().len(), all - 1);
+        let all = tally.named().len() - 3;
+        assert_eq!(tally.missing().len(), all);
         tally.refusals[refusal::place(refusal::THIN)] = 1;
         tally.grades[0] = [1; GRADES];
         tally.grades[1][1..].fill(1);
         tally.features[Feature::CapDecided as usize] = 1;
         tally.stc_features[StcFeature::CapDecided as usize] = 1;
         tally.irb_features[IrbFeature::CapDecided as usize] = 1;
+        tally.least_features[LeastFeature::Ends(Approach::Fallback, Ends::Any).place()] = 1;
+        tally.room_features[RoomFeature::OneLessEach as usize] = 1;
         let missing = tally.missing();
         let noted = [
             "refusal 13",
@@ -458,8 +491,10 @@ mod tests {
             "sheets: cap decided",
             "STC sheets: cap decided",
             "SEC-IRBA: cap decided",
+            "fallback ends: 125,000",
+            "refusal 14 with one less for each tranche",
         ];
-        assert_eq!(missing.len(), all - 1 - noted.len());
+        assert_eq!(missing.len(), all - noted.len());
         assert!(noted.iter().all(|name| !missing.contains(&name.to_string())));
     }
 

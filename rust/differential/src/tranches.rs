@@ -3,7 +3,8 @@
 use crate::answer::LINE_WORDS;
 use crate::kind::Kind;
 use crate::random::Random;
-use crate::sheet::{Deal, Tranche, LONG_TERM, MONTHS, RATINGS, SHORT_TERM, TRANCHES, TRANCHE_AMOUNT, WHOLE};
+use crate::sheet::{Deal, Fact, Tranche, LONG_TERM, MONTHS, RATINGS, SHORT_TERM, TRANCHES, TRANCHE_AMOUNT, WHOLE};
+use independent::rating::{self, Table};
 
 /// How the pool is divided into classes.
 #[derive(Clone, Copy)]
@@ -129,6 +130,11 @@ fn half_thick_points(random: &mut Random) -> Vec<u64> {
         true => random.between(WHOLE / 2 - 1, WHOLE / 2 + 1),
         false => random.between(WHOLE / 5 * 2, WHOLE - 1),
     };
+    points_of_second(random, thickness)
+}
+
+/// The attachment points of two classes, of which the second is so thick.
+fn points_of_second(random: &mut Random, thickness: u64) -> Vec<u64> {
     let top = random.between(thickness, WHOLE - 1);
     vec![top, top - thickness]
 }
@@ -265,6 +271,68 @@ pub fn any_ratings(random: &mut Random) -> [u64; RATINGS] {
     placed(random, count, any_code)
 }
 
+/// The grade whose weights near ratings have, a short-term one, and the long-term one whose exact figure is less than a
+/// hundredth of a percent below it, at these months and so thick.
+struct Near {
+    short_term: u64,
+    long_term: u64,
+    months: u64,
+    thickness: u64,
+}
+
+impl Near {
+    /// Draws near ratings for class 2 of a deal with this rating table. A thickness takes at most half of a weight, so
+    /// the long-term weight without it is from once to twice the short-term one. Below all but the first short-term
+    /// grade, which the floor hides, there is one: the last grades of both terms weigh the same.
+    fn draw(random: &mut Random, table: &Table) -> Near {
+        let between = random.between(13, 71);
+        let months = random.pick(&[12, 72, between]);
+        let weight = |code| weight_of_second(table, months, code);
+        let long_terms = |short_term: u64| -> Vec<u64> {
+            let range = weight(short_term)..=2 * weight(short_term);
+            (LONG_TERM.0..=LONG_TERM.1)
+                .filter(|&code| range.contains(&weight(code)))
+                .collect()
+        };
+        let mut short_terms: Vec<u64> = (SHORT_TERM.0 + 1..=SHORT_TERM.1).collect();
+        short_terms.retain(|&code| !long_terms(code).is_empty());
+        let short_term = random.pick(&short_terms);
+        let long_term = random.pick(&long_terms(short_term));
+        let kept = WHOLE * weight(short_term) / weight(long_term) - random.below(WHOLE / weight(long_term) + 1);
+        Near {
+            short_term,
+            long_term,
+            months,
+            thickness: WHOLE - kept,
+        }
+    }
+
+    /// Gives the tranches of class 2 these ratings in any order, now and then with a third one, mostly the lowest or the
+    /// highest.
+    fn rate(&self, random: &mut Random, tranches: &mut [Tranche]) {
+        for tranche in tranches.iter_mut().filter(|tranche| tranche.class == 2) {
+            let any = any_code(random);
+            let third = random.pick(&[0, 0, SHORT_TERM.0, SHORT_TERM.1, any]);
+            tranche.maturity = self.months;
+            tranche.ratings = [self.short_term, self.long_term, third];
+            random.shuffle(&mut tranche.ratings);
+        }
+    }
+}
+
+/// The weight of a tranche of class 2 without thickness by one rating, before the floor.
+fn weight_of_second(table: &Table, months: u64, code: u64) -> u64 {
+    let tranche = independent::sheet::Tranche {
+        amount: 1,
+        class: 2,
+        months,
+        held: 0,
+        ratings: [code, 0, 0],
+        place: 0,
+    };
+    rating::weight(table, &tranche, 0)
+}
+
 /// Draws the months of a maturity: around the months where a rule changes, or anywhere; where weights should lie near
 /// the senior figures, mostly a short one.
 fn months(kind: Kind, random: &mut Random) -> u64 {
@@ -289,7 +357,13 @@ fn held(random: &mut Random, amount: u64) -> u64 {
 /// Fills the deal with tranches of this kind over its pool. Facts, pool and IRB section must be there already. Some
 /// classes are split into tranches that rank pari passu.
 pub fn fill(kind: Kind, random: &mut Random, deal: &mut Deal) {
-    let amounts = Division::draw(kind, random).amounts(random, deal);
+    let near = (kind == Kind::NearRatings).then(|| Near::draw(random, Table::of(deal.facts[Fact::Stc] == 1)));
+    let amounts = match &near {
+        Some(near) => amounts_at(random, deal.nominal(), |random| {
+            points_of_second(random, near.thickness)
+        }),
+        None => Division::draw(kind, random).amounts(random, deal),
+    };
     let ratings = Ratings::draw(kind, random);
     let splits = random.once_in(3);
     deal.tranches.clear();
@@ -308,5 +382,8 @@ pub fn fill(kind: Kind, random: &mut Random, deal: &mut Deal) {
                 ratings: ratings.words(random),
             });
         }
+    }
+    if let Some(near) = near {
+        near.rate(random, &mut deal.tranches);
     }
 }

@@ -4,7 +4,7 @@ use crate::answer::{LineWord, LINE_WORDS};
 use crate::difference::{same, Difference, Part};
 use crate::lent::Lent;
 use crate::library::Reply;
-use independent::{Amounts, Deal, Line, Refusal};
+use independent::{Deal, Line, Refusal};
 
 /// The four numbers that are due: an accepted sheet's number and place are 0; a refused one's count and charge are 0
 /// ("Refusals").
@@ -49,46 +49,25 @@ fn compare_lines(deal: &Deal, lent: &Lent) -> Result<(), Difference> {
 }
 
 /// The words of a line: approach and points are the same; weight, risk-weighted amount and capital together are one
-/// of the admitted triples.
+/// of the admitted triples; the least weight is one of the admitted ones.
 fn compare_line(number: u64, line: &Line, words: &[u64; LINE_WORDS]) -> Result<(), Difference> {
-    let &[approach, attachment, detachment, weight, risk_weighted, capital] = words;
-    same(
-        Part::Line(LineWord::Approach),
-        (number, line.approach),
-        (number, approach),
-    )?;
-    same(
-        Part::Line(LineWord::Attachment),
-        (number, line.attachment),
-        (number, attachment),
-    )?;
-    same(
-        Part::Line(LineWord::Detachment),
-        (number, line.detachment),
-        (number, detachment),
-    )?;
-    let said = Amounts {
-        weight,
-        risk_weighted,
-        capital,
+    let said = |word: LineWord| words[word as usize];
+    let same = |word: LineWord, due: u64| same(Part::Line(word), (number, due), (number, said(word)));
+    same(LineWord::Approach, line.approach)?;
+    same(LineWord::Attachment, line.attachment)?;
+    same(LineWord::Detachment, line.detachment)?;
+    let mut admitted = line.amounts.iter();
+    let Some(amounts) = admitted.find(|amounts| amounts.weight == said(LineWord::Weight)) else {
+        let part = Part::Line(LineWord::Weight);
+        return Err(Difference::new(part, (number, &line.amounts), (number, words)));
     };
-    let Some(admitted) = line.amounts.iter().find(|amounts| amounts.weight == weight) else {
-        return Err(Difference::new(
-            Part::Line(LineWord::Weight),
-            (number, &line.amounts),
-            (number, said),
-        ));
-    };
-    same(
-        Part::Line(LineWord::RiskWeighted),
-        (number, admitted.risk_weighted),
-        (number, risk_weighted),
-    )?;
-    same(
-        Part::Line(LineWord::Capital),
-        (number, admitted.capital),
-        (number, capital),
-    )
+    same(LineWord::RiskWeighted, amounts.risk_weighted)?;
+    same(LineWord::Capital, amounts.capital)?;
+    if !line.least_weights.contains(&said(LineWord::LeastWeight)) {
+        let part = Part::Line(LineWord::LeastWeight);
+        return Err(Difference::new(part, (number, &line.least_weights), (number, words)));
+    }
+    Ok(())
 }
 
 /// No lent word at or after this place was written.

@@ -6,14 +6,17 @@ use differential::sheet::{
     pool_kind, Fact, IrbWord, Layout, TrancheWord, DAYS, FACTS, FEWEST_FACTS, FILE_BYTES, IRB_SHARE, LONG_TERM,
     MANY_LOANS, MONTHS, RATINGS, WHOLE, WORD_BYTES,
 };
-use differential::{show, Case, Difference, Feature, Found, Library, Part, Reply, Run, Tally, Weigh, WeighFile};
+use differential::{
+    show, Case, Difference, Ends, Feature, Found, LeastFeature, Library, Part, Reply, Run, Tally, Weigh, WeighFile,
+};
 use independent::approach::{self, Figures};
 use independent::charge::{self, Points};
 use independent::date::Date;
 use independent::formula::{raw_weights, Terms};
 use independent::irba::Sum;
 use independent::rating::{self, Table};
-use independent::sheet::{Irb, Row, Status, Tranche};
+use independent::sheet::{Facts, Irb, Row, Sheet, Status, Tranche};
+use independent::Line;
 
 /// The seed of the runs.
 const SEED: u64 = 3;
@@ -754,44 +757,39 @@ fn wrong_deals_under_irba() {
         assert!(found, "{place}: {part:?}");
     }
     let rated: Weigh = |sheet, results| {
-        let reply = proved(sheet, results);
-        let unrated = |tranche: &Tranche| tranche.ratings == [0; RATINGS];
-        change_lines_under_irba(sheet, results, &reply, |tranche, line| {
-            if !unrated(tranche) {
+        change_lines(sheet, results, |figures, tranche, line| {
+            if figures.irb.is_some() && tranche.ratings != [0; RATINGS] {
                 line[LineWord::Approach as usize] = Approach::SecErba.word();
             }
-        });
-        reply
+        })
     };
     assert_eq!(weighed(rated), Some(Part::Line(LineWord::Approach)));
     let as_sec_sa: Weigh = |sheet, results| {
-        let reply = proved(sheet, results);
-        change_lines_under_irba(sheet, results, &reply, |_, line| {
-            line[LineWord::Approach as usize] = Approach::SecSa.word();
-        });
-        reply
+        change_lines(sheet, results, |figures, _, line| {
+            if figures.irb.is_some() {
+                line[LineWord::Approach as usize] = Approach::SecSa.word();
+            }
+        })
     };
     assert_eq!(weighed(as_sec_sa), Some(Part::Line(LineWord::Approach)));
 }
 
-/// Changes the lines of a deal under SEC-IRBA, given each tranche and its line.
-fn change_lines_under_irba(
+/// Weighs as the proved library does, and changes the lines of an accepted sheet, given the deal's figures, each tranche
+/// and its line.
+fn change_lines(
     sheet: &[u64],
     results: &mut [u64],
-    reply: &Reply,
-    change: impl Fn(&Tranche, &mut [u64; LINE_WORDS]),
-) {
-    if reply.number != 0 {
-        return;
-    }
-    let read = independent::sheet::read(sheet).expect("an accepted sheet");
-    if approach::irb_of(&read).is_some() {
+    change: impl Fn(&Figures, &Tranche, &mut [u64; LINE_WORDS]),
+) -> Reply {
+    let reply = proved(sheet, results);
+    if reply.number == 0 {
+        let read = independent::sheet::read(sheet).expect("an accepted sheet");
+        let figures = Figures::of(&read);
         let (lines, _) = results.as_chunks_mut::<LINE_WORDS>();
-        read.tranches
-            .iter()
-            .zip(lines)
-            .for_each(|(tranche, line)| change(tranche, line));
+        let tranches = read.tranches.iter().zip(lines);
+        tranches.for_each(|(tranche, line)| change(&figures, tranche, line));
     }
+    reply
 }
 
 /// How a deal under SEC-IRBA is reworked: its figures, and the parameter of each tranche.
@@ -848,7 +846,8 @@ impl Rework {
             detachment,
             parameter: (self.parameter)(irb, figures, tranche),
         });
-        let weight = approach::limited(figures, tranche, raw[0]);
+        let [weight, least_weight] =
+            [raw.weights[0], raw.least_weights[0]].map(|raw| approach::limited(figures, tranche, raw));
         let product = u128::from(tranche.held) * u128::from(weight);
         let [risk_weighted, capital] = [product.div_ceil(10_000), (8 * product).div_ceil(1_000_000)];
         let approach = Approach::SecIrba.word();
@@ -859,6 +858,7 @@ impl Rework {
             weight,
             risk_weighted as u64,
             capital as u64,
+            least_weight,
         ])
     }
 }
@@ -916,8 +916,8 @@ fn base_rounded_down(rows: &[Row]) -> u128 {
 }
 
 /// A rework that changes nothing passes, so that each one below is found for its own sake. A charge that is wrong is
-/// found: that of document 01 with its late payers and unknown rows, the IRB charge alone, the base charge alone, over
-/// the known rows or rounded down, and the mixed charge rounded down.
+/// found, by itself or by a second sheet with other statuses: that of document 01 with its late payers and unknown rows,
+/// the IRB charge alone, the base charge alone, over the known rows or rounded down, and the mixed charge rounded down.
 #[test]
 fn wrong_charge_under_irba() {
     assert_eq!(refigured!(|_, _| {}), None);
@@ -939,7 +939,8 @@ fn wrong_charge_under_irba() {
         }),
     ];
     for (place, part) in wrong.into_iter().enumerate() {
-        assert!(matches!(part, Some(Part::Charge | Part::Outcome)), "{place}: {part:?}");
+        let found = matches!(part, Some(Part::Charge | Part::Outcome | Part::OtherUnderIrba));
+        assert!(found, "{place}: {part:?}");
     }
 }
 
@@ -974,6 +975,11 @@ fn wrong_thin_tranche_under_irba() {
 /// The parameter of a tranche by this sum.
 fn by_sum(sum: Sum, figures: &Figures) -> u64 {
     sum.parameter(figures.facts.stc)
+}
+
+/// Whether a difference is in one of a line's two ends.
+fn is_an_end(part: Option<Part>) -> bool {
+    matches!(part, Some(Part::Line(LineWord::Weight | LineWord::LeastWeight)))
 }
 
 /// The right sum of a tranche with the section changed.
@@ -1011,7 +1017,7 @@ fn wrong_terms_of_the_parameter() {
         }),
     ];
     for (place, part) in wrong.into_iter().enumerate() {
-        assert_eq!(part, Some(Part::Line(LineWord::Weight)), "{place}");
+        assert!(is_an_end(part), "{place}: {part:?}");
     }
 }
 
@@ -1054,7 +1060,7 @@ fn wrong_end_of_the_parameter() {
         }),
     ];
     for (place, part) in wrong.into_iter().enumerate() {
-        assert_eq!(part, Some(Part::Line(LineWord::Weight)), "{place}");
+        assert!(is_an_end(part), "{place}: {part:?}");
     }
 }
 
@@ -1080,8 +1086,8 @@ fn last_line(reply: &Reply) -> usize {
     LINE_WORDS * (reply.count as usize - 1)
 }
 
-/// Adds 3 to one of the words of the last line. Admitted weights are neighbours, so a weight with 3 added is never
-/// admitted.
+/// Adds 3 to one of the words of the last line. Admitted weights are neighbours, and so are admitted least weights, so
+/// that one with 3 added is never admitted.
 fn wrong_word<const WORD: usize>(sheet: &[u64], results: &mut [u64]) -> Reply {
     let reply = proved(sheet, results);
     if reply.number == 0 {
@@ -1103,8 +1109,15 @@ macro_rules! wrong_words {
 }
 
 /// All words of a line, wrong in turn.
-const WRONG_WORDS: [(Weigh, WeighFile, Part); LINE_WORDS] =
-    wrong_words![Approach, Attachment, Detachment, Weight, RiskWeighted, Capital];
+const WRONG_WORDS: [(Weigh, WeighFile, Part); LINE_WORDS] = wrong_words![
+    Approach,
+    Attachment,
+    Detachment,
+    Weight,
+    RiskWeighted,
+    Capital,
+    LeastWeight
+];
 
 /// Each of a line's words.
 #[test]
@@ -1112,6 +1125,176 @@ fn wrong_word_of_a_line() {
     for (weigh, _, part) in WRONG_WORDS {
         assert_eq!(weighed(weigh), Some(part));
     }
+}
+
+/// The floor and the cap of a tranche; the highest word where there is no cap.
+fn limits(figures: &Figures, tranche: &Tranche) -> (u64, u64) {
+    let facts = Facts {
+        composition_known: false,
+        ..*figures.facts
+    };
+    let uncapped = Figures {
+        facts: &facts,
+        ..*figures
+    };
+    let floor = approach::limited(&uncapped, tranche, 0);
+    (floor, approach::limited(figures, tranche, u64::MAX))
+}
+
+/// The number from which the least weight of a line starts; the higher one where two pass, and none under the fallback.
+fn least_start(figures: &Figures, tranche: &Tranche, line: &[u64; LINE_WORDS]) -> Option<u64> {
+    let [attachment, detachment] = [LineWord::Attachment, LineWord::Detachment].map(|word| line[word as usize]);
+    let approach = line[LineWord::Approach as usize];
+    if approach == Approach::Fallback.word() {
+        return None;
+    }
+    if approach == Approach::SecErba.word() {
+        let table = Table::of(figures.facts.stc);
+        return Some(rating::least_weight(table, tranche, detachment - attachment));
+    }
+    let raw = raw_weights(&Terms {
+        charge: figures.charge,
+        attachment,
+        detachment,
+        parameter: approach::parameter(figures, tranche),
+    });
+    raw.least_weights.last().copied()
+}
+
+/// Weighs as the proved library does, but limits each least weight in another way, given the number from which it starts,
+/// the floor and the cap.
+fn relimited(sheet: &[u64], results: &mut [u64], limit: fn(u64, u64, u64) -> u64) -> Reply {
+    change_lines(sheet, results, |figures, tranche, line| {
+        if let Some(start) = least_start(figures, tranche, line) {
+            let (floor, cap) = limits(figures, tranche);
+            line[LineWord::LeastWeight as usize] = limit(start, floor, cap);
+        }
+    })
+}
+
+/// Least weights limited wrongly: without the floor, without the cap, by the cap and then by the floor, or by neither.
+/// Limited rightly they pass.
+#[test]
+fn wrong_limits_of_the_least_weight() {
+    let right: Weigh = |sheet, results| relimited(sheet, results, |start, floor, cap| start.max(floor).min(cap));
+    assert_eq!(weighed(right), None);
+    let wrong: [Weigh; 4] = [
+        |sheet, results| relimited(sheet, results, |start, _, cap| start.min(cap)),
+        |sheet, results| relimited(sheet, results, |start, floor, _| start.max(floor)),
+        |sheet, results| relimited(sheet, results, |start, floor, cap| start.min(cap).max(floor)),
+        |sheet, results| relimited(sheet, results, |start, _, _| start),
+    ];
+    for weigh in wrong {
+        assert_eq!(weighed(weigh), Some(Part::Line(LineWord::LeastWeight)));
+    }
+}
+
+/// Weighs as the proved library does, but with another least weight on each line under some approaches, made of the line's
+/// weight and least weight.
+fn other_least(sheet: &[u64], results: &mut [u64], approaches: &[Approach], change: fn(u64, u64) -> u64) -> Reply {
+    change_lines(sheet, results, |_, _, line| {
+        let [approach, weight, least_weight] =
+            [LineWord::Approach, LineWord::Weight, LineWord::LeastWeight].map(|word| line[word as usize]);
+        if approaches.iter().any(|one| one.word() == approach) {
+            line[LineWord::LeastWeight as usize] = change(weight, least_weight);
+        }
+    })
+}
+
+/// The two approaches of the formula.
+const FORMULA: &[Approach] = &[Approach::SecSa, Approach::SecIrba];
+
+/// Least weights that are not those of the papers: by the table the weight itself, or one below it; by the formula the
+/// weight itself, two lower, or two below the weight also where less than one and a half are admitted or where D is at
+/// most K; under the fallback one lower.
+#[test]
+fn wrong_least_weight() {
+    let wrong: [Weigh; 6] = [
+        |sheet, results| other_least(sheet, results, &[Approach::SecErba], |weight, _| weight),
+        |sheet, results| {
+            other_least(sheet, results, &[Approach::SecErba], |weight, _| {
+                weight.saturating_sub(1)
+            })
+        },
+        |sheet, results| other_least(sheet, results, FORMULA, |weight, _| weight),
+        |sheet, results| other_least(sheet, results, FORMULA, |_, least| least.saturating_sub(2)),
+        |sheet, results| other_least(sheet, results, FORMULA, |weight, _| weight.saturating_sub(2)),
+        |sheet, results| other_least(sheet, results, &[Approach::Fallback], |_, least| least - 1),
+    ];
+    for (place, weigh) in wrong.into_iter().enumerate() {
+        assert_eq!(weighed(weigh), Some(Part::Line(LineWord::LeastWeight)), "{place}");
+    }
+}
+
+/// Lowers the least weight of the fallback to the cap.
+fn capped_fallback(sheet: &[u64], results: &mut [u64]) -> Reply {
+    change_lines(sheet, results, |figures, tranche, line| {
+        if line[LineWord::Approach as usize] == Approach::Fallback.word() {
+            let least_weight = &mut line[LineWord::LeastWeight as usize];
+            *least_weight = (*least_weight).min(limits(figures, tranche).1);
+        }
+    })
+}
+
+/// A fallback whose least weight the cap lowers.
+#[test]
+fn wrong_cap_of_the_fallback() {
+    assert_eq!(weighed(capped_fallback), Some(Part::Line(LineWord::LeastWeight)));
+}
+
+/// Weighs as the proved library does, but picks the rating of the least weight by the weights rounded up, and of equal
+/// ones the later word, or else the earlier.
+fn picked_by_weight(sheet: &[u64], results: &mut [u64], later: bool) -> Reply {
+    change_lines(sheet, results, |figures, tranche, line| {
+        let thickness = line[LineWord::Detachment as usize] - line[LineWord::Attachment as usize];
+        let table = Table::of(figures.facts.stc);
+        let mut alone: Vec<Tranche> = tranche
+            .ratings
+            .iter()
+            .filter(|&&code| code != 0)
+            .map(|&code| Tranche {
+                ratings: [code, 0, 0],
+                ..*tranche
+            })
+            .collect();
+        if !later {
+            alone.reverse();
+        }
+        alone.sort_by_key(|tranche| rating::weight(table, tranche, thickness));
+        let picked = alone.get(1).or(alone.first());
+        if let Some(picked) = picked.filter(|_| line[LineWord::Approach as usize] == Approach::SecErba.word()) {
+            let start = rating::least_weight(table, picked, thickness);
+            line[LineWord::LeastWeight as usize] = approach::limited(figures, tranche, start);
+        }
+    })
+}
+
+/// Ratings of one weight that are told apart by their order and not by their exact figures.
+#[test]
+fn wrong_rating_of_the_least_weight() {
+    let wrong: [Weigh; 2] = [
+        |sheet, results| picked_by_weight(sheet, results, true),
+        |sheet, results| picked_by_weight(sheet, results, false),
+    ];
+    for weigh in wrong {
+        assert_eq!(weighed(weigh), Some(Part::Line(LineWord::LeastWeight)));
+    }
+}
+
+/// Takes one word less for each tranche as room enough.
+fn one_less_each(sheet: &[u64], results: &mut [u64]) -> Reply {
+    let reply = proved(sheet, results);
+    let enough = |read: &Sheet| results.len() == (LINE_WORDS - 1) * read.tranches.len();
+    match independent::sheet::read(sheet) {
+        Ok(read) if reply.number == refusal::ROOM && enough(&read) => Reply::accepting(read.tranches.len() as u64, 0),
+        _ => reply,
+    }
+}
+
+/// Room for one word less for each tranche that is taken.
+#[test]
+fn wrong_room() {
+    assert_eq!(weighed(one_less_each), Some(Part::Outcome));
 }
 
 /// Leaves the last line as it was lent, though it reports it done.
@@ -1365,15 +1548,15 @@ fn panic_on_a_file_is_a_difference() {
     );
 }
 
-/// The independent answer, with the triple that `choose` takes from each line's admitted ones.
-fn chosen(sheet: &[u64], results: &mut [u64], choose: fn(&[independent::Amounts]) -> [u64; 3]) -> Reply {
+/// The independent answer, with the last four words of each line that `choose` takes from the admitted ones.
+fn chosen(sheet: &[u64], results: &mut [u64], choose: fn(&Line) -> [u64; 4]) -> Reply {
     let deal = match independent::weigh(sheet, results.len() as u64) {
         Ok(deal) => deal,
         Err(refusal) => return Reply::refusing(refusal.number, refusal.place),
     };
     let (lines, _) = results.as_chunks_mut::<LINE_WORDS>();
     for (line, words) in deal.lines.iter().zip(lines) {
-        let [weight, risk_weighted, capital] = choose(&line.amounts);
+        let [weight, risk_weighted, capital, least_weight] = choose(line);
         *words = [
             line.approach,
             line.attachment,
@@ -1381,50 +1564,80 @@ fn chosen(sheet: &[u64], results: &mut [u64], choose: fn(&[independent::Amounts]
             weight,
             risk_weighted,
             capital,
+            least_weight,
         ];
     }
     Reply::accepting(deal.lines.len() as u64, deal.charge)
 }
 
-/// A triple as the last three words of a line.
-fn words(amounts: &independent::Amounts) -> [u64; 3] {
-    [amounts.weight, amounts.risk_weighted, amounts.capital]
+/// A triple and a least weight as the last four words of a line.
+fn words(amounts: &independent::Amounts, least_weight: u64) -> [u64; 4] {
+    [amounts.weight, amounts.risk_weighted, amounts.capital, least_weight]
 }
 
-/// Where two weights are admitted, both the lower and the higher pass, and it is counted which one was taken. Lines under
-/// SEC-IRBA with two weights are those whose parameters are counted.
+/// The lower or the higher one of two in a list, or the only one.
+fn one_of<T>(admitted: &[T], higher: bool) -> &T {
+    &admitted[if higher { admitted.len() - 1 } else { 0 }]
+}
+
+/// The counts of a run in which the lower or the higher of two admitted weights is taken, and the lower or the higher of
+/// two admitted least weights.
+fn taken<const HIGHER: bool, const HIGHER_LEAST: bool>() -> Tally {
+    let weigh: Weigh = |sheet, results| {
+        chosen(sheet, results, |line| {
+            let amounts = one_of(&line.amounts, HIGHER);
+            words(amounts, *one_of(&line.least_weights, HIGHER_LEAST))
+        })
+    };
+    let library = Library {
+        weigh,
+        ..Library::PROVED
+    };
+    run(library, 2).expect("an admitted weight is no difference")
+}
+
+/// Where two weights are admitted, both the lower and the higher pass, beside each admitted least weight, and it is
+/// counted which one was taken and how far apart they are. Lines under SEC-IRBA with two weights are those whose
+/// parameters are counted.
 #[test]
 fn either_admitted_weight_passes() {
-    let lower: Weigh = |sheet, results| chosen(sheet, results, |admitted| words(&admitted[0]));
-    let higher: Weigh = |sheet, results| chosen(sheet, results, |admitted| words(&admitted[admitted.len() - 1]));
-    let tally = |weigh| {
-        let library = Library {
-            weigh,
-            ..Library::PROVED
-        };
-        run(library, 2).expect("an admitted weight is no difference")
+    let [near, lower, higher, far] = [
+        taken::<false, true>(),
+        taken::<false, false>(),
+        taken::<true, true>(),
+        taken::<true, false>(),
+    ];
+    let two_weights = |tally: &Tally| {
+        let under_irba = tally.parameters.iter().sum::<u64>();
+        let under_sa = tally.features[Feature::TwoWeights as usize];
+        assert!(under_irba > 100 && under_sa > 100);
+        under_irba + under_sa
     };
-    let (lower, higher) = (tally(lower), tally(higher));
-    assert_eq!(lower.higher_taken, 0);
-    let under_irba = higher.parameters.iter().sum::<u64>();
-    assert_eq!(
-        higher.higher_taken,
-        higher.features[Feature::TwoWeights as usize] + under_irba
-    );
-    assert!(under_irba > 100);
-    assert!(higher.higher_taken > under_irba + 100);
+    assert_eq!((near.higher_taken, lower.higher_taken), (0, 0));
+    assert_eq!([&higher, &far].map(|tally| tally.higher_taken), [two_weights(&near); 2]);
+    let ends = |tally: &Tally, ends| {
+        let features = [Approach::SecSa, Approach::SecIrba].map(|approach| LeastFeature::Ends(approach, ends));
+        features
+            .map(|feature| tally.least_features[feature.place()])
+            .iter()
+            .sum::<u64>()
+    };
+    let two_least_weights = ends(&near, Ends::TwoLeastWeights);
+    assert_eq!((near.lower_taken, higher.lower_taken), (0, 0));
+    assert_eq!([&lower, &far].map(|tally| tally.lower_taken), [two_least_weights; 2]);
+    assert!(ends(&near, Ends::OneApart) > 100 && ends(&near, Ends::TwoApart) == 0);
+    assert!(ends(&lower, Ends::TwoApart) > 100 && ends(&higher, Ends::OneApart) == 0);
+    assert_eq!([&near, &lower, &higher].map(|tally| tally.three_apart), [0; 3]);
+    assert!(far.three_apart > 100);
 }
 
 /// The higher weight with the lower one's risk-weighted amount and capital is no admitted triple.
 #[test]
 fn mixed_triple_is_found() {
     let mixed: Weigh = |sheet, results| {
-        chosen(sheet, results, |admitted| {
-            [
-                admitted[admitted.len() - 1].weight,
-                admitted[0].risk_weighted,
-                admitted[0].capital,
-            ]
+        chosen(sheet, results, |line| {
+            let [lower, higher] = [false, true].map(|higher| one_of(&line.amounts, higher));
+            [higher.weight, lower.risk_weighted, lower.capital, line.least_weights[0]]
         })
     };
     assert_eq!(weighed(mixed), Some(Part::Line(LineWord::RiskWeighted)));
@@ -1448,6 +1661,29 @@ fn wrong_report_text() {
         reported(|file| text(file).replace("charge ", "charge  ")),
         Some(Part::Text)
     );
+    assert_eq!(reported(without_least_weights), Some(Part::Text));
+    assert_eq!(reported(weights_as_least_weights), Some(Part::Text));
+}
+
+/// The report with another text for each line of a tranche, made of its words.
+fn retold(file: &[u8], retell: fn(&mut Vec<&str>)) -> String {
+    let told = text(file);
+    let mut lines: Vec<Vec<&str>> = told.lines().map(|line| line.split(' ').collect()).collect();
+    let of_tranches = lines.iter_mut().filter(|words| words.len() == 1 + LINE_WORDS);
+    of_tranches.for_each(retell);
+    lines.iter().map(|words| words.join(" ") + "\n").collect()
+}
+
+/// The report without the least weights.
+fn without_least_weights(file: &[u8]) -> String {
+    retold(file, |words| words.truncate(LINE_WORDS))
+}
+
+/// The report with each weight in place of the least weight.
+fn weights_as_least_weights(file: &[u8]) -> String {
+    retold(file, |words| {
+        words[1 + LineWord::LeastWeight as usize] = words[1 + LineWord::Weight as usize]
+    })
 }
 
 /// A difference is shown with the sheet's words, what each side said, and seed, index and part as the last line.

@@ -1,13 +1,16 @@
 //! The random sheets are what their kinds say. Points and charges are taken from the independent implementation.
 
-use differential::answer::{refusal, Approach, MOST_RESULTS};
+use differential::answer::{refusal, Approach, LINE_WORDS, MOST_RESULTS};
 use differential::sheet::{
     pool_kind, status, Fact, IrbWord, Layout, RowWord, TrancheWord, DAYS, FACTS, FEWEST_FACTS, IRB_AVERAGE, IRB_SHARE,
     LOANS, MANY_LOANS, MONTHS, POOL_AMOUNT, ROWS, TRANCHES, TRANCHE_AMOUNT, WHOLE,
 };
 use differential::{is_under_irba, Case, Kind, Relation};
 use independent::approach::Figures;
+use independent::charge::{self, Points};
 use independent::irba::Sum;
+use independent::rating::{self, Table};
+use independent::sheet::Tranche;
 use std::cmp::Ordering;
 use std::collections::BTreeSet;
 
@@ -371,6 +374,86 @@ fn half_thick_tranches_are_half_thick() {
     }
     let wanted = [0, 1].map(|mark| [499_999, 500_000, 500_001].map(|thickness| (mark, thickness)));
     assert!(wanted.as_flattened().iter().all(|case| met.contains(case)));
+}
+
+/// Near ratings weigh the same, alone, and the least weights by them differ: by both tables, without a third rating, with
+/// a lower one and with a higher one.
+#[test]
+fn near_ratings_are_near() {
+    let mut met = BTreeSet::new();
+    for sheet in sheets(Kind::NearRatings, 20_000) {
+        let read = independent::sheet::read(&sheet).expect("a sound sheet");
+        let nominal = charge::nominal_sum(&read.pool);
+        let table = Table::of(read.facts.stc);
+        for tranche in read.tranches.iter().filter(|tranche| tranche.class == 2) {
+            let Points { attachment, detachment } = charge::points(nominal, &read.tranches, tranche.class);
+            let ends = |code| {
+                let ratings = [code, 0, 0];
+                let alone = Tranche { ratings, ..*tranche };
+                [rating::weight, rating::least_weight].map(|end| end(table, &alone, detachment - attachment))
+            };
+            let mut all: Vec<[u64; 2]> = tranche
+                .ratings
+                .into_iter()
+                .filter(|&code| code != 0)
+                .map(ends)
+                .collect();
+            all.sort_unstable();
+            let near = |pair: &[[u64; 2]]| pair[0][0] == pair[1][0] && pair[0][1] < pair[1][1];
+            let places: Vec<bool> = all.windows(2).map(near).collect();
+            met.insert((read.facts.stc, places));
+        }
+    }
+    for stc in [false, true] {
+        for places in [vec![true], vec![true, false], vec![false, true]] {
+            assert!(met.contains(&(stc, places.clone())), "{stc} {places:?}");
+        }
+    }
+}
+
+/// Rooms are lent that hold just the lines of several tranches, one word less and one less for each.
+#[test]
+fn rooms_are_about_the_lines() {
+    let mut met = BTreeSet::new();
+    for case in (0..5_000).map(|index| Case::new(20, index)) {
+        if case.kind.is_sound() {
+            let tranches = Layout::of_sheet(&case.sheet).tranches;
+            let lacking = (LINE_WORDS * tranches).wrapping_sub(case.room);
+            met.extend((lacking <= tranches).then_some((lacking, tranches)));
+        }
+    }
+    for tranches in 2..5 {
+        let lacking = [0, 1, tranches].map(|lacking| (lacking, tranches));
+        assert!(lacking.iter().all(|room| met.contains(room)), "{tranches}");
+    }
+}
+
+/// No least weight that a line admits is above a weight that it admits. Under the formula they are at most three apart
+/// where neither floor nor cap acts, under SEC-ERBA at most one, and under the fallback they are equal; floor and cap
+/// bring them no further apart.
+#[test]
+fn least_weights_are_not_above_weights() {
+    let mut most = BTreeSet::new();
+    for index in 0..20_000 {
+        let case = Case::new(21, index);
+        let Ok(deal) = independent::weigh(&case.sheet, case.room as u64) else {
+            continue;
+        };
+        for line in &deal.lines {
+            let weights: Vec<u64> = line.amounts.iter().map(|amounts| amounts.weight).collect();
+            assert!(weights.is_sorted() && line.least_weights.is_sorted());
+            let [lowest, highest] = [weights[0], weights[weights.len() - 1]];
+            assert!(line.least_weights.iter().all(|&least_weight| least_weight <= lowest));
+            most.insert((line.approach, highest - line.least_weights[0]));
+        }
+    }
+    let of_formula = [Approach::SecSa, Approach::SecIrba].map(|approach| [0, 1, 2, 3].map(|apart| (approach, apart)));
+    let of_table = [0, 1].map(|apart| (Approach::SecErba, apart));
+    let all = of_formula.as_flattened().iter().chain(&of_table);
+    let all = all
+        .chain(&[(Approach::Fallback, 0)])
+        .map(|&(approach, apart)| (approach.word(), apart));
+    assert_eq!(most, all.collect());
 }
 
 /// The unknown exposure comes within a unit of 5% from below and from above, and meets it.
