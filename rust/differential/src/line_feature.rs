@@ -193,16 +193,15 @@ mod tests {
     #[test]
     fn thin_lines_above_the_charge_are_counted() {
         let thin = |approach: Approach, charge, attachment, detachment| {
-            let amounts = vec![Amounts {
-                weight: 1_500,
-                risk_weighted: 0,
-                capital: 0,
-            }];
             let line = Line {
                 approach: approach.word(),
                 attachment,
                 detachment,
-                amounts,
+                amounts: vec![Amounts {
+                    weight: 1_500,
+                    risk_weighted: 0,
+                    capital: 0,
+                }],
                 least_weights: vec![1_500],
             };
             Feature::ThinAboveCharge.shown(&Seen {

@@ -271,8 +271,8 @@ pub fn any_ratings(random: &mut Random) -> [u64; RATINGS] {
     placed(random, count, any_code)
 }
 
-/// The grade whose weights near ratings have, a short-term one, and the long-term one whose exact figure is less than a
-/// hundredth of a percent below it, at these months and so thick.
+/// Two ratings that are near: a short-term one, and a long-term one whose exact figure, at these months and so thick, is
+/// below that of the other by less than a hundredth of a percent.
 struct Near {
     short_term: u64,
     long_term: u64,
@@ -282,8 +282,8 @@ struct Near {
 
 impl Near {
     /// Draws near ratings for class 2 of a deal with this rating table. A thickness takes at most half of a weight, so
-    /// the long-term weight without it is from once to twice the short-term one. Below all but the first short-term
-    /// grade, which the floor hides, there is one: the last grades of both terms weigh the same.
+    /// the long-term weight without it is from once to twice the short-term one. The first short-term grade is left out,
+    /// which the floor hides. For the last one there always is a long-term grade, one that weighs the same.
     fn draw(random: &mut Random, table: &Table) -> Near {
         let between = random.between(13, 71);
         let months = random.pick(&[12, 72, between]);
