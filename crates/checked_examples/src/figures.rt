@@ -1,6 +1,7 @@
 // Single figures: tranche maturities, raw weights of the formula, entries of the decay table. The reason for each number of the stored text stands beside it; values are cut after six decimals.
 use formula::RawWeight;
 use libc::STDOUT_FILENO;
+use numbers::Ends;
 
 // Writes a label and the number that it labels.
 fn print_labelled(label: &[u8], n: u64) {
@@ -20,6 +21,13 @@ fn print_maturity(months: u64) {
     print_value(ratings::maturity_fifths(months));
 }
 
+// Writes a line: a figure's low end and its high end.
+fn print_ends(e: Ends) {
+    print_labelled(b": ", e.low);
+    print_labelled(b" to ", e.high);
+    io::write_all(STDOUT_FILENO, b"\n");
+}
+
 // Writes the raw weight of the formula, its low number and its high one.
 fn print_raw_weight(a: u64, d: u64, k: u64, p: u64) {
     print_labelled(b"raw weight at A ", a);
@@ -28,11 +36,7 @@ fn print_raw_weight(a: u64, d: u64, k: u64, p: u64) {
     print_labelled(b" p ", p);
     let raw = formula::raw_weight(a, d, k, p);
     match raw {
-        RawWeight::Weight(e) => {
-            print_labelled(b": ", e.low);
-            print_labelled(b" to ", e.high);
-            io::write_all(STDOUT_FILENO, b"\n");
-        }
+        RawWeight::Weight(e) => print_ends(e),
         RawWeight::NoThickness => {
             io::write_all(STDOUT_FILENO, b": no thickness\n");
         }

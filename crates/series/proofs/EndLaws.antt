@@ -38,8 +38,8 @@ at-most-plus-one x y v w x-pos between at-least below =
     let x-bottoms = x .minuend .bottom * x .subtrahend .bottom in
     let y-bottoms = y .minuend .bottom * y .subtrahend .bottom in
     let doubled : 2 * v < 2 * w + 3 =
-        lt-of-mul-lt-mul-right (x-bottoms * y-bottoms)
-        (omega (arith, between, mul-le-mul-right y-bottoms at-least, mul-lt-mul-of-pos-right below (mul-pos (x-pos .0) (x-pos .1)))) in
+    lt-of-mul-lt-mul-right (x-bottoms * y-bottoms)
+    (omega (arith, between, mul-le-mul-right y-bottoms at-least, mul-lt-mul-of-pos-right below (mul-pos (x-pos .0) (x-pos .1)))) in
     omega arith
 
 -- w − 2 < x ≤ y < v + 1.5 gives w ≤ v + 3
@@ -48,13 +48,13 @@ at-most-plus-three x y v w x-pos y-pos between above below =
     let x-bottoms = x .minuend .bottom * x .subtrahend .bottom in
     let y-bottoms = y .minuend .bottom * y .subtrahend .bottom in
     let doubled : 2 * w < 2 * v + 7 =
-        lt-of-mul-lt-mul-right (x-bottoms * y-bottoms)
-        (omega (
-          arith,
-          between,
-          mul-lt-mul-of-pos-right above (mul-pos (y-pos .0) (y-pos .1)),
-          mul-lt-mul-of-pos-right below (mul-pos (x-pos .0) (x-pos .1)),
-        )) in
+    lt-of-mul-lt-mul-right (x-bottoms * y-bottoms)
+    (omega (
+      arith,
+      between,
+      mul-lt-mul-of-pos-right above (mul-pos (y-pos .0) (y-pos .1)),
+      mul-lt-mul-of-pos-right below (mul-pos (x-pos .0) (x-pos .1)),
+    )) in
     omega arith
 
 per-thickness-grows : (A D : ℕ) (x y : Fraction) → AtMost x y → AtMost (perThickness A D x) (perThickness A D y)

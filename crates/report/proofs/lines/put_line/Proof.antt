@@ -37,7 +37,7 @@ same-length c = search needs
 returns : tie.Need-returns
 returns c =
     let first = lineSize * c .before .before .before .before .before .before .before .args .i in
-    tranche-line-put _ _ _ _ first (first + lineSize) _ (c .before .before .put-spaced .ensures) (omega arith) (omega arith) (omega arith)
+    tranche-line-put _ _ _ _ first _ _ (c .before .before .put-spaced .ensures) (omega arith) (omega arith) (omega arith)
 
 pub put-line-spec : {M : Type 1} → statement M
 put-line-spec =
