@@ -73,7 +73,7 @@ results-line s old i c e l h =
     (List·getD-append (lines s (trancheCount s)) (drop (lineSize * trancheCount s) old) 0 (lineSize * i + c) (omega (arith, length-lines s (trancheCount s))) ∙
     line-at s (trancheCount s) i c l h)
 
--- S-6: in every line the seventh word is not above the fourth, and at most 2 below it; under the rating table at most 1, under the fallback both are the same
+-- S-6: in every line the seventh word is not above the fourth, and at most 2 below it (by the rating table at most 1, `table-weight-within`, WeightLaws.antt of `weights`)
 pub seventh-within :
     (s old : List ℕ) (i : ℕ) → verdict s (length old) ≡ Sound → i < trancheCount s →
     EndsWithin 2 (record { low = getD (resultsAfter s old) (lineSize * i + 6) 0; high = getD (resultsAfter s old) (lineSize * i + 3) 0 })

@@ -1,6 +1,6 @@
--- 01, "The formula and its series", demand 3, and 02, S-6, "Both ends in the report": what the results hold for every accepted tranche by the formula with K at least 1 and D above K, where the rules
--- leave the raw weight and the number from which the seventh word starts open. The parameter is that of the tranche and its deal; S-1 of 02 for STC deals: "The exact value is then taken with 0.5." S-5: "what demand 3 and 01 say of SEC-SA lines
--- holds for approach 3 lines too", and "the exact value read[s] this charge and parameter".
+-- 01, "The formula and its series", demand 3, and 02, S-6, "Both ends in the report": what the results hold for every accepted tranche by the formula with K at least 1 and D above
+-- K, where the rules leave the raw weight and the number from which the seventh word starts open. The parameter is that of the tranche and its deal; S-1 of 02 for STC deals: "The
+-- exact value is then taken with 0.5." S-5: "what demand 3 and 01 say of SEC-SA lines holds for approach 3 lines too", and "the exact value read[s] this charge and parameter".
 use mathlib.Core.Bool.{true}
 use mathlib.Core.List.{List}
 use mathlib.Core.Path.{_≡_}

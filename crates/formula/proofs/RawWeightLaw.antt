@@ -54,8 +54,8 @@ module _ (A D K p : ℕ) (K-pos : 0 < K) (p-pos : 0 < p) (above : K < D) (thick 
   upperFraction = over ((D - K) * 1000000) (1 * b)
 
   -- the product's ends, and the weight's
-  abbrev part : Ends
-  part = product (units lower b) (units width b)
+  abbrev ends : Ends
+  ends = product (units lower b) (units width b)
 
   abbrev w : Ends
   w = formulaWeight A D K p
@@ -72,14 +72,14 @@ module _ (A D K p : ℕ) (K-pos : 0 < K) (p-pos : 0 < p) (above : K < D) (thick 
   thickness : (K - A) + v ≡ D - A
   thickness = omega arith
 
-  gap : (k : ℕ) × Gap lower width (lower + width) (1 * b) (part .high) (part .low) k
+  gap : (k : ℕ) × Gap lower width (lower + width) (1 * b) (ends .high) (ends .low) k
   gap =
       let decayed = decay-ends (units lower b) in
       let mean = mean-decay-ends (units width b) in
       let whole = product-ends (units lower b) (units width b) in
       let least = units-least width b b-pos in
       let most = units-most width b b-pos in
-      gap-at-some-k lower width (1 * b) bottom-pos (part .high) (part .low) (omega arith)
+      gap-at-some-k lower width (1 * b) bottom-pos (ends .high) (ends .low) (omega arith)
       (not-above-smaller lowerFraction (over (suc (units lower b)) (2 ^ 32)) (omega arith)
       (omega (arith, units-most lower b b-pos)) (decayed .low))
       (not-below-larger (over (units lower b) (2 ^ 32)) lowerFraction (omega arith)
@@ -89,33 +89,33 @@ module _ (A D K p : ℕ) (K-pos : 0 < K) (p-pos : 0 < p) (above : K < D) (thick 
       (whole .high)
       (whole .low)
 
-  upper-gap : Gap lower width ((D - K) * 1000000) (1 * b) (part .high) (part .low) (gap .0)
-  upper-gap = subst (λ (u : ℕ). Gap lower width u (1 * b) (part .high) (part .low) (gap .0)) upper-sum (gap .1)
+  upper-gap : Gap lower width ((D - K) * 1000000) (1 * b) (ends .high) (ends .low) (gap .0)
+  upper-gap = subst (λ (u : ℕ). Gap lower width u (1 * b) (ends .high) (ends .low) (gap .0)) upper-sum (gap .1)
 
   -- the high number is the numerator of the high end over the thickness, rounded up,
   rounded-up :
-      (weightNumerator A D K (part .high) ≤ w .high * ((D - A) * 2 ^ 27)) ×
-      (w .high * ((D - A) * 2 ^ 27) < weightNumerator A D K (part .high) + (D - A) * 2 ^ 27)
+      (weightNumerator A D K (ends .high) ≤ w .high * ((D - A) * 2 ^ 27)) ×
+      (w .high * ((D - A) * 2 ^ 27) < weightNumerator A D K (ends .high) + (D - A) * 2 ^ 27)
   unfolding formulaWeight formulaProduct
   rounded-up =
-      let between = rounded-up-between (weightNumerator A D K (part .high)) ((D - A) * 2 ^ 27) (omega arith) in
+      let between = rounded-up-between (weightNumerator A D K (ends .high)) ((D - A) * 2 ^ 27) (omega arith) in
       (omega (arith, between .0), omega (arith, between .1))
 
   -- and the low number that of the low end, rounded down
   rounded-down :
-      (w .low * ((D - A) * 2 ^ 27) ≤ weightNumerator A D K (part .low)) ×
-      (weightNumerator A D K (part .low) < w .low * ((D - A) * 2 ^ 27) + (D - A) * 2 ^ 27)
+      (w .low * ((D - A) * 2 ^ 27) ≤ weightNumerator A D K (ends .low)) ×
+      (weightNumerator A D K (ends .low) < w .low * ((D - A) * 2 ^ 27) + (D - A) * 2 ^ 27)
   unfolding formulaWeight formulaProduct
   rounded-down =
-      let n = weightNumerator A D K (part .low) in
+      let n = weightNumerator A D K (ends .low) in
       let m = (D - A) * 2 ^ 27 in
       (omega (arith, div-mul-le-self n m), omega (arith, lt-div-mul-add {a = n} {b = m} (omega arith)))
 
-  -- The product's ends are at most productDistance apart, also where the low one is taken as 0, and productDistance × 125,000 is below 2^26: so the two numerators are less than a
+  -- The product's ends are at most productDistance apart, also where the low one is taken as 0, and productDistance × 125,000 is below 2^25: so the two numerators are less than a
   -- quarter of the thickness apart.
-  numerators-near : 4 * weightNumerator A D K (part .high) < 4 * weightNumerator A D K (part .low) + (D - A) * 2 ^ 27
+  numerators-near : 4 * weightNumerator A D K (ends .high) < 4 * weightNumerator A D K (ends .low) + (D - A) * 2 ^ 27
   unfolding weightNumerator
-  numerators-near = core (part .high) (part .low) (D - A) (K - A) v (omega arith) thickness (omega arith)
+  numerators-near = core (ends .high) (ends .low) (D - A) (K - A) v (omega arith) thickness (omega arith)
     where
       core : (P Q m t v : ℕ) → P ≤ Q + productDistance → t + v ≡ m → 0 < m →
           4 * (125000 * (t * 2 ^ 27 + v * P)) < 4 * (125000 * (t * 2 ^ 27 + v * Q)) + m * 2 ^ 27
@@ -129,8 +129,8 @@ module _ (A D K p : ℕ) (K-pos : 0 < K) (p-pos : 0 < p) (above : K < D) (thick 
       record {
         k = k;
         counts = record { at-l = upper-gap .admitted-l; at-u = upper-gap .admitted-u };
-        upper = end-at-most (K - A) (D - A) b v (w .high) (part .high) (low lowerFraction k) (up upperFraction k) (upper-gap .high) (rounded-up .0);
-        lower = end-above (K - A) (D - A) b v (w .high) (part .low) (up lowerFraction k) (low upperFraction k) (omega arith)
+        upper = end-at-most (K - A) (D - A) b v (w .high) (ends .high) (low lowerFraction k) (up upperFraction k) (upper-gap .high) (rounded-up .0);
+        lower = end-above (K - A) (D - A) b v (w .high) (ends .low) (up lowerFraction k) (low upperFraction k) (omega arith)
             (up-top-pos lowerFraction bottom-pos k) (low-top-pos upperFraction bottom-pos k) (upper-gap .least)
             (omega (arith, rounded-up .1, numerators-near));
       }
@@ -143,8 +143,8 @@ module _ (A D K p : ℕ) (K-pos : 0 < K) (p-pos : 0 < p) (above : K < D) (thick 
       record {
         k = k;
         counts = record { at-l = upper-gap .admitted-l; at-u = upper-gap .admitted-u };
-        lower = end-at-least (K - A) (D - A) b v (w .low) (part .low) (up lowerFraction k) (low upperFraction k) (upper-gap .least) (rounded-down .0);
-        upper = end-below (K - A) (D - A) b v (w .low) (part .high) (low lowerFraction k) (up upperFraction k) (omega arith)
+        lower = end-at-least (K - A) (D - A) b v (w .low) (ends .low) (up lowerFraction k) (low upperFraction k) (upper-gap .least) (rounded-down .0);
+        upper = end-below (K - A) (D - A) b v (w .low) (ends .high) (low lowerFraction k) (up upperFraction k) (omega arith)
             (low-top-pos lowerFraction bottom-pos k) (up-top-pos upperFraction bottom-pos k) (upper-gap .high)
             (omega (arith, rounded-down .1, numerators-near));
       }
@@ -152,7 +152,7 @@ module _ (A D K p : ℕ) (K-pos : 0 < K) (p-pos : 0 < p) (above : K < D) (thick 
   -- The high number is at most 125,000, since the product is at most 2^27.
   pub formula-at-most : w .high ≤ 125000
   unfolding weightNumerator
-  formula-at-most = core (K - A) v (D - A) (part .high) thickness (omega arith) (product-above-at-most (units lower b) (units width b)) (rounded-up .1)
+  formula-at-most = core (K - A) v (D - A) (ends .high) thickness (omega arith) (product-above-at-most (units lower b) (units width b)) (rounded-up .1)
     where
       core : (t v m P : ℕ) → t + v ≡ m → 0 < m → P ≤ 2 ^ 27 → w .high * (m * 2 ^ 27) < 125000 * (t * 2 ^ 27 + v * P) + m * 2 ^ 27 → w .high ≤ 125000
       core t v m P e m-pos P-most g =

@@ -1,6 +1,6 @@
--- 01, "The formula and its series" (d374 paragraphs 84 and 86, CRE41), and 02, S-6, "Both ends in the report": what a reader must believe of the raw weight, on all inputs. It has two
--- numbers: the high one is the raw weight from which a line's weight is made, the low one that from which the line's seventh word starts. The series, the ends and which numbers pass are in Series.antt and Ends.antt of `series`, the decay table's rule in DecayTable.antt there. A, D, K and p and the unit of a weight
--- are those of Ends.antt.
+-- 01, "The formula and its series" (d374 paragraphs 84 and 86, CRE41), and 02, S-6, "Both ends in the report": what a reader must believe of the raw weight, on all inputs. It has
+-- two numbers: the high one is the raw weight from which a line's weight is made, the low one that from which the line's seventh word starts. The series, the ends and which
+-- numbers pass are in Series.antt and Ends.antt of `series`, the decay table's rule in DecayTable.antt there. A, D, K and p and the unit of a weight are those of Ends.antt.
 use mathlib.Core.Option.{Option, none, some}
 use mathlib.Core.Path.{_≡_}
 use Prim.Native.Nat.{ℕ, _≤_, _<_}

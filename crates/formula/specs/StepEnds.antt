@@ -1,5 +1,6 @@
--- What the two ends of each step of FixedPoint.antt are ends of, in terms of the series alone (Bounds.antt of `series`). An exponent x is counted in units of 2^−32 and rounded down, so it
--- stands for every exponent from x / 2^32 to below (x + 1) / 2^32, and its low ends are low for the largest of these, its high ends high for the smallest.
+-- What the two ends of each step of FixedPoint.antt are ends of: of a decay and of a mean decay in terms of the series alone (Bounds.antt of `series`), of their product in terms
+-- of the two factors' ends. Private contracts cite it; no reader has to trust it, since `raw-weight-is` says what follows. An exponent x is counted in units of 2^−32 and rounded
+-- down, so it stands for every exponent from x / 2^32 to below (x + 1) / 2^32, and its low ends are low for the largest of these, its high ends high for the smallest.
 use Prim.Native.Nat.{ℕ, suc, _*_, _^_, _≤_, _<_}
 use Rattle.numbers.specs.declared.Ends.{Ends}
 use Rattle.series.specs.Fraction.{over}

@@ -193,10 +193,10 @@ fn formula_weight(a: u64, d: u64, k: u64, p: u64) -> Ends
     let s = p * k;
     let l = units(excess(a, k) * MILLION, s);
     let x = units(v * MILLION, s);
-    let part = product(l, x);
-    let top = 125000 * (excess(k, a) * MEAN_ONE + v * part.high);
+    let ends = product(l, x);
+    let top = 125000 * (excess(k, a) * MEAN_ONE + v * ends.high);
     let bottom = (d - a) * MEAN_ONE;
-    let less = 125000 * (v * (part.high - part.low));
+    let less = 125000 * (v * (ends.high - ends.low));
     Ends {
         low: quotient_less(top, bottom, less),
         high: rounded_up(top, bottom),

@@ -1,5 +1,5 @@
--- The byte limit worked out from its parts is 01's number, raised by 8 for each word that a sheet has gained since, the room for results is that of seven words per tranche, and no sheet is so long that its places come
--- near `placeLimit`. No axioms.
+-- The byte limit worked out from its parts is 01's number, raised by 8 for each word that a sheet has gained since, the room for results is that of seven words per tranche, and no
+-- sheet is so long that its places come near `placeLimit`. No axioms.
 use mathlib.Core.Path.{_≡_, refl}
 use Prim.Native.Nat.{_≤_}
 use native.Mathlib.Omega.{arith}

@@ -67,9 +67,9 @@ isWeight n w = areThere (n .weight) (λ e. eqb (e .low) w && eqb (e .high) w)
 abbrev pub isEither : RawWeightNumbers → ℕ → ℕ → Bool
 isEither n v w = areThere (n .weight) (λ e. eqb (e .high) v || eqb (e .high) w)
 
--- or its low number is
-abbrev pub startsFromEither : RawWeightNumbers → ℕ → ℕ → Bool
-startsFromEither n v w = areThere (n .weight) (λ e. eqb (e .low) v || eqb (e .low) w)
+-- or its low number is this one
+abbrev pub startsFrom : RawWeightNumbers → ℕ → Bool
+startsFrom n w = areThere (n .weight) (λ e. eqb (e .low) w)
 
 -- "An ordinary securitisation has supervisory parameter 1"
 abbrev pub ordinary : ℕ
@@ -230,8 +230,8 @@ checks =
     -- The raw weight given is one of the two, in each of these cases.
     isEither (rawWeight 100000 200000 100000 ordinary) 79016 79017 ∷
     isEither (rawWeight 50000 150000 100000 ordinary) 111684 111685 ∷
-    -- S-6 of the same two: the exact values are 79,015.07 and 111,683.67, so in the first 79,014 and 79,015 pass from below, at any k `open-case-from-below`, and in the second 111,683
-    -- alone does; the raw weight's low number is one of these.
+    -- S-6 of the same two: the exact values are 79,015.07 and 111,683.67. So in the first 79,014 and 79,015 pass from below, at k = 8 and no other at any k, `open-case-from-below`; in the
+    -- second 111,683 does, at k = 6, and its neighbours do not there. The raw weight's low number is one of these.
     not (passesFromBelowAt 100000 200000 100000 ordinary 8 79013) ∷
     passesFromBelowAt 100000 200000 100000 ordinary 8 79014 ∷
     passesFromBelowAt 100000 200000 100000 ordinary 8 79015 ∷
@@ -239,5 +239,5 @@ checks =
     not (passesFromBelowAt 50000 150000 100000 ordinary 6 111682) ∷
     passesFromBelowAt 50000 150000 100000 ordinary 6 111683 ∷
     not (passesFromBelowAt 50000 150000 100000 ordinary 6 111684) ∷
-    startsFromEither (rawWeight 100000 200000 100000 ordinary) 79014 79015 ∷
-    startsFromEither (rawWeight 50000 150000 100000 ordinary) 111683 111683 ∷ []
+    (startsFrom (rawWeight 100000 200000 100000 ordinary) 79014 || startsFrom (rawWeight 100000 200000 100000 ordinary) 79015) ∷
+    startsFrom (rawWeight 50000 150000 100000 ordinary) 111683 ∷ []

@@ -1,12 +1,10 @@
--- What it means that a whole number h lies on one side of 2^27 × (1 − e^(−x)) / x, in terms of the series alone, and the facts by which it is shown: by
--- polynomials where x is small, by a quotient elsewhere. No axioms.
+-- The facts by which it is shown that a whole number lies on one side of 2^27 × (1 − e^(−x)) / x (Bounds.antt): by polynomials where x is small, by a quotient elsewhere. No axioms.
 use mathlib.Core.Logic.{⊎-elim}
 use mathlib.Core.Path.{_≡_, ap}
 use Prim.Native.Nat.{ℕ, suc, _+_, _*_, _^_, _≤_, _<_}
 use native.Mathlib.Nat.{mul-le-mul, mul-le-mul-left, mul-le-mul-right, mul-pos, le-mul-of-pos-right}
 use native.Mathlib.Omega.{arith}
-use Rattle.series.specs.Fraction.{over}
-use Rattle.series.specs.Bounds.{NotAbove, NotBelow, MeanDecayHigh, MeanDecayLow}
+use Rattle.series.specs.Bounds.{MeanDecayHigh, MeanDecayLow}
 use Rattle.numbers.proofs.SmallerLarger.{le-or-lt}
 use Rattle.series.proofs.Rest.{third, third-equation, third-not-above}
 

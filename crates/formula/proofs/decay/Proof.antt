@@ -1,5 +1,5 @@
 -- `decay`: the product of a coarse and a fine decay fits 64 bits, and so does its low end with the distance added. No axioms.
-use mathlib.Core.Path.{_≡_, _∙_, sym, subst}
+use mathlib.Core.Path.{_≡_, sym, subst}
 use Prim.Native.Nat.{ℕ, _*_, _/_, _%_, _^_}
 use native.Mathlib.Omega.{arith}
 use borrow.Author.Needs.{needs}

@@ -38,10 +38,10 @@ scale : (c : tie.After-larger) →
 scale c = scale-within (c .before .args .p) (c .before .args .k) (omega arith) (omega arith) (omega arith) (omega arith)
 
 -- the product's ends: the high one is at most 2^27, the low one is not above it, and at most productDistance below
-part-within : (c : tie.After-product) →
-    let part = c .product .result in
-    (part .high ≤ 2 ^ 27) × (part .low ≤ part .high) × (part .high ≤ part .low + productDistance)
-part-within c =
+product-within : (c : tie.After-product) →
+    let ends = c .product .result in
+    (ends .high ≤ 2 ^ 27) × (ends .low ≤ ends .high) × (ends .high ≤ ends .low + productDistance)
+product-within c =
     rw (c .product .ensures .0) (product-above-at-most _ _, omega arith, omega arith)
 
 -- max(K − A, 0) + v × product, in units of 2^−27, is at most D − A
@@ -53,23 +53,23 @@ sum c =
     let start = c .before .before .before .before .before in
     let x = start .before .args in
     rw (c .excess2 .ensures, start .larger .ensures)
-    (sum-at-most (x .a) (x .d) (x .k) (c .before .product .result .high) (start .before .pre .0) (start .before .pre .1) (part-within (c .before) .0))
+    (sum-at-most (x .a) (x .d) (x .k) (c .before .product .result .high) (start .before .pre .0) (start .before .pre .1) (product-within (c .before) .0))
 
 -- what is subtracted for the low number is at most the numerator, and at most the divisor
 less : (c : tie.After-excess2) →
     let start = c .before .before .before .before .before in
     let x = start .before .args in
-    let part = c .before .product .result in
+    let ends = c .before .product .result in
     let v = x .d - start .larger .result in
-    (125000 * (v * (part .high - part .low)) ≤ 125000 * (c .excess2 .result * 2 ^ 27 + v * part .high)) ×
-    (125000 * (v * (part .high - part .low)) ≤ (x .d - x .a) * 2 ^ 27)
+    (125000 * (v * (ends .high - ends .low)) ≤ 125000 * (c .excess2 .result * 2 ^ 27 + v * ends .high)) ×
+    (125000 * (v * (ends .high - ends .low)) ≤ (x .d - x .a) * 2 ^ 27)
 less c =
     let start = c .before .before .before .before .before in
     let x = start .before .args in
-    let part = c .before .product .result in
-    let ends = part-within (c .before) in
+    let ends = c .before .product .result in
+    let within = product-within (c .before) in
     rw (c .excess2 .ensures, start .larger .ensures)
-    (less-at-most (x .a) (x .d) (x .k) (part .high) (part .low) (start .before .pre .0) (start .before .pre .1) (ends .1) (ends .2))
+    (less-at-most (x .a) (x .d) (x .k) (ends .high) (ends .low) (start .before .pre .0) (start .before .pre .1) (within .1) (within .2))
 
 -- ---- the needs
 
@@ -122,7 +122,7 @@ mul-bottom : tie.Need-mul-bottom
 mul-bottom c = search needs
 
 sub-less : tie.Need-sub-less
-sub-less c = omega (arith, part-within (c .before .before .before))
+sub-less c = omega (arith, product-within (c .before .before .before))
 
 mul-less : tie.Need-mul-less
 mul-less c = omega (arith, less (c .before .before))
@@ -147,7 +147,7 @@ returns c =
     made (x .a) (x .d) (x .k) (x .p) (product .product .result)
     (product .product .ensures .0 ∙
     simp (product .before .units2 .ensures, after-units .units .ensures, after-units .before .excess .ensures, start .larger .ensures))
-    (part-within product .1)
+    (product-within product .1)
     (simp (numerators .excess2 .ensures, start .larger .ensures))
     (simp (start .larger .ensures))
     (omega arith)

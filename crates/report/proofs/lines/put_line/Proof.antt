@@ -1,5 +1,5 @@
 -- `put_line`: the line of the tranche's number and the part of the results that holds its words. No axioms.
-use Prim.Native.Nat.{_+_, _*_}
+use Prim.Native.Nat.{_*_}
 use native.Mathlib.Omega.{arith}
 use borrow.Author.Needs.{needs}
 use Rattle.limits.specs.SheetSize.{lineSize}
