@@ -50,13 +50,13 @@ near f h P f-most h-most P-most e = at-difference (λ Q. Q * suc (2 ^ 32) ≤ f 
         (le-or-lt meanDecayDistance h)
 
 module _ (L x : ℕ) where
-  product-high : decayAbove L * meanDecayAbove x ≤ productAbove L x * 2 ^ 32
-  unfolding productAbove
-  product-high = omega arith
-
   rounded : productAbove L x * 2 ^ 32 ≤ (decayBelow L + decayDistance) * meanDecayAbove x + (2 ^ 32 - 1)
   unfolding productAbove decayAbove
   rounded = omega (arith, mul-le-mul-right (meanDecayAbove x) (min-le-left (decayBelow L + decayDistance) (2 ^ 32)))
+
+  product-high : decayAbove L * meanDecayAbove x ≤ productAbove L x * 2 ^ 32
+  unfolding productAbove
+  product-high = omega arith
 
   product-low : (productAbove L x - productDistance) * suc (2 ^ 32) ≤ decayBelow L * (meanDecayAbove x - meanDecayDistance)
   product-low = near (decayBelow L) (meanDecayAbove x) (productAbove L x) (decay-below-at-most L) (mean-decay-above-at-most x) (product-above-at-most L x) rounded
