@@ -106,8 +106,8 @@ impl Terms {
             Approach::SecIrba => self.limited(tranche, self.formula(self.irba_parameter(tranche), points)),
         };
         let weight = figure.ceil();
-        // The cast cuts the fraction off.
-        let least_weight = figure as u64;
+        // The figure rounded down, without a second rounding.
+        let least_weight = weight as u64 - u64::from(figure < weight);
         let weighted = tranche.held as f64 * weight;
         let risk_weighted = (weighted / 1e4).ceil();
         let capital = (weighted * 8.0 / 1e6).ceil();
