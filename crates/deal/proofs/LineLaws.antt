@@ -11,6 +11,8 @@ use lib.Seq.{getD-append-add, getD-drop}
 use Rattle.limits.specs.SheetSize.{lineSize}
 use Rattle.judgement.specs.DealSheet.{trancheCount}
 use Rattle.numbers.specs.BothEnds.{EndsWithin}
+use Rattle.numbers.specs.declared.Ends.{Ends}
+use Rattle.weights.specs.ApproachFloorCap.{approach, weight}
 use Rattle.deal.specs.Lines.{terms, tranche, line, lineWords}
 use Rattle.deal.specs.Refusals.{verdict}
 use Rattle.deal.specs.Results.{lines, resultsFor, resultsAfter}
@@ -19,7 +21,7 @@ use Rattle.weights.specs.declared.Terms.{Terms}
 use Rattle.weights.specs.declared.Tranche.{Tranche}
 use Rattle.judgement.specs.declared.Verdict.{Verdict}
 use Rattle.judgement.specs.declared.Verdict.the-variants.{Sound, Faulty}
-use Rattle.weights.proofs.WeightLaws.{weight-within}
+use Rattle.weights.proofs.WeightLaws.{weight-within, table-weight-within}
 use Rattle.deal.proofs.JudgedLaws.{accepted-means}
 
 pub length-line : (t : Tranche) (d : Terms) → length (lineWords t d) ≡ lineSize
@@ -73,13 +75,28 @@ results-line s old i c e l h =
     (List·getD-append (lines s (trancheCount s)) (drop (lineSize * trancheCount s) old) 0 (lineSize * i + c) (omega (arith, length-lines s (trancheCount s))) ∙
     line-at s (trancheCount s) i c l h)
 
--- S-6: in every line the seventh word is not above the fourth, and at most 2 below it (by the rating table at most 1, `table-weight-within`, WeightLaws.antt of `weights`)
-pub seventh-within :
-    (s old : List ℕ) (i : ℕ) → verdict s (length old) ≡ Sound → i < trancheCount s →
-    EndsWithin 2 (record { low = getD (resultsAfter s old) (lineSize * i + 6) 0; high = getD (resultsAfter s old) (lineSize * i + 3) 0 })
+-- the seventh and the fourth word of a line, as the low and the high end that they are
+abbrev pub lineEnds : List ℕ → ℕ → Ends
+lineEnds results i = record { low = getD results (lineSize * i + 6) 0; high = getD results (lineSize * i + 3) 0 }
+
+ends-in-results :
+    (P : Ends → Type 0) (s old : List ℕ) (i : ℕ) → verdict s (length old) ≡ Sound → i < trancheCount s →
+    P (weight (tranche s i) (terms s)) → P (lineEnds (resultsAfter s old) i)
 unfolding lineWords line
-seventh-within s old i e l =
-    rw (results-line s old i 6 e l (omega arith), results-line s old i 3 e l (omega arith)) (weight-within (tranche s i) (terms s))
+ends-in-results P s old i e l holds =
+    rw (results-line s old i 6 e l (omega arith), results-line s old i 3 e l (omega arith)) holds
+
+-- S-6: in every line the seventh word is not above the fourth, and at most 2 below it,
+pub seventh-within :
+    (s old : List ℕ) (i : ℕ) → verdict s (length old) ≡ Sound → i < trancheCount s → EndsWithin 2 (lineEnds (resultsAfter s old) i)
+seventh-within s old i e l = ends-in-results (EndsWithin 2) s old i e l (weight-within (tranche s i) (terms s))
+
+-- by the rating table at most 1
+pub seventh-within-by-table :
+    (s old : List ℕ) (i : ℕ) → verdict s (length old) ≡ Sound → i < trancheCount s → approach (tranche s i) (terms s) ≡ 1 →
+    EndsWithin 1 (lineEnds (resultsAfter s old) i)
+seventh-within-by-table s old i e l by =
+    ends-in-results (EndsWithin 1) s old i e l (table-weight-within (tranche s i) (terms s) by)
 
 pub results-rest :
     (s old : List ℕ) (p : ℕ) → verdict s (length old) ≡ Sound → lineSize * trancheCount s ≤ p → getD (resultsAfter s old) p 0 ≡ getD old p 0
