@@ -1,5 +1,5 @@
 -- What it means that a fraction lies on one side of e^(−q), and a whole number on one side of 2^27 × (1 − e^(−x)) / x, in terms of the series alone. The steps by which the
--- formula is computed promise their low and high ends by it.
+-- formula is computed promise their low and high ends by it, in private contracts; no reader has to trust it.
 use Prim.Native.Nat.{ℕ, suc, _+_, _*_, _^_, _≤_, _<_}
 use Rattle.series.specs.Fraction.{Fraction, over}
 use Rattle.series.specs.Series.{low}
