@@ -40,6 +40,8 @@ held "01's checked deal" "$room/checked" 0 "tranche 1: SEC-ERBA from 20.0000%% t
 tranche 2: SEC-ERBA from 5.0000%% to 20.0000%%, weight 263.50%%, risk-weighted amount 264, capital 22, least weight 263.50%%
 tranche 3: SEC-SA from 0.0000%% to 5.0000%%, weight 1250.00%%, risk-weighted amount 625, capital 50, least weight 1250.00%%
 pool charge 10.1000%%\n" ""
+# In tranches 2 to 4 weight and least weight are this library's choice: the rules admit each of these weights or 0.01% more, with the amounts that follow from it, and
+# each of these least weights or 0.01% less.
 held "mixed pool" "$room/irba" 0 "tranche 1: SEC-IRBA from 11.1776%% to 100.0000%%, weight 15.00%%, risk-weighted amount 30000000, capital 2400000, least weight 15.00%%
 tranche 2: SEC-IRBA from 11.1776%% to 100.0000%%, weight 35.66%%, risk-weighted amount 35660000, capital 2852800, least weight 35.65%%
 tranche 3: SEC-IRBA from 6.1876%% to 11.1776%%, weight 708.73%%, risk-weighted amount 141746000, capital 11339680, least weight 708.72%%

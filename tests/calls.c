@@ -52,8 +52,9 @@ static const uint64_t dated_sheet[WORDS + 2] = {6, 0, 0, 1, 1, 0, 20240228, 1, 1
 
 /*
  * The same sheet as a mixed pool, with the IRB section after it; the places of its count, its number of loans and its share. The charge is 95% of 15% and 5% of 8%.
- * The parameter, 3.56 / 25 - 1.85 * 0.1465 + 0.55 * 0.45 + 0.07 * 4.2, is 0.412875, and the formula gives 39.0249%, rounded up. That is at least the least weight
- * and less than 0.015% above it: the rules leave open whether it is the number below or one less.
+ * The parameter, 3.56 / 25 - 1.85 * 0.1465 + 0.55 * 0.45 + 0.07 * 4.2, is 0.412875, and the formula gives 39.0249%. The weight is no lower than that and less than
+ * 0.02% above it, the least weight no higher and less than 0.015% below it: the rules leave open whether the weight is the number below or one more, and whether the
+ * least weight is the number below or one less.
  */
 static const uint64_t irb_sheet[WORDS + 1 + TRANCHE_WEIGHTS_IRB_WORDS] = {4, 2, 0, 1, 1, 1, 100, 100, 100, 0, 1, 80, 1, 60, 80, 1, 0, 0,
                                                                           1, 150000, 450000, 25, 0, 950000, 12000};
@@ -203,8 +204,9 @@ static void *try_irb(void *unused)
 {
     struct given g = weigh(irb_sheet, IRB_SHEET_WORDS, TRANCHE_WEIGHTS_LINE_WORDS);
     due(g.number == TRANCHE_WEIGHTS_ACCEPTED && g.charge == IRB_CHARGE, "the charge of a mixed pool");
-    due(g.results[TRANCHE_WEIGHTS_WORD_APPROACH] == TRANCHE_WEIGHTS_BY_SEC_IRBA && g.results[TRANCHE_WEIGHTS_WORD_WEIGHT] == IRB_WEIGHT, "a SEC-IRBA line");
-    uint64_t least = g.results[TRANCHE_WEIGHTS_WORD_LEAST_WEIGHT];
+    due(g.results[TRANCHE_WEIGHTS_WORD_APPROACH] == TRANCHE_WEIGHTS_BY_SEC_IRBA, "a SEC-IRBA line");
+    uint64_t weight = g.results[TRANCHE_WEIGHTS_WORD_WEIGHT], least = g.results[TRANCHE_WEIGHTS_WORD_LEAST_WEIGHT];
+    due(weight == IRB_WEIGHT || weight == IRB_WEIGHT + 1, "the weight of a SEC-IRBA line");
     due(least == IRB_LEAST_WEIGHT || least == IRB_LEAST_WEIGHT - 1, "the least weight of a SEC-IRBA line");
     accepted(weigh_with(irb_sheet, IRB_SHEET_WORDS, SHARE_PLACE, 949999), "a mixed pool with a share below 95%");
     refused(weigh_with(irb_sheet, IRB_SHEET_WORDS, IRB_COUNT_PLACE, 0), TRANCHE_WEIGHTS_REFUSED_COUNT, IRB_COUNT_PLACE, "a count of no IRB section");

@@ -229,6 +229,7 @@ run_full sheet_words deal.txt
 held 'sheet_words: standard output is full'
 
 # ---- both programs on the example with dates, and on the same deal in months
+# Line 4 comes from the formula, and its weight is this library's choice: the rules admit one more as well.
 
 due 'charge 75072 tranches 4
 1 1 200000 1000000 3125 62500000 5000000 3125
@@ -248,6 +249,8 @@ run tranche_report months.sheet
 held 'tranche_report: the same deal in months'
 
 # ---- both programs on the example of a mixed pool, and on the same deal with ratings and statuses that play no part
+# In lines 2 to 4 weight and least weight are this library's choice: the rules admit each of these weights or one more, with the amounts and totals that follow
+# from it, and each of these least weights or one less.
 
 due 'charge 58160 tranches 5
 1 3 111776 1000000 1500 30000000 2400000 1500

@@ -1,14 +1,16 @@
 #!/usr/bin/env python3
-"""The text that crates/checked_examples must print, worked out from the papers alone: 01, S-1 to S-3, S-5 and S-6 of 02, and Tables 3 and 4 of source document 001.
-Exact fractions, exponentials to a hundred digits, Python's own calendar.
+"""The text that crates/checked_examples must print. What passes is worked out from the papers alone: 01, S-1 to S-3, S-5 and S-6 of 02, and Tables 3 and 4 of source
+document 001. Exact fractions, exponentials to a hundred digits, Python's own calendar.
 
     python3 tests/worked_examples.py | cmp - crates/checked_examples/stdout
 
-Where the rules leave a number open, this prints one that passes: of two raw weights the lower, the exact value rounded up; and where two numbers pass as the seventh
-word, the one that the stored text has, else the higher, which is the exact value rounded down. It fails where a figure of the rating tables is missing from the
-examples' weights, where a case of one, two or three ratings, of dates, of the IRB section, of SEC-IRBA or of the seventh word is met by no example, where no line of
-the examples depends on a coefficient of SEC-IRBA, where a weight published in source document 004 is not enclosed, or where a deal in dates has other lines than the
-same deal in months. It needs Python's standard library and is no part of the gate.
+Where the rules leave a number open, this prints one that passes. Of two raw weights it is always the lower, the exact value rounded up; a stored text with the other
+would differ. Where two numbers pass as the seventh word, or as the low number of a raw weight, it is the one that the stored text has, which is so held to be one of
+the two; where that has neither, it is the higher, the exact value rounded down. Nothing else is taken from the stored text.
+
+It fails where a figure of the rating tables is missing from the examples' weights, where a case of one, two or three ratings, of dates, of the IRB section, of
+SEC-IRBA or of the seventh word is met by no example, where no line of the examples depends on a coefficient of SEC-IRBA, where a weight published in source document
+004 is not enclosed, or where a deal in dates has other lines than the same deal in months. It needs Python's standard library and is no part of the gate.
 """
 import os
 import sys
@@ -430,12 +432,13 @@ THIN += [3, 8999991, 1, 60, 0, 1, 0, 0, 5, 2, 60, 5, 0, 0, 0, 1000004, 3, 60, 0,
 CHECKED = [4, 0, 0, 1, 1, 2, 950, 950, 100, 0, 50, 50, 100, 1, 3, 800, 1, 72, 800, 1, 0, 0, 150, 2, 72, 100, 9, 0, 0, 50, 3, 72, 50, 0, 0, 0]
 
 FOLDER = os.path.join(os.path.dirname(os.path.abspath(__file__)), "..", "crates", "checked_examples")
-# The stored text, line by line.
+# The stored text, line by line. It is read for the choice between two forms that pass, and for nothing else.
 STORED = iter(open(os.path.join(FOLDER, "stdout")).read().splitlines())
 
 
 def say(forms):
-    """Prints a line and returns it: of the forms that pass the one that the stored text has in this place, else the first."""
+    """Prints a line and returns it. Two forms of it pass where the rules leave the seventh word or the low number of a raw weight open: of these it is the one that
+    the stored text has in this place, else the first."""
     stored = next(STORED, None)
     text = stored if stored in forms else forms[0]
     print(text)
@@ -855,8 +858,11 @@ def ends_cases(line):
         for what, due, *others in zip(("risk-weighted amount", "capital"), *(amounts(tranche[4], weight) for weight in (ends.weight, *ends.least))):
             if due not in others:
                 yield "%s by the fourth word" % what
-    elif raw.weight not in raw.least:
-        yield "%s, ends made equal by the %s" % (by, "cap" if ends.weight == cap else "floor")
+    elif raw.weight not in raw.least and ends.least == (ends.weight,):
+        # Where the weight before the floor is above it, the floor leaves the ends apart, and only the cap can make them equal.
+        lowest = parameter_and_floor(deal.resecuritised, deal.stc, tranche[2] == 1)[1]
+        if raw.weight > lowest or ends.weight == lowest:
+            yield "%s, ends made equal by the %s" % (by, "cap" if raw.weight > lowest else "floor")
 
 
 def check_ends(said):

@@ -3,13 +3,13 @@
 use crate::answer::Approach;
 use crate::seen::{Rated, Seen};
 
-/// What must be met by the two ends of some line. The numbers that they start from are those before floor and cap.
+/// What must be met by the two ends of some line. The numbers that they start from are those before floor and cap. Every
+/// library meets these, whichever of the admitted numbers it takes.
 #[derive(Debug, Clone, Copy, PartialEq, Eq)]
 pub enum Ends {
-    /// They start apart, neither floor nor cap changes them, and those written are one apart.
-    OneApart,
-    /// The same, two apart.
-    TwoApart,
+    /// They start apart, neither floor nor cap changes them, and those written differ: by the table they are one apart,
+    /// by the formula one, two or three, which is left to the library.
+    Apart,
     /// They start apart, and the floor makes them equal.
     EqualByFloor,
     /// They start apart, and the cap makes them equal.
@@ -38,8 +38,7 @@ impl Ends {
     /// Whether a line shows this whose written weight and least weight are so far apart.
     fn shown(self, seen: &Seen, apart: u64) -> bool {
         match self {
-            Ends::OneApart => seen.ends_kept() && apart == 1,
-            Ends::TwoApart => seen.ends_kept() && apart == 2,
+            Ends::Apart => seen.ends_kept() && apart > 0,
             Ends::EqualByFloor => seen.equal_by_floor(),
             Ends::EqualByCap => seen.equal_by_cap(),
             Ends::CapBetween => seen.cap_between(),
@@ -82,13 +81,12 @@ pub enum LeastFeature {
 
 impl LeastFeature {
     /// All features with their names.
-    pub(crate) const TABLE: [(LeastFeature, &'static str); 31] = [
-        (table(Ends::OneApart), "SEC-ERBA ends: one apart"),
+    pub(crate) const TABLE: [(LeastFeature, &'static str); 29] = [
+        (table(Ends::Apart), "SEC-ERBA ends: apart"),
         (table(Ends::Whole), "SEC-ERBA ends: exact figure whole"),
         (table(Ends::EqualByFloor), "SEC-ERBA ends: equal by the floor"),
         (table(Ends::EqualByCap), "SEC-ERBA ends: equal by the cap"),
-        (sa(Ends::OneApart), "SEC-SA ends: one apart"),
-        (sa(Ends::TwoApart), "SEC-SA ends: two apart"),
+        (sa(Ends::Apart), "SEC-SA ends: apart"),
         (sa(Ends::TwoLeastWeights), "SEC-SA ends: two least weights admitted"),
         (sa(Ends::EqualByFloor), "SEC-SA ends: equal by the floor"),
         (sa(Ends::EqualByCap), "SEC-SA ends: equal by the cap"),
@@ -96,8 +94,7 @@ impl LeastFeature {
         (sa(Ends::ZeroChargeFloor), "SEC-SA ends: K = 0, the floor"),
         (sa(Ends::ZeroChargeCap), "SEC-SA ends: K = 0, a cap of 0"),
         (sa(Ends::BelowCharge), "SEC-SA ends: D at most K"),
-        (irba(Ends::OneApart), "SEC-IRBA ends: one apart"),
-        (irba(Ends::TwoApart), "SEC-IRBA ends: two apart"),
+        (irba(Ends::Apart), "SEC-IRBA ends: apart"),
         (irba(Ends::TwoLeastWeights), "SEC-IRBA ends: two least weights admitted"),
         (irba(Ends::EqualByFloor), "SEC-IRBA ends: equal by the floor"),
         (irba(Ends::EqualByCap), "SEC-IRBA ends: equal by the cap"),
@@ -210,16 +207,18 @@ mod tests {
         words
     }
 
-    /// What each line of a sheet shows whose written ends are so much further apart than the nearest that are admitted.
-    fn shown_apart(sheet: &[u64], further: u64) -> Vec<Vec<LeastFeature>> {
+    /// What the last line of a sheet shows whose written ends are as far apart as is said.
+    fn shown_apart(sheet: &[u64], apart: impl Fn(&Seen) -> u64) -> Vec<LeastFeature> {
         let deal = independent::weigh(sheet, 3 * LINE_WORDS as u64).expect("an accepted sheet");
-        let of_line = |tranche| {
-            let seen = Seen::new(sheet, &deal, tranche);
-            let apart = seen.weight() - seen.line.least_weights.last().expect("a least weight") + further;
-            let features = LeastFeature::TABLE.map(|(feature, _)| feature).into_iter();
-            features.filter(|feature| feature.shown(&seen, apart)).collect()
-        };
-        (0..deal.lines.len()).map(of_line).collect()
+        let seen = Seen::new(sheet, &deal, deal.lines.len() - 1);
+        let features = LeastFeature::TABLE.map(|(feature, _)| feature).into_iter();
+        features.filter(|feature| feature.shown(&seen, apart(&seen))).collect()
+    }
+
+    /// What the last line of a sheet shows whose written ends are the nearest that are admitted.
+    fn shown(sheet: &[u64]) -> Vec<LeastFeature> {
+        let nearest = |seen: &Seen| seen.line.least_weights.last().copied().expect("a least weight");
+        shown_apart(sheet, |seen| seen.weight() - nearest(seen))
     }
 
     /// The facts of a deal without a cap.
@@ -233,15 +232,13 @@ mod tests {
     /// those of the last one are these months and ratings.
     fn rated(facts: &[u64], percent: u64, amounts: &[u64], months: u64, ratings: [u64; 3]) -> Vec<LeastFeature> {
         let tranches: Vec<_> = amounts.iter().map(|&amount| (amount, months, ratings)).collect();
-        let mut lines = shown_apart(&sheet(facts, percent, &tranches, &[]), 0);
-        lines.pop().expect("a line")
+        shown(&sheet(facts, percent, &tranches, &[]))
     }
 
     /// What the last line of such a deal shows where no tranche is rated, with this section.
     fn unrated(facts: &[u64], percent: u64, amounts: &[u64], section: &[u64]) -> Vec<LeastFeature> {
         let tranches: Vec<_> = amounts.iter().map(|&amount| (amount, 72, [0; 3])).collect();
-        let mut lines = shown_apart(&sheet(facts, percent, &tranches, section), 0);
-        lines.pop().expect("a line")
+        shown(&sheet(facts, percent, &tranches, section))
     }
 
     /// Ends by the table: senior AAA is 15.0833% at 13 months and 20% at 72. A cap of 16% leaves the first as it is, one
@@ -249,9 +246,9 @@ mod tests {
     #[test]
     fn ends_by_the_table() {
         let senior = |facts, percent, months| rated(facts, percent, &[1_000_000], months, [1, 0, 0]);
-        assert_eq!(senior(UNCAPPED, 1, 13), [table(Ends::OneApart)]);
+        assert_eq!(senior(UNCAPPED, 1, 13), [table(Ends::Apart)]);
         assert_eq!(senior(UNCAPPED, 1, 72), [table(Ends::Whole)]);
-        assert_eq!(senior(CAPPED, 16, 13), [table(Ends::OneApart)]);
+        assert_eq!(senior(CAPPED, 16, 13), [table(Ends::Apart)]);
         assert_eq!(senior(CAPPED, 15, 13), [table(Ends::EqualByCap)]);
         assert_eq!(senior(CAPPED, 10, 13), [table(Ends::EqualByCap)]);
         assert_eq!(senior(CAPPED, 10, 72), []);
@@ -266,9 +263,9 @@ mod tests {
     #[test]
     fn ends_under_sec_sa() {
         let of = |facts, percent, amounts: &[u64]| unrated(facts, percent, amounts, &[]);
-        let two = [Ends::OneApart, Ends::TwoLeastWeights].map(sa);
+        let two = [Ends::Apart, Ends::TwoLeastWeights].map(sa);
         assert_eq!(of(UNCAPPED, 125, &[800_000, 100_000]), two);
-        assert_eq!(of(UNCAPPED, 125, &[850_000, 100_000]), [sa(Ends::OneApart)]);
+        assert_eq!(of(UNCAPPED, 125, &[850_000, 100_000]), [sa(Ends::Apart)]);
         assert_eq!(of(UNCAPPED, 125, &[900_000, 100_000]), [sa(Ends::BelowCharge)]);
         assert_eq!(of(CAPPED, 125, &[895_000]), [sa(Ends::EqualByCap)]);
         assert_eq!(of(CAPPED, 125, &[888_152]), []);
@@ -289,8 +286,8 @@ mod tests {
             let section = [1, charge, 0, 1_000_000, 0, 1_000_000, average];
             unrated(&[1, 0, 1, composition], 100, amounts, &section)
         };
-        let two = [Ends::OneApart, Ends::TwoLeastWeights].map(irba);
-        assert_eq!(of(0, 100_000, 0, &[880_000]), [irba(Ends::OneApart)]);
+        let two = [Ends::Apart, Ends::TwoLeastWeights].map(irba);
+        assert_eq!(of(0, 100_000, 0, &[880_000]), [irba(Ends::Apart)]);
         assert_eq!(of(0, 100_000, 0, &[878_000]), two);
         assert_eq!(of(1, 100_000, 2_053, &[878_000]), two);
         let between = [Ends::TwoLeastWeights, Ends::CapBetween].map(irba);
@@ -309,14 +306,15 @@ mod tests {
         assert_eq!(of(1, 0, 700, &[880_000]), []);
     }
 
-    /// Ends count by how far apart the written ones are.
+    /// Ends are apart where the written ones differ, however far.
     #[test]
     fn ends_further_apart() {
         let sheet = sheet(UNCAPPED, 125, &[(800_000, 72, [0; 3])], &[]);
-        let apart = |further| shown_apart(&sheet, further).remove(0);
-        assert_eq!(apart(0), [Ends::OneApart, Ends::TwoLeastWeights].map(sa));
-        assert_eq!(apart(1), [Ends::TwoApart, Ends::TwoLeastWeights].map(sa));
-        assert_eq!(apart(2), [sa(Ends::TwoLeastWeights)]);
+        assert_eq!(shown_apart(&sheet, |_| 0), [sa(Ends::TwoLeastWeights)]);
+        for apart in 1..=3 {
+            let both = [Ends::Apart, Ends::TwoLeastWeights].map(sa);
+            assert_eq!(shown_apart(&sheet, |_| apart), both);
+        }
     }
 
     /// The ends of the fallback, whatever the cap would be.

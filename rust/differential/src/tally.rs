@@ -41,6 +41,9 @@ const COLUMNS: [&str; 12] = [
     "STC, non-senior, 5 years",
 ];
 
+/// How far apart the rules alone let weight and least weight be.
+const FARTHEST_APART: usize = 3;
+
 /// The place of a grade among all grades, the long-term ones first.
 fn grade_place(code: u64) -> usize {
     let place = match code <= LONG_TERM.1 {
@@ -145,8 +148,9 @@ pub struct Tally {
     pub higher_taken: u64,
     /// Lines with two admitted least weights where the lower one is taken.
     pub lower_taken: u64,
-    /// Lines with weight and least weight three apart, the most that is admitted.
-    pub three_apart: u64,
+    /// Lines under the formula with weight and least weight one, two and three apart, the most that is admitted. How far
+    /// apart they are is the library's choice among the admitted numbers: none of the three need occur.
+    pub apart: [u64; FARTHEST_APART],
 }
 
 impl Tally {
@@ -216,7 +220,8 @@ impl Tally {
         }
     }
 
-    /// Notes what a line shows by its weight and its least weight, and which of two admitted ones were written.
+    /// Notes what a line shows by its weight and its least weight, which of two admitted ones were written, and how far
+    /// apart those are.
     fn note_ends(&mut self, seen: &Seen, words: &[u64; LINE_WORDS]) {
         let [weight, least_weight] = [LineWord::Weight, LineWord::LeastWeight].map(|word| words[word as usize]);
         for (count, (feature, _)) in self.least_features.iter_mut().zip(LeastFeature::TABLE) {
@@ -224,7 +229,10 @@ impl Tally {
         }
         self.higher_taken += u64::from(weight > seen.weight());
         self.lower_taken += u64::from(seen.two_least_weights() && least_weight == seen.least_weight());
-        self.three_apart += u64::from(weight - least_weight == 3);
+        let under_formula = seen.is(Approach::SecSa) || seen.is(Approach::SecIrba);
+        for (count, apart) in self.apart.iter_mut().zip(1..) {
+            *count += u64::from(under_formula && weight - least_weight == apart);
+        }
     }
 
     /// Notes what a line shows.
@@ -309,7 +317,7 @@ impl Tally {
         add(&mut self.file_features, &other.file_features);
         self.higher_taken += other.higher_taken;
         self.lower_taken += other.lower_taken;
-        self.three_apart += other.three_apart;
+        add(&mut self.apart, &other.apart);
     }
 
     /// The counts of what must occur, in the order of their names.
@@ -346,10 +354,13 @@ impl Tally {
     fn named(&self) -> Vec<(String, u64, bool)> {
         let must = names().into_iter().zip(self.counts());
         let mut named: Vec<_> = must.map(|(name, count)| (name, count, true)).collect();
+        let [one, two, three] = self.apart;
         let printed = [
             ("lines: the higher of two weights taken", self.higher_taken),
             ("lines: the lower of two least weights taken", self.lower_taken),
-            ("lines: ends three apart", self.three_apart),
+            ("lines: formula's ends one apart", one),
+            ("lines: formula's ends two apart", two),
+            ("lines: formula's ends three apart", three),
         ];
         named.extend(printed.map(|(name, count)| (name.to_string(), count, false)));
         named
@@ -469,12 +480,12 @@ mod tests {
         assert_eq!(pool_counts(pool_kind::SA, &[(100, 3), (1, 3)]), ([0, 0, 0, 1], 0));
     }
 
-    /// An empty run misses every count but the three that are only printed, and each count that occurs is no longer
+    /// An empty run misses every count but the five that are only printed, and each count that occurs is no longer
     /// missed.
     #[test]
     fn missing_names_each_count_that_is_zero() {
         let mut tally = Tally::default();
-        let all = tally.named().len() - 3;
+        let all = tally.named().len() - 5;
         assert_eq!(tally.missing().len(), all);
         tally.refusals[refusal::place(refusal::THIN)] = 1;
         tally.grades[0] = [1; GRADES];
@@ -496,6 +507,26 @@ mod tests {
         ];
         assert_eq!(missing.len(), all - noted.len());
         assert!(noted.iter().all(|name| !missing.contains(&name.to_string())));
+    }
+
+    /// Under the formula a line counts by how far apart its written ends are; by the table it does not.
+    #[test]
+    fn ends_are_counted() {
+        let counts = |rating, apart| {
+            let pool = [1, 1_000_000, 1_000_000, 125, 0];
+            let sheet = [&[4, 0, 0, 1, 0], &pool[..], &[1, 800_000, 1, 13, 0, rating, 0, 0]].concat();
+            let deal = independent::weigh(&sheet, LINE_WORDS as u64).expect("an accepted sheet");
+            let seen = Seen::new(&sheet, &deal, 0);
+            let mut words = [0; LINE_WORDS];
+            words[LineWord::Weight as usize] = seen.weight();
+            words[LineWord::LeastWeight as usize] = seen.weight() - apart;
+            let mut tally = Tally::default();
+            tally.note_ends(&seen, &words);
+            tally.apart
+        };
+        let formula = [0, 1, 2, 3].map(|apart| counts(0, apart));
+        assert_eq!(formula, [[0, 0, 0], [1, 0, 0], [0, 1, 0], [0, 0, 1]]);
+        assert_eq!([0, 1].map(|apart| counts(1, apart)), [[0; 3]; 2]);
     }
 
     /// A cap that decided counts by the deal: for an STC deal also as one, under SEC-IRBA apart from all others.

@@ -1580,33 +1580,39 @@ fn one_of<T>(admitted: &[T], higher: bool) -> &T {
     &admitted[if higher { admitted.len() - 1 } else { 0 }]
 }
 
-/// The counts of a run in which the lower or the higher of two admitted weights is taken, and the lower or the higher of
-/// two admitted least weights.
-fn taken<const HIGHER: bool, const HIGHER_LEAST: bool>() -> Tally {
+/// A library that takes the lower or the higher of two admitted weights, and the lower or the higher of two admitted
+/// least weights.
+fn taking<const HIGHER: bool, const HIGHER_LEAST: bool>() -> Library {
     let weigh: Weigh = |sheet, results| {
         chosen(sheet, results, |line| {
             let amounts = one_of(&line.amounts, HIGHER);
             words(amounts, *one_of(&line.least_weights, HIGHER_LEAST))
         })
     };
-    let library = Library {
+    Library {
         weigh,
         ..Library::PROVED
-    };
-    run(library, 2).expect("an admitted weight is no difference")
+    }
+}
+
+/// The libraries that take one of two throughout, the one whose ends are nearest to each other first and the one whose
+/// ends are farthest apart last.
+fn takings() -> [Library; 4] {
+    [
+        taking::<false, true>(),
+        taking::<false, false>(),
+        taking::<true, true>(),
+        taking::<true, false>(),
+    ]
 }
 
 /// Where two weights are admitted, both the lower and the higher pass, beside each admitted least weight, and it is
 /// counted which one was taken and how far apart they are. Lines under SEC-IRBA with two weights are those whose
-/// parameters are counted.
+/// parameters are counted. What must occur by the ends occurs as often with each choice.
 #[test]
 fn either_admitted_weight_passes() {
-    let [near, lower, higher, far] = [
-        taken::<false, true>(),
-        taken::<false, false>(),
-        taken::<true, true>(),
-        taken::<true, false>(),
-    ];
+    let [near, lower, higher, far] =
+        takings().map(|library| run(library, 2).expect("an admitted weight is no difference"));
     let two_weights = |tally: &Tally| {
         let under_irba = tally.parameters.iter().sum::<u64>();
         let under_sa = tally.features[Feature::TwoWeights as usize];
@@ -1625,10 +1631,29 @@ fn either_admitted_weight_passes() {
     let two_least_weights = ends(&near, Ends::TwoLeastWeights);
     assert_eq!((near.lower_taken, higher.lower_taken), (0, 0));
     assert_eq!([&lower, &far].map(|tally| tally.lower_taken), [two_least_weights; 2]);
-    assert!(ends(&near, Ends::OneApart) > 100 && ends(&near, Ends::TwoApart) == 0);
-    assert!(ends(&lower, Ends::TwoApart) > 100 && ends(&higher, Ends::OneApart) == 0);
-    assert_eq!([&near, &lower, &higher].map(|tally| tally.three_apart), [0; 3]);
-    assert!(far.three_apart > 100);
+    assert!(near.apart[0] > 100 && near.apart[1..] == [0, 0]);
+    for tally in [&lower, &higher] {
+        assert!(tally.apart[1] > 100 && tally.apart[2] == 0);
+    }
+    assert!(far.apart[2] > 100);
+    assert!(ends(&near, Ends::Apart) > 100);
+    for tally in [lower, higher, far] {
+        assert_eq!(tally.least_features, near.least_features);
+    }
+}
+
+/// A longer run misses nothing that must occur, whichever of the admitted numbers the library takes.
+#[test]
+fn no_choice_misses_what_must_occur() {
+    let run = Run {
+        seed: SEED,
+        sheets: 100_000,
+        threads: 2,
+    };
+    for library in takings() {
+        let tally = run.go(&library).expect("an admitted weight is no difference");
+        assert_eq!(tally.missing(), [""; 0]);
+    }
 }
 
 /// The higher weight with the lower one's risk-weighted amount and capital is no admitted triple.

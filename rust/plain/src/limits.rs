@@ -19,7 +19,8 @@ pub const IRB_SECTIONS: u64 = 1;
 pub const IRB_WORDS: usize = 6;
 /// Words of a tranche's row: amount, class, maturity, amount held, ratings.
 pub const TRANCHE_WORDS: usize = 4 + RATINGS;
-/// Result words for each tranche: approach, A, D, weight, risk-weighted amount, capital, weight rounded down.
+/// Result words for each tranche: approach, A, D, weight, risk-weighted amount, capital, and the figure after floor and
+/// cap rounded down, where the weight is that figure rounded up.
 pub const LINE_WORDS: usize = 7;
 
 /// The highest amount of a pool row.

@@ -21,7 +21,7 @@ const APPROACH: usize = 0;
 /// Where a line holds its weight.
 const WEIGHT: usize = 3;
 
-/// Where a line holds the weight rounded down.
+/// Where a line holds the figure after floor and cap rounded down.
 const LEAST_WEIGHT: usize = 6;
 
 /// The whole deal of "Checked deals".

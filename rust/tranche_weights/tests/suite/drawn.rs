@@ -317,8 +317,9 @@ fn a_built_sheet_is_refused_by_13_alone() -> Result<(), SheetError> {
     Ok(())
 }
 
-/// How far below the weight a least weight can lie, by the approach: both are the fallback's; a table's figure is rounded
-/// up and down; the formula's two numbers are worked out together, at most 2 apart.
+/// How far below the weight a least weight of this library lies at most, by the approach: both are the fallback's; a
+/// table's figure is rounded up and down; the formula's two numbers are worked out together, at most 2 apart (the rules
+/// alone admit 3).
 fn farthest(approach: Approach) -> u64 {
     match approach {
         Approach::Fallback => 0,
@@ -327,8 +328,8 @@ fn farthest(approach: Approach) -> u64 {
     }
 }
 
-/// No least weight is above its weight, and none is farther below it than its approach admits. Each approach but the
-/// fallback has lines where the two differ and lines where they do not.
+/// No least weight is above its weight, and none is farther below it than this library's two numbers are apart at most.
+/// Each approach but the fallback has lines where the two differ and lines where they do not.
 #[test]
 fn a_least_weight_is_near_its_weight() -> Result<(), SheetError> {
     let mut generator = Generator(0x6c65_6173_7473_0001);
