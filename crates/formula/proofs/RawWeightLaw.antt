@@ -11,7 +11,7 @@ use Rattle.numbers.specs.declared.Ends.{Ends}
 use Rattle.numbers.proofs.RoundingLaws.{rounded-up-between}
 use Rattle.series.specs.Fraction.{Fraction, over}
 use Rattle.series.specs.Series.{low, up}
-use Rattle.series.specs.Ends.{Passes, PassesFromBelow}
+use Rattle.series.specs.Ends.{Counts, Passes, PassesFromBelow}
 use Rattle.formula.specs.Formula.{WithinLimits, weighing, refusing, unnumbered, IsRawWeight}
 use Rattle.formula.specs.FixedPoint.{productDistance, product, units, formulaProduct, weightNumerator, formulaWeight, withinLimits, rawWeight}
 use Rattle.formula.proofs.Limits.{limits-of-test, test-of-limits}
@@ -92,6 +92,9 @@ module _ (A D K p : ℕ) (K-pos : 0 < K) (p-pos : 0 < p) (above : K < D) (thick 
   upper-gap : Gap lower width ((D - K) * 1000000) (1 * b) (ends .high) (ends .low) (gap .0)
   upper-gap = subst (λ (u : ℕ). Gap lower width u (1 * b) (ends .high) (ends .low) (gap .0)) upper-sum (gap .1)
 
+  counted : Counts A D K p (gap .0)
+  counted = record { at-l = upper-gap .admitted-l; at-u = upper-gap .admitted-u }
+
   -- the high number is the numerator of the high end over the thickness, rounded up,
   rounded-up :
       (weightNumerator A D K (ends .high) ≤ w .high * ((D - A) * 2 ^ 27)) ×
@@ -128,7 +131,7 @@ module _ (A D K p : ℕ) (K-pos : 0 < K) (p-pos : 0 < p) (above : K < D) (thick 
       let k = gap .0 in
       record {
         k = k;
-        counts = record { at-l = upper-gap .admitted-l; at-u = upper-gap .admitted-u };
+        counts = counted;
         upper = end-at-most (K - A) (D - A) b v (w .high) (ends .high) (low lowerFraction k) (up upperFraction k) (upper-gap .high) (rounded-up .0);
         lower = end-above (K - A) (D - A) b v (w .high) (ends .low) (up lowerFraction k) (low upperFraction k) (omega arith)
             (up-top-pos lowerFraction bottom-pos k) (low-top-pos upperFraction bottom-pos k) (upper-gap .least)
@@ -142,7 +145,7 @@ module _ (A D K p : ℕ) (K-pos : 0 < K) (p-pos : 0 < p) (above : K < D) (thick 
       let k = gap .0 in
       record {
         k = k;
-        counts = record { at-l = upper-gap .admitted-l; at-u = upper-gap .admitted-u };
+        counts = counted;
         lower = end-at-least (K - A) (D - A) b v (w .low) (ends .low) (up lowerFraction k) (low upperFraction k) (upper-gap .least) (rounded-down .0);
         upper = end-below (K - A) (D - A) b v (w .low) (ends .high) (low lowerFraction k) (up upperFraction k) (omega arith)
             (low-top-pos lowerFraction bottom-pos k) (up-top-pos upperFraction bottom-pos k) (upper-gap .high)

@@ -1,4 +1,4 @@
--- Laws of tests and of what they pick: no test both holds and fails, both, neither or either of two, two tests that say the same, numbers that were raised alike, and a picked number. No axioms.
+-- Laws of equal values, of tests and of what they pick: no test both holds and fails, both, neither or either of two, two tests that say the same, numbers that were raised alike, and a picked number. No axioms.
 use mathlib.Core.Bool.{Bool, true, false, cond, _&&_, _||_}
 use mathlib.Core.Logic.{_⊎_, inl, inr, ⊎-elim}
 use mathlib.Core.Path.{_≡_, refl, _∙_, sym, ap, subst}
@@ -11,6 +11,10 @@ use borrow.Author.Tests.{leb-true, eqb-true, eqb-false, le-leb, lt-leb, eq-eqb, 
 
 pub true-not-false : true ≡ false → ⊥
 true-not-false e = subst T e tt
+
+-- what equals a value that has a property has it too: a promise that settles an answer and one that says what the answer keeps
+pub equal-keeps : {A : Type 0} (P : A → Type 0) {d : A} → P d → {e : A} → e ≡ d → (e ≡ d) × P e
+equal-keeps P holds same = (same, subst P (sym same) holds)
 
 pub and-both : (a b : Bool) → T (a && b) → T a × T b
 and-both true b t = (tt, t)

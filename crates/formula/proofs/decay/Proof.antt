@@ -1,19 +1,15 @@
 -- `decay`: the product of a coarse and a fine decay fits 64 bits, and so does its low end with the distance added. No axioms.
-use mathlib.Core.Path.{_≡_, sym, subst}
-use Prim.Native.Nat.{ℕ, _*_, _/_, _%_, _^_}
+use mathlib.Core.Path.{_≡_}
+use Prim.Native.Nat.{_*_, _/_, _%_, _^_}
 use native.Mathlib.Omega.{arith}
 use borrow.Author.Needs.{needs}
-use Rattle.numbers.specs.declared.Ends.{Ends}
-use Rattle.formula.specs.FixedPoint.{decayBelow, decayAbove, decay}
+use Rattle.numbers.proofs.Tests.{equal-keeps}
+use Rattle.formula.specs.FixedPoint.{decayBelow, decayAbove}
 use Rattle.formula.specs.StepEnds.{DecayEnds}
 use Rattle.formula.proofs.StepBounds.{decays-at-most, decay-below-at-most}
 use Rattle.formula.proofs.StepEndsLaw.{decay-ends}
 use Rattle.formula.proofs.decay.Statement.{statement}
 use Rattle.formula.proofs.decay.Tie as tie
-
--- whatever equals the ends of the definition is the ends of e^(−x)
-kept : {x : ℕ} {e : Ends} → e ≡ decay x → (e ≡ decay x) × DecayEnds x e
-kept {x} e = (e, subst (DecayEnds x) (sym e) (decay-ends x))
 
 -- the low end
 low-is :
@@ -42,7 +38,7 @@ smaller-requires c κs = search needs
 
 returns : tie.Need-returns
 unfolding decayAbove
-returns c = kept (simp (c .smaller .ensures, low-is (c .before)))
+returns c = equal-keeps (DecayEnds _) (decay-ends _) (simp (c .smaller .ensures, low-is (c .before)))
 
 pub decay-spec : {M : Type 1} → statement M
 decay-spec =

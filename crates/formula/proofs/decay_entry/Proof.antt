@@ -3,22 +3,18 @@
 use native.Mathlib.Omega.{arith}
 use borrow.Author.Needs.{needs}
 use borrow.Table.Row.{get}
-use mathlib.Core.Path.{_≡_, sym, subst}
-use Prim.Native.Nat.{ℕ}
+use mathlib.Core.Path.{sym}
 use Rattle.series.specs.Series.{low, factorial}
 use Rattle.series.specs.DecayTable.{DecayEntry}
 use Rattle.series.specs.TableEntry.{entry}
 use Rattle.numbers.proofs.Table.{entry-is}
+use Rattle.numbers.proofs.Tests.{equal-keeps}
 use Rattle.series.proofs.EntryBounds.{entry-zero}
 use Rattle.series.proofs.Entries.{whole-part}
 use Rattle.formula.proofs.decay_entry.Statement.{statement}
 use Rattle.formula.proofs.decay_entry.Tie as tie
 use Rattle.formula.proofs.decay_entry.Reads as reads
 use Rattle.formula.proofs.decay_entry.Lts as lts
-
--- whatever equals the rule's entry is the whole part
-kept : (n r : ℕ) → r ≡ entry n 16 → (r ≡ entry n 16) × DecayEntry n r
-kept n r e = (e, subst (DecayEntry n) (sym e) (whole-part n))
 
 mul-result : tie.Need-mul-result
 mul-result c = search needs
@@ -31,10 +27,13 @@ returns : tie.Need-returns
 unfolding low entry factorial
 returns c =
     let table = get 4 (lts.T5 .locals) (lts.m3 reads.Pre reads.Post (c .before)) in
-    kept (c .before .args .n) _ (entry-is (λ i. entry i 16) table 355 tt (c .before .args .n) (omega arith))
+    let n = c .before .args .n in
+    equal-keeps (DecayEntry n) (whole-part n) (entry-is (λ i. entry i 16) table 355 tt n (omega arith))
 
 returns-2 : tie.Need-returns-2
-returns-2 c = kept (c .before .args .n) 0 (sym (entry-zero (c .before .args .n) (omega arith)))
+returns-2 c =
+    let n = c .before .args .n in
+    equal-keeps (DecayEntry n) (whole-part n) (sym (entry-zero n (omega arith)))
 
 pub decay-entry-spec : {M : Type 1} → statement M
 decay-entry-spec = tie.close (tie.spec mul-result array-read-result returns returns-2)

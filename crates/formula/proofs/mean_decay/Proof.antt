@@ -1,22 +1,19 @@
 -- `mean_decay`: a decay's low end is at most 2^32, so that its distance from 2^32 + 1 is a number, and 2^27 times that fits 64 bits.
 -- No axioms.
-use mathlib.Core.Path.{_≡_, ap, sym, subst}
-use Prim.Native.Nat.{ℕ, _+_, _*_, _-_, _^_}
+use mathlib.Core.Path.{_≡_, ap}
+use Prim.Native.Nat.{_+_, _*_, _-_, _^_}
 use native.Mathlib.Nat.{div-le-self}
 use native.Mathlib.Omega.{arith}
 use borrow.Author.Needs.{needs}
 use borrow.Author.Tests.{lt-ltb, le-ltb}
 use Rattle.numbers.specs.declared.Ends.{Ends}
-use Rattle.formula.specs.FixedPoint.{decayBelow, meanDecayOfSmall, meanDecayOfLarge, meanDecayAbove, meanDecay}
+use Rattle.numbers.proofs.Tests.{equal-keeps}
+use Rattle.formula.specs.FixedPoint.{decayBelow, meanDecayOfSmall, meanDecayOfLarge, meanDecayAbove}
 use Rattle.formula.specs.StepEnds.{MeanDecayEnds}
 use Rattle.formula.proofs.StepBounds.{decay-below-at-most}
 use Rattle.formula.proofs.StepEndsLaw.{mean-decay-ends}
 use Rattle.formula.proofs.mean_decay.Statement.{statement}
 use Rattle.formula.proofs.mean_decay.Tie as tie
-
--- whatever equals the ends of the definition is the ends of the mean decay
-kept : {x : ℕ} {e : Ends} → e ≡ meanDecay x → (e ≡ meanDecay x) × MeanDecayEnds x e
-kept {x} e = (e, subst (MeanDecayEnds x) (sym e) (mean-decay-ends x))
 
 -- the low end of the decay
 low-is : (c : tie.After-decay) → c .decay .result .low ≡ decayBelow (c .before .before .args .x)
@@ -36,7 +33,7 @@ from-above-requires c κs = search needs
 
 returns : tie.Need-returns
 unfolding meanDecayAbove meanDecayOfSmall meanDecayOfLarge
-returns c = kept (simp (c .from-above .ensures, c .before .smaller .ensures, lt-ltb _ _ (c .before .before .if1 .taken)))
+returns c = equal-keeps (MeanDecayEnds _) (mean-decay-ends _) (simp (c .from-above .ensures, c .before .smaller .ensures, lt-ltb _ _ (c .before .before .if1 .taken)))
 
 decay-requires : tie.Need-decay-requires
 decay-requires c κs = search needs
@@ -68,7 +65,7 @@ returns-2 : tie.Need-returns-2
 unfolding meanDecayAbove meanDecayOfSmall meanDecayOfLarge
 returns-2 c =
     let after = c .before .before .before in
-    kept (simp (c .from-above2 .ensures, c .before .smaller2 .ensures, low-is after, le-ltb _ _ (after .before .if1 .left)))
+    equal-keeps (MeanDecayEnds _) (mean-decay-ends _) (simp (c .from-above2 .ensures, c .before .smaller2 .ensures, low-is after, le-ltb _ _ (after .before .if1 .left)))
 
 pub mean-decay-spec : {M : Type 1} → statement M
 mean-decay-spec =

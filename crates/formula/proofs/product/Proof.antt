@@ -1,19 +1,16 @@
 -- `product`: a decay of at most 2^32 times a mean decay of at most 2^27 fits 64 bits. No axioms.
-use mathlib.Core.Path.{_≡_, ap, sym, subst}
-use Prim.Native.Nat.{ℕ, _*_, _^_, _≤_}
+use mathlib.Core.Path.{_≡_, ap}
+use Prim.Native.Nat.{_*_, _^_, _≤_}
 use native.Mathlib.Omega.{arith}
 use borrow.Author.Needs.{needs}
 use Rattle.numbers.specs.declared.Ends.{Ends}
-use Rattle.formula.specs.FixedPoint.{decayAbove, meanDecayAbove, productAbove, product}
+use Rattle.numbers.proofs.Tests.{equal-keeps}
+use Rattle.formula.specs.FixedPoint.{decayAbove, meanDecayAbove, productAbove}
 use Rattle.formula.specs.StepEnds.{ProductEnds}
 use Rattle.formula.proofs.StepBounds.{decay-and-mean-at-most}
 use Rattle.formula.proofs.StepEndsLaw.{product-ends}
 use Rattle.formula.proofs.product.Statement.{statement}
 use Rattle.formula.proofs.product.Tie as tie
-
--- whatever equals the ends of the definition is the ends of the product
-kept : {L x : ℕ} {e : Ends} → e ≡ product L x → (e ≡ product L x) × ProductEnds L x e
-kept {L} {x} e = (e, subst (ProductEnds L x) (sym e) (product-ends L x))
 
 -- the high ends of the two factors
 first-is : (c : tie.After-mean-decay) → c .before .decay .result .high ≡ decayAbove (c .before .before .args .l)
@@ -47,7 +44,7 @@ returns : tie.Need-returns
 unfolding productAbove
 returns c =
     let factors = c .before .before .before in
-    kept (simp (c .from-above .ensures, first-is factors, second-is factors))
+    equal-keeps (ProductEnds _ _) (product-ends _ _) (simp (c .from-above .ensures, first-is factors, second-is factors))
 
 pub product-spec : {M : Type 1} → statement M
 product-spec =

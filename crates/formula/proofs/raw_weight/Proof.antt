@@ -1,10 +1,11 @@
 -- `raw_weight`: each return by the tests that led there, and the formula is called within its limits. No axioms.
 use mathlib.Core.Bool.{true}
-use mathlib.Core.Path.{_≡_, _∙_, subst, sym}
+use mathlib.Core.Path.{_≡_, _∙_, sym}
 use Prim.Native.Nat.{ℕ}
 use native.Mathlib.Omega.{arith}
 use borrow.Author.Needs.{needs}
 use borrow.Author.Tests.{not-true, not-false, le-leb, lt-leb, eq-eqb, ne-eqb}
+use Rattle.numbers.proofs.Tests.{equal-keeps}
 use Rattle.formula.specs.Formula.{RawWeightNumbers, IsRawWeight}
 use Rattle.formula.specs.FixedPoint.{withinLimits, rawWeight}
 use Rattle.formula.proofs.Limits.{limits-of-test}
@@ -14,7 +15,7 @@ use Rattle.formula.proofs.raw_weight.Tie as tie
 
 -- whatever equals rawWeight is the raw weight
 kept : {A D K p : ℕ} {n : RawWeightNumbers} → n ≡ rawWeight A D K p → (n ≡ rawWeight A D K p) × IsRawWeight A D K p n
-kept {A} {D} {K} {p} e = (e, subst (IsRawWeight A D K p) (sym e) (raw-weight-is A D K p))
+kept {A} {D} {K} {p} = equal-keeps (IsRawWeight A D K p) (raw-weight-is A D K p)
 
 -- behind the first test
 inside : (c : tie.Else1) →
