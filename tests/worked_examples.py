@@ -2,7 +2,7 @@
 """The text that crates/checked_examples must print. What passes is worked out from the papers alone: 01, S-1 to S-3, S-5 and S-6 of 02, and Tables 3 and 4 of source
 document 001. Exact fractions, exponentials to a hundred digits, Python's own calendar.
 
-    python3 tests/worked_examples.py | cmp - crates/checked_examples/stdout
+    python3 tests/worked_examples.py > /tmp/worked_examples && cmp /tmp/worked_examples crates/checked_examples/stdout
 
 Where the rules leave a number open, this prints one that passes. Of two raw weights it is always the lower, the exact value rounded up; a stored text with the other
 would differ. Where two numbers pass as the seventh word, or as the low number of a raw weight, it is the one that the stored text has, which is so held to be one of

@@ -395,11 +395,12 @@ impl<'a> Seen<'a> {
         self.ends_differ() && left_different && equal
     }
 
-    /// Whether the cap leaves one of two weights, above the floor, and a least weight below it. Without the cap one weight
-    /// alone is above the floor at 125,000 only.
+    /// Whether the cap leaves one of two weights, above the floor, and every least weight below it. Without the cap one
+    /// weight alone is above the floor at 125,000 only.
     pub fn cap_between(&self) -> bool {
         let taken = self.capped && !self.two_weights() && self.weight() < HIGHEST_WEIGHT;
-        self.by_exponentials() && taken && self.weight() > self.floor() && self.least_weight() < self.weight()
+        let below = self.line.least_weights.iter().all(|&least| least < self.weight());
+        self.by_exponentials() && taken && self.weight() > self.floor() && below
     }
 
     /// The supervisory parameter of a line under the formula, in millionths.

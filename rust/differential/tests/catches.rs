@@ -1205,8 +1205,7 @@ fn other_least(sheet: &[u64], results: &mut [u64], approaches: &[Approach], chan
 const FORMULA: &[Approach] = &[Approach::SecSa, Approach::SecIrba];
 
 /// Least weights that are not those of the papers: by the table the weight itself, or one below it; by the formula the
-/// weight itself, two lower, or two below the weight also where less than one and a half are admitted or where D is at
-/// most K; under the fallback one lower.
+/// weight itself, two lower, or always two below the weight; under the fallback one lower.
 #[test]
 fn wrong_least_weight() {
     let wrong: [Weigh; 6] = [
@@ -1224,6 +1223,28 @@ fn wrong_least_weight() {
     for (place, weigh) in wrong.into_iter().enumerate() {
         assert_eq!(weighed(weigh), Some(Part::Line(LineWord::LeastWeight)), "{place}");
     }
+}
+
+/// Weighs as the proved library does, but starts each least weight of the exponentials from one below the exact value
+/// rounded down, where neither floor nor cap hides it.
+fn one_below(sheet: &[u64], results: &mut [u64]) -> Reply {
+    change_lines(sheet, results, |figures, tranche, line| {
+        let [approach, detachment] = [LineWord::Approach, LineWord::Detachment].map(|word| line[word as usize]);
+        let by_formula = FORMULA.iter().any(|one| one.word() == approach);
+        let by_exponentials = by_formula && (1..detachment).contains(&figures.charge);
+        let (floor, cap) = limits(figures, tranche);
+        let start = least_start(figures, tranche, line).filter(|start| (floor + 1..=cap).contains(start));
+        if let Some(start) = start.filter(|_| by_exponentials) {
+            line[LineWord::LeastWeight as usize] = start - 1;
+        }
+    })
+}
+
+/// A least weight that starts from one below the exact value rounded down: it is admitted where the value is less than a
+/// half above that, and found where it is not.
+#[test]
+fn wrong_distance_of_the_least_weight() {
+    assert_eq!(weighed(one_below), Some(Part::Line(LineWord::LeastWeight)));
 }
 
 /// Lowers the least weight of the fallback to the cap.

@@ -174,8 +174,7 @@ fn varied_terms(count: u64, most: u64) -> Vec<Terms> {
 }
 
 /// Terms at the edges of their limits whose exponent u/s is moderate: the largest charges, the smallest charges, l/s up
-/// to 2,000, and at the end some whose value is so near to a whole number, then some whose value is so near to a whole
-/// number and a half, that 64 bits do not decide.
+/// to 2,000.
 fn edge_terms() -> Vec<Terms> {
     vec![
         ordinary(999_999, 0, 1_000_000),
@@ -191,16 +190,23 @@ fn edge_terms() -> Vec<Terms> {
         stc(1_000, 999_999, 1_000_000),
         ordinary(1_000, 0, 1_000_000),
         resecuritisation(1_000, 3_000, 1_000_000),
-        ordinary(93_749, 93_749, 93_752),
-        ordinary(93_749, 93_746, 93_752),
-        ordinary(20_833, 20_833, 20_834),
-        resecuritisation(41_666, 41_666, 41_669),
-        ordinary(187_499, 187_499, 187_502),
-        ordinary(74_999, 74_999, 75_002),
-        ordinary(62_499, 62_496, 62_502),
-        ordinary(8_333, 8_333, 8_334),
-        resecuritisation(16_666, 16_666, 16_669),
-        stc(149_998, 149_998, 150_001),
+    ]
+}
+
+/// Terms whose value lies so little above a whole number, or a whole number and a half, that 64 bits do not decide, each
+/// with its halves, rounded up.
+fn near_terms() -> [(Terms, u64); 10] {
+    [
+        (ordinary(20_833, 20_833, 20_834), 249_995),
+        (resecuritisation(41_666, 41_666, 41_669), 249_995),
+        (ordinary(93_749, 93_749, 93_752), 249_997),
+        (ordinary(93_749, 93_746, 93_752), 249_999),
+        (ordinary(187_499, 187_499, 187_502), 249_999),
+        (stc(149_998, 149_998, 150_001), 249_996),
+        (ordinary(74_999, 74_999, 75_002), 249_996),
+        (resecuritisation(149_998, 149_998, 150_007), 249_996),
+        (ordinary(62_499, 62_496, 62_502), 249_998),
+        (ordinary(124_999, 124_999, 125_002), 249_998),
     ]
 }
 
@@ -229,12 +235,13 @@ fn agrees_with_series(terms: &Terms) {
     panic!("{terms:?}: not all of {quick:?} pass");
 }
 
-/// The quick decision agrees with the series on varied terms and at the edges.
+/// The quick decision agrees with the series on varied terms, at the edges and near whole numbers and halves.
 #[test]
 fn quick_decision_agrees_with_series() {
     varied_terms(350, 40)
         .iter()
         .chain(&edge_terms())
+        .chain(near_terms().iter().map(|(terms, _)| terms))
         .for_each(agrees_with_series);
 }
 
@@ -310,16 +317,12 @@ fn quick_decision_agrees_with_bound_for_large_exponents() {
     terms.iter().for_each(agrees_with_bound);
 }
 
-/// A first try that does not decide is followed by one that does, and longer numbers do not change what was decided. The
-/// values lie just above 124,998 and just above 124,997.5.
+/// A first try that does not decide is followed by one that does, and longer numbers do not change what was decided.
 #[test]
 fn more_precision_changes_nothing() {
-    for (near, halves) in [
-        (ordinary(93_749, 93_749, 93_752), 249_997),
-        (ordinary(74_999, 74_999, 75_002), 249_996),
-    ] {
-        assert_eq!(halves_within::<2>(&near), None);
-        assert_eq!(halves_within::<3>(&near), Some(halves));
+    for (near, halves) in near_terms() {
+        assert_eq!(halves_within::<2>(&near), None, "{near:?}");
+        assert_eq!(halves_within::<3>(&near), Some(halves), "{near:?}");
     }
     for terms in varied_terms(2_000, 1_000_000) {
         assert_eq!(halves_within::<5>(&terms), Some(halves_rounded_up(&terms)), "{terms:?}");
