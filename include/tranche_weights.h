@@ -65,9 +65,9 @@ extern "C" {
 #define TRANCHE_WEIGHTS_FILE_BYTES (TRANCHE_WEIGHTS_BYTES_PER_WORD * TRANCHE_WEIGHTS_SHEET_WORDS)
 
 /*
- * The places of the words in a line. Risk-weighted amount and capital come from the weight. The least weight shows how tight the weight is: what is exact, after floor
- * and cap, lies between the two or is one of them. Exact is the formula's value or the rating table's figure for points, charge, parameter and cap as they are,
- * already rounded; how far these were rounded, it does not show.
+ * The places of the words in a line. Risk-weighted amount and capital come from the weight. The least weight shows how near the weight is to the exact one: what is
+ * exact, after floor and cap, lies between the two or is one of them. Exact is the formula's value or the rating table's figure for points, charge, parameter and cap
+ * as they are, already rounded; how far these were rounded, it does not show.
  * - By the formula the weight starts from a whole number that is no lower than the exact raw weight and less than 2 above it, and the least weight from one that is no
  *   higher than the exact raw weight and less than 1.5 below it; both from 125000 where no part of the tranche lies above the pool charge, and from 0 where all of it
  *   lies above a charge of 0.

@@ -1,4 +1,4 @@
--- 01, "Refusals, by who can cause them", and 02, S-5, for 13, in plain relations: why a sheet is refused, and what acceptance means. That these and the definition by steps
+-- 01, "Refusals, by who can cause them", and 02, S-5 for 13 and S-6 for 14, in plain relations: why a sheet is refused, and what acceptance means. That these and the definition by steps
 -- (Refusals.antt) say the same is proved in proofs/JudgedLaws.antt. What the words decide is in Judged.antt of `judgement`.
 use mathlib.Core.Bool.{true, false}
 use mathlib.Core.List.{List}

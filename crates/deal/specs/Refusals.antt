@@ -1,4 +1,4 @@
--- 01, "Refusals, by who can cause them", and 02, S-5, for 13: what is judged after the words (Refusals.antt of `judgement`), and the order of all.
+-- 01, "Refusals, by who can cause them", and 02, S-5 for 13 and S-6 for 14: what is judged after the words (Refusals.antt of `judgement`), and the order of all.
 use mathlib.Core.Bool.{cond}
 use mathlib.Core.List.{List}
 use Prim.Native.Nat.{ℕ, _*_}

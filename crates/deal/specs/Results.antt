@@ -1,4 +1,4 @@
--- 01, "The deal sheet" and "Refusals": the answer to a sheet, and the lent results as they are left.
+-- 01, "The deal sheet" and "Refusals", and 02, S-6: the answer to a sheet, and the lent results as they are left.
 use mathlib.Core.List.{List, [], _++_}
 use Prim.Native.Nat.{ℕ, zero, suc, _*_}
 use lib.ListN.{length, drop}

@@ -1,4 +1,4 @@
--- 01, "Refusals, by who can cause them": the answer to a sheet's file, and the lent results as they are left. "15 (reading a file only): length not a
+-- 01, "Refusals, by who can cause them", and 02, S-6: the answer to a sheet's file, and the lent results as they are left. "15 (reading a file only): length not a
 -- multiple of 8 or over ... bytes; place 0."; "15 comes before all."
 use mathlib.Core.Bool.{true, cond}
 use mathlib.Core.List.{List}

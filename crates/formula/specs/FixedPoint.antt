@@ -94,7 +94,7 @@ formulaWeight A D K p = record {
 abbrev pub withinLimits : ℕ → ℕ → ℕ → ℕ → Bool
 withinLimits A D K p = leb A 1000000 && leb D 1000000 && leb K 1000000 && leb 300000 p && ltb p 5000000
 
--- the raw weight's two numbers among 01's, as one function of its four inputs
+-- the answer in 01's numbers, with both numbers of the raw weight, as one function of its four inputs
 unfoldable pub rawWeight : ℕ → ℕ → ℕ → ℕ → RawWeightNumbers
 rawWeight A D K p =
     cond (withinLimits A D K p)

@@ -10,8 +10,8 @@ use Rattle.series.specs.Ends.{Passes, PassesFromBelow}
 use Rattle.formula.specs.declared.RawWeight.{RawWeight}
 use Rattle.formula.specs.declared.RawWeight.the-variants.{Weight, NoThickness, OutsideLimits}
 
--- the inputs for which the computation in 64-bit words is shown: points and charge are at most 1,000,000, and the parameter is 1,000,000 or 1,500,000 (01)
--- or 500,000 (02, S-1); a parameter from 300,000 to below 5,000,000 is taken
+-- the inputs for which the computation in 64-bit words is shown: points and charge are at most 1,000,000, and the parameter is 1,000,000 or 1,500,000 (01),
+-- 500,000 (02, S-1), or one of SEC-IRBA, at least 300,000 (S-5); a parameter from 300,000 to below 5,000,000 is taken
 pub record WithinLimits (A D K p : ℕ) : Type 0 where
   pub attachment : A ≤ 1000000
   pub detachment : D ≤ 1000000

@@ -75,6 +75,7 @@ pub at-cond : {A : Type 0} (P : A → Type 0) (b : Bool) (x y : A) → (b ≡ tr
 at-cond P true x y p q = p refl
 at-cond P false x y p q = q refl
 
-pub cond-le : (b : Bool) (w x y z : ℕ) → w ≤ y → x ≤ z → cond b w x ≤ cond b y z
-cond-le true w x y z p q = p
-cond-le false w x y z p q = q
+-- what holds between two values, and between two others, holds between those that one test picks
+pub cond-both : {A : Type 0} (R : A → A → Type 0) (b : Bool) (w x y z : A) → R w y → R x z → R (cond b w x) (cond b y z)
+cond-both R true w x y z p q = p
+cond-both R false w x y z p q = q

@@ -1,4 +1,4 @@
--- Laws of the weight by ratings: bounds, the maturities of one and of five years, a non-senior tranche beside a senior one, and several ratings. "What
+-- Laws of the weight by ratings: bounds, the maturities of one and of five years, a non-senior tranche beside a senior one, several ratings, and both ends. "What
 -- is shown of rows and maturities is shown once for any table of 18 rows": the laws are over any figures, and a table needs only the computed test of its figures
 -- that the bounds rest on. No axioms.
 use mathlib.Core.Bool.{Bool, true, false, cond, _&&_}
@@ -15,7 +15,7 @@ use Rattle.numbers.specs.BothEnds.{both, rounded, EndsWithin}
 use Rattle.numbers.specs.declared.Ends.{Ends}
 use Rattle.numbers.proofs.RoundingLaws.{rounded-up-at-most, rounded-up-monotone, rounded-up-exact, rounded-up-zero, rounded-within}
 use Rattle.numbers.proofs.Table.{allBelow, at-each}
-use Rattle.numbers.proofs.Tests.{and-both, at-cond, cond-le, neither-true}
+use Rattle.numbers.proofs.Tests.{and-both, at-cond, cond-both, neither-true}
 use Rattle.rating_codes.specs.RatingCodes.{longTerm, shortTerm, present, ratingsAmong}
 use Rattle.rating_codes.proofs.CodeLaws.{long-term-within, short-term-within, ratings-permuted}
 use Rattle.ratings.specs.RatingTable.{RatingFigures, figuresOf, figure, maturityFifths, linear, nonSeniorLinear, besideSenior, longTermExact, exactParts, exactWeight, weightByRating, pick, weightByRatings, lowWeightByRatings, endsByRatings}
@@ -183,7 +183,7 @@ module _ (figures : RatingFigures) where
   unfolding weightByRating exactWeight
   non-senior-at-least-senior e code months thickness =
       rounded-up-monotone (exactWeight figures code true months thickness) (exactWeight figures code false months thickness) exactParts
-      (cond-le (longTerm code) _ _ _ _ (simp e (omega arith)) (le-refl _))
+      (cond-both (λ (m n : ℕ). m ≤ n) (longTerm code) _ _ _ _ (simp e (omega arith)) (le-refl _))
 
   -- elsewhere a non-senior weight is the tranche's own, less by its thickness and rounded up, whatever the senior figure
   pub non-senior-own :

@@ -5,12 +5,12 @@ use mathlib.Core.Bool.{Bool, true, false, cond}
 use mathlib.Core.List.{List, _∷_, map}
 use mathlib.Core.Logic.{⊎-elim}
 use mathlib.Core.Path.{_≡_, refl, sym, _∙_}
-use Prim.Native.Nat.{ℕ, _+_, _-_, min, max, _≤_, _<_}
+use Prim.Native.Nat.{ℕ, _+_, _-_, _≤_, _<_}
 use native.Mathlib.Nat.{eq-zero-or-pos, le-refl}
 use native.Mathlib.Omega.{arith}
 use lib.Dec.{ltb, eqb}
 use borrow.Author.Tests.{ltb-false, eqb-true, eq-eqb, ne-eqb}
-use Rattle.numbers.proofs.Tests.{at-cond, cond-le, either-true}
+use Rattle.numbers.proofs.Tests.{at-cond, cond-both, either-true}
 use Rattle.numbers.specs.BothEnds.{both, atBoth, EndsWithin}
 use Rattle.numbers.specs.declared.Ends.{Ends}
 use Rattle.formula.specs.Formula.{WithinLimits}
@@ -232,9 +232,15 @@ weight-at-most t d =
 
 -- ---- floor and cap keep the order of weights
 
+-- they take no two weights further apart,
+after-floor-and-cap-near :
+    (t : Tranche) (d : Terms) (n low high : ℕ) → high ≤ low + n → afterFloorAndCap t d high ≤ afterFloorAndCap t d low + n
+after-floor-and-cap-near t d n low high h = cond-both (λ (w v : ℕ). w ≤ v + n) (capApplies t d) _ _ _ _ (omega arith) (omega arith)
+
+-- so the lower of two is not above the other after them
 pub after-floor-and-cap-rising :
     (t : Tranche) (d : Terms) (w v : ℕ) → w ≤ v → afterFloorAndCap t d w ≤ afterFloorAndCap t d v
-after-floor-and-cap-rising t d w v h = cond-le (capApplies t d) _ _ _ _ (omega arith) (omega arith)
+after-floor-and-cap-rising t d w v h = omega (arith, after-floor-and-cap-near t d 0 v w (omega arith))
 
 -- so it is the same whether the weight that counts is picked before floor and cap or after them
 pub pick-then-floor-and-cap :
@@ -244,11 +250,13 @@ pick-then-floor-and-cap t d = pick-of-rising (afterFloorAndCap t d) (after-floor
 
 -- ---- both ends (02, S-6)
 
+-- equal ends are within any distance
+both-within : (distance n : ℕ) → EndsWithin distance (both n)
+both-within distance n = record { ordered = omega arith; near = omega arith }
+
 -- before floor and cap they are at most 2 apart under the formula, of the one function that computes both,
 pub formula-ends-within : (t : Tranche) (d : Terms) → EndsWithin 2 (formulaRawWeight t d)
-formula-ends-within =
-    formula-raw-weight-has (EndsWithin 2)
-    (record { ordered = omega arith; near = omega arith }) (record { ordered = omega arith; near = omega arith }) formula-within
+formula-ends-within = formula-raw-weight-has (EndsWithin 2) (both-within 2 125000) (both-within 2 0) formula-within
 
 -- and at most 1 by the table
 pub table-ends-within : (t : Tranche) (d : Terms) → EndsWithin 1 (tableWeight t d)
@@ -257,16 +265,6 @@ table-ends-within t d =
     ends-within (figuresOf (d .stc)) (t .senior) (t .months) (t .detachment - t .attachment) (t .first) (t .second) (t .third)
 
 -- floor and cap take them no further apart
-after-floor-and-cap-near :
-    (t : Tranche) (d : Terms) (n low high : ℕ) → high ≤ low + n → afterFloorAndCap t d high ≤ afterFloorAndCap t d low + n
-after-floor-and-cap-near t d n low high h = by-cap (capApplies t d)
-  where
-    by-cap : (capped : Bool) →
-        cond capped (min (max high (floor t d)) (d .average)) (max high (floor t d)) ≤
-        cond capped (min (max low (floor t d)) (d .average)) (max low (floor t d)) + n
-    by-cap true = omega arith
-    by-cap false = omega arith
-
 pub after-floor-and-cap-within :
     (t : Tranche) (d : Terms) (n : ℕ) (e : Ends) → EndsWithin n e → EndsWithin n (atBoth (afterFloorAndCap t d) e)
 after-floor-and-cap-within t d n e h = record {
@@ -279,7 +277,7 @@ pub weight-within : (t : Tranche) (d : Terms) → EndsWithin 2 (weight t d)
 unfolding weight
 weight-within t d =
     at-cond (EndsWithin 2) (eqb (approach t d) 0) _ _
-    (λ _. record { ordered = omega arith; near = omega arith })
+    (λ _. both-within 2 125000)
     (λ _.
     at-cond (EndsWithin 2) (byFormula t d) _ _
     (λ _. after-floor-and-cap-within t d 2 (formulaRawWeight t d) (formula-ends-within t d))

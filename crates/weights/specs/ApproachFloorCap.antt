@@ -68,7 +68,8 @@ afterFloorAndCap t d w =
     let raised = max w (floor t d) in
     cond (capApplies t d) (min raised (d .average)) raised
 
--- A weight has two ends. The high end is the weight of the line; the low end is S-6's: "Each tranche gets a seventh word.", from which number it starts, and what it is after floor and cap.
+-- A weight has two ends. The high end is the weight of the line; the low end is its seventh word (S-6: "Each tranche gets a seventh word."). What follows says from which number each starts, and what floor
+-- and cap make of it.
 
 -- the raw weight's two numbers; where there is none, which no accepted sheet meets (`formula-weighs`, DemandThreeLaw.antt of `deal`), the highest
 abbrev pub weightOrHighest : RawWeightNumbers → Ends

@@ -229,7 +229,7 @@ mod tests {
     const STC: &[u64] = &[0, 0, 1, 0, 1];
 
     /// What the last line of a deal over loans of this risk weight shows. The tranches are given by their amounts, and
-    /// those of the last one are these months and ratings.
+    /// all have these months and ratings.
     fn rated(facts: &[u64], percent: u64, amounts: &[u64], months: u64, ratings: [u64; 3]) -> Vec<LeastFeature> {
         let tranches: Vec<_> = amounts.iter().map(|&amount| (amount, months, ratings)).collect();
         shown(&sheet(facts, percent, &tranches, &[]))

@@ -78,9 +78,9 @@ pub struct Line {
     pub capital: u64,
     /// The least weight: the weight is certainly no lower than this, in hundredths of a percent.
     ///
-    /// It shows how tight [`weight`](Line::weight) is: what is exact, after floor and cap, lies between the two or is
-    /// one of them. Exact is the formula's value or the rating table's figure for points, charge, parameter and cap as
-    /// they are, already rounded; how far these were rounded, it does not show.
+    /// It shows how near [`weight`](Line::weight) is to the exact one: what is exact, after floor and cap, lies between
+    /// the two or is one of them. Exact is the formula's value or the rating table's figure for points, charge, parameter
+    /// and cap as they are, already rounded; how far these were rounded, it does not show.
     ///
     /// Floor and cap act on it as on the weight. Before floor and cap it is
     ///

@@ -1,4 +1,4 @@
--- `formula_raw_weight`: the number in each case of the raw weight. No axioms.
+-- `formula_raw_weight`: both numbers in each case of the raw weight. No axioms.
 use borrow.Author.Needs.{needs}
 use Rattle.weights.specs.ApproachFloorCap.{formulaRawWeight}
 use Rattle.weights.proofs.formula_raw_weight.Statement.{statement}
