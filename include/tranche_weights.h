@@ -4,24 +4,26 @@
  * The archive is made from the repository's root by `rt staticlib tranche_weights`, which proves it first and writes
  * target/staticlib/libtranche_weights.a. Link it as it is; it needs nothing but memcpy and memset of the C library.
  *
- * What holds of all three functions
+ * What holds of all four functions
  * - The caller owns all memory. Nothing is allocated, kept or freed, and no pointer outlives the call.
  * - There is no state: calls that write to different memory may run at the same time on different threads, also on the same sheet.
  * - Whatever the words or bytes are, the call ends and gives the answer described here; no input is undefined.
  * - A list of length 0 is nothing: its pointer is not looked at and may be null. What is lent to be written need not be initialised.
  * - What the caller owes: any other pointer is not null and is aligned for its type, as many words or bytes as its length says stay readable (or writable, where the
- *   pointer is not const) until the call returns, and what the function writes overlaps nothing else that is passed. place, count and charge are never null.
- * - It also owes the stack: 16 KB are enough for tranche_weights_weigh and 64 KB for the two that take a file (tests/calls.c runs them on threads with no more).
- * - What is proved is the archive's three functions, whose names end in the version; the functions here only hand on to them. That a caller keeps what it owes, no
+ *   pointer is not const) until the call returns, and what the function writes overlaps nothing else that is passed. place, count, charge and sums are never null, and
+ *   have the words that are stated below.
+ * - It also owes the stack: 16 KB are enough for tranche_weights_weigh and tranche_weights_block_sums, and 64 KB for the two that take a file (tests/calls.c runs them
+ *   on threads with no more).
+ * - What is proved is the archive's four functions, whose names end in the version; the functions here only hand on to them. That a caller keeps what it owes, no
  *   proof can see.
  *
  * Versions
  * - Within a version of the interface no name or sentence here changes its meaning (names may be added), and every sheet keeps its answer.
  * - A later version may add facts, sections, refusals and approaches, and words at the end of a line, and so change the limits and lengths below; it may no longer
  *   give a refusal that is listed here, and it may give a sheet another weight where the rules have changed. A refusal's number, an approach's word and the place of a
- *   word in the line keep their meaning in all versions, and a number that is no longer given is not used again. So a program that goes by the names below, and
- *   takes a refusal or an approach that it does not know for what it is, need only be compiled anew. The name of a refusal that is no longer given goes with it; a
- *   program that has it must leave it out.
+ *   word in the line or in a block's sums keep their meaning in all versions, and a number that is no longer given is not used again. So a program that goes by the
+ *   names below, and takes a refusal or an approach that it does not know for what it is, need only be compiled anew. Two things it must look after: the name of a
+ *   refusal that is no longer given goes with it, and the unit of weighted exposure may become finer than percent.
  * - Each function's name in the archive ends in the version. A header and an archive of two versions do not link: the linker names the function that is missing.
  */
 #ifndef TRANCHE_WEIGHTS_H
@@ -35,7 +37,7 @@ extern "C" {
 #endif
 
 /* The version of the interface. */
-#define TRANCHE_WEIGHTS_INTERFACE 6
+#define TRANCHE_WEIGHTS_INTERFACE 7
 
 /*
  * The parts of a sheet: the fewest and the most facts, of one word each; the most pool rows and the words of one; the most tranches and the words of one; the words of
@@ -90,6 +92,26 @@ enum {
 #define TRANCHE_WEIGHTS_LINE_WORDS 7
 #define TRANCHE_WEIGHTS_RESULT_WORDS (TRANCHE_WEIGHTS_MOST_TRANCHES * TRANCHE_WEIGHTS_LINE_WORDS)
 
+/* The rows of a block: the pool's rows in the sheet's order, so many to each block; only the last one may have fewer. */
+#define TRANCHE_WEIGHTS_BLOCK_ROWS 50
+
+/*
+ * The places of the words in a block's sums. Every status but 2 is known; a row of status 1 is delinquent. Weighted exposure is exposure times risk weight in percent: an
+ * exposure of 200 at 50% adds 10000. Added up over all blocks, each sum is that of the pool.
+ */
+enum {
+    TRANCHE_WEIGHTS_SUM_EXPOSURE = 0,                /* exposure of all rows, in whole currency units */
+    TRANCHE_WEIGHTS_SUM_NOMINAL = 1,                 /* nominal of all rows, in whole currency units */
+    TRANCHE_WEIGHTS_SUM_WEIGHTED_EXPOSURE = 2,       /* weighted exposure of all rows, in currency units times percent */
+    TRANCHE_WEIGHTS_SUM_KNOWN_EXPOSURE = 3,          /* exposure of the rows with known status, in whole currency units */
+    TRANCHE_WEIGHTS_SUM_KNOWN_NOMINAL = 4,           /* nominal of the rows with known status, in whole currency units */
+    TRANCHE_WEIGHTS_SUM_KNOWN_WEIGHTED_EXPOSURE = 5, /* weighted exposure of the rows with known status, in currency units times percent */
+    TRANCHE_WEIGHTS_SUM_LATE_NOMINAL = 6             /* nominal of the delinquent rows, in whole currency units */
+};
+
+/* How many words a block's sums have. */
+#define TRANCHE_WEIGHTS_SUM_WORDS 7
+
 /*
  * The most digits of a number, and bytes that hold every report: the labels "charge ", "tranches " and "total " have 7, 9 and 6, and each number has one more byte
  * than digits, for the space or the newline after it. There are two numbers on the first line, two on the last, and on the line of a tranche its number and words.
@@ -129,11 +151,12 @@ enum {
 };
 
 /* The functions as the archive names them. They take what the functions below take, and no null pointer. */
-uint64_t tranche_weights_weigh_v6(const uint64_t *sheet, size_t words, uint64_t *results, size_t room, uint64_t *place, uint64_t *count,
+uint64_t tranche_weights_weigh_v7(const uint64_t *sheet, size_t words, uint64_t *results, size_t room, uint64_t *place, uint64_t *count,
                                   uint64_t *charge);
-uint64_t tranche_weights_weigh_file_v6(const uint8_t *file, size_t size, uint64_t *results, size_t room, uint64_t *place, uint64_t *count,
+uint64_t tranche_weights_weigh_file_v7(const uint8_t *file, size_t size, uint64_t *results, size_t room, uint64_t *place, uint64_t *count,
                                        uint64_t *charge);
-uint64_t tranche_weights_report_v6(const uint8_t *file, size_t size, uint8_t *text, size_t room);
+uint64_t tranche_weights_report_v7(const uint8_t *file, size_t size, uint8_t *text, size_t room);
+uint64_t tranche_weights_block_sums_v7(const uint64_t *sheet, size_t words, uint64_t block, uint64_t *place, uint64_t *sums);
 
 /*
  * Weighs every tranche of a deal sheet.
@@ -151,7 +174,7 @@ static inline uint64_t tranche_weights_weigh(const uint64_t *sheet, size_t words
                                              uint64_t *count, uint64_t *charge)
 {
     uint64_t nothing = 0;
-    return tranche_weights_weigh_v6(words ? sheet : &nothing, words, room ? results : &nothing, room, place, count, charge);
+    return tranche_weights_weigh_v7(words ? sheet : &nothing, words, room ? results : &nothing, room, place, count, charge);
 }
 
 /*
@@ -167,7 +190,7 @@ static inline uint64_t tranche_weights_weigh_file(const uint8_t *file, size_t si
 {
     uint8_t no_byte = 0;
     uint64_t nothing = 0;
-    return tranche_weights_weigh_file_v6(size ? file : &no_byte, size, room ? results : &nothing, room, place, count, charge);
+    return tranche_weights_weigh_file_v7(size ? file : &no_byte, size, room ? results : &nothing, room, place, count, charge);
 }
 
 /*
@@ -182,7 +205,25 @@ static inline uint64_t tranche_weights_weigh_file(const uint8_t *file, size_t si
 static inline uint64_t tranche_weights_report(const uint8_t *file, size_t size, uint8_t *text, size_t room)
 {
     uint8_t nothing = 0;
-    return tranche_weights_report_v6(size ? file : &nothing, size, room ? text : &nothing, room);
+    return tranche_weights_report_v7(size ? file : &nothing, size, room ? text : &nothing, room);
+}
+
+/*
+ * Reads the sums of a block of a deal sheet's pool; no tranche is weighed.
+ *
+ * sheet, words     the sheet and how many words it has; any words are allowed
+ * block            the block's number, counted from 0; any number is allowed
+ * place, sums      one word, and TRANCHE_WEIGHTS_SUM_WORDS words, written in every case
+ *
+ * Returns TRANCHE_WEIGHTS_ACCEPTED where the sheet is accepted: the sums over the block's rows stand in sums, *place is 0. Past the last block every sum is 0; up to it
+ * no exposure is, since every row has one.
+ * Returns the refusal's number where it is refused, whatever the block: *place is the place of the faulty word, counted from 0, and every sum is 0. The refusals are
+ * those of tranche_weights_weigh but TRANCHE_WEIGHTS_REFUSED_THIN_TRANCHE and TRANCHE_WEIGHTS_REFUSED_ROOM, which are not judged here.
+ */
+static inline uint64_t tranche_weights_block_sums(const uint64_t *sheet, size_t words, uint64_t block, uint64_t *place, uint64_t *sums)
+{
+    uint64_t nothing = 0;
+    return tranche_weights_block_sums_v7(words ? sheet : &nothing, words, block, place, sums);
 }
 
 #ifdef __cplusplus

@@ -1,8 +1,8 @@
 /*
  * Calls the functions of the header as a program in C does, on threads with small stacks, and prints the report on a file's bytes. Held here: lent memory that must
  * be as it was, the answer where the room is one byte or word short and where it is just enough, the four numbers of an accepted and of a refused sheet and file, the
- * least weight, the STC mark, the reporting date, the IRB section, and a null pointer for every list of length 0. Stops with status 1 and one line where something is
- * not what is due. tests/c_example.sh runs it.
+ * least weight, the STC mark, the reporting date, the IRB section, the sums of blocks, and a null pointer for every list of length 0. Stops with status 1 and one line
+ * where something is not what is due. tests/c_example.sh runs it.
  */
 #include <pthread.h>
 #include <stdio.h>
@@ -13,7 +13,7 @@
 
 /* The stacks, in bytes, that the header says are enough for a call. */
 #define FILE_STACK 65536
-#define WEIGH_STACK 16384
+#define SHEET_STACK 16384
 
 /* What each lent word and byte holds before a call. */
 #define WORD_BEFORE 7
@@ -66,6 +66,56 @@ static const uint64_t irb_sheet[WORDS + 1 + TRANCHE_WEIGHTS_IRB_WORDS] = {4, 2, 
 #define IRB_WEIGHT 3903
 #define IRB_LEAST_WEIGHT 3902
 
+/* A sheet with rows of status 0, 1 and 2, the sums of its one block, and the place of the last status. */
+static const uint64_t rows_sheet[] = {4, 0, 0, 1, 1, 3, 100, 120, 100, 0, 60, 70, 50, 1, 40, 45, 20, 2, 1, 80, 1, 60, 80, 1, 0, 0};
+static const uint64_t rows_sums[TRANCHE_WEIGHTS_SUM_WORDS] = {
+    [TRANCHE_WEIGHTS_SUM_EXPOSURE] = 200,
+    [TRANCHE_WEIGHTS_SUM_NOMINAL] = 235,
+    [TRANCHE_WEIGHTS_SUM_WEIGHTED_EXPOSURE] = 13800,
+    [TRANCHE_WEIGHTS_SUM_KNOWN_EXPOSURE] = 160,
+    [TRANCHE_WEIGHTS_SUM_KNOWN_NOMINAL] = 190,
+    [TRANCHE_WEIGHTS_SUM_KNOWN_WEIGHTED_EXPOSURE] = 13000,
+    [TRANCHE_WEIGHTS_SUM_LATE_NOMINAL] = 70,
+};
+#define ROWS_SHEET_WORDS (sizeof rows_sheet / sizeof *rows_sheet)
+#define LAST_STATUS_PLACE 17
+
+/* A re-securitisation, whose rows have status 3, and the sums of its block. */
+static const uint64_t resecuritisation[WORDS] = {4, 0, 1, 1, 1, 1, 100, 120, 50, 3, 1, 80, 1, 60, 80, 1, 0, 0};
+static const uint64_t resecuritisation_sums[TRANCHE_WEIGHTS_SUM_WORDS] = {100, 120, 5000, 100, 120, 5000, 0};
+
+/*
+ * A sheet with one row more than a block has: the first is delinquent, the last, alone in the second block, is not known. The sums of both blocks. main puts the sheet
+ * together, with the facts and the tranche of the first sheet.
+ */
+static const uint64_t first_row[TRANCHE_WEIGHTS_ROW_WORDS] = {100, 120, 50, 1};
+static const uint64_t next_row[TRANCHE_WEIGHTS_ROW_WORDS] = {100, 120, 50, 0};
+static const uint64_t last_row[TRANCHE_WEIGHTS_ROW_WORDS] = {7, 8, 30, 2};
+static const uint64_t first_block[TRANCHE_WEIGHTS_SUM_WORDS] = {5000, 6000, 250000, 5000, 6000, 250000, 120};
+static const uint64_t last_block[TRANCHE_WEIGHTS_SUM_WORDS] = {7, 8, 210, 0, 0, 0, 0};
+#define ROW_COUNT_PLACE 5
+#define BLOCKS_SHEET_WORDS (WORDS + TRANCHE_WEIGHTS_BLOCK_ROWS * TRANCHE_WEIGHTS_ROW_WORDS)
+static uint64_t blocks_sheet[BLOCKS_SHEET_WORDS];
+
+/*
+ * A sheet with a tranche that is too thin for the formula: of a nominal of 10000000 the class before it leaves 1000009, and it leaves 1000004, so both its points are
+ * 100000, above the charge of 80000. The place of its amount, and the sums of the block.
+ */
+static const uint64_t thin_sheet[] = {4, 0, 0, 1, 1, 1, 6000000, 10000000, 100, 0, 2, 8999991, 1, 60, 0, 1, 0, 0, 5, 2, 60, 5, 0, 0, 0};
+static const uint64_t thin_sums[TRANCHE_WEIGHTS_SUM_WORDS] = {6000000, 10000000, 600000000, 6000000, 10000000, 600000000, 0};
+#define THIN_SHEET_WORDS (sizeof thin_sheet / sizeof *thin_sheet)
+#define THIN_PLACE 18
+
+/* The sums past the last block and of a refused sheet. */
+static const uint64_t no_sums[TRANCHE_WEIGHTS_SUM_WORDS];
+
+/* Blocks past the last of every sheet here. The third, cut to 32 bits, is 0; the fourth, times the rows of a block and cut to 64 bits, is 34. */
+static const uint64_t past[] = {2, 20, 4294967296, 368934881474191033, UINT64_MAX};
+#define PAST_BLOCKS (sizeof past / sizeof *past)
+
+/* Result words that are lent: those of two lines, the most that a sheet here has. */
+#define RESULTS (2 * TRANCHE_WEIGHTS_LINE_WORDS)
+
 static unsigned char file[TRANCHE_WEIGHTS_FILE_BYTES + 1];
 static size_t size;
 static unsigned char text[TRANCHE_WEIGHTS_TEXT_BYTES + 1];
@@ -109,7 +159,7 @@ static void *try_report(void *unused)
 
 /* What a call gave. */
 struct given {
-    uint64_t results[TRANCHE_WEIGHTS_LINE_WORDS + 1], number, place, count, charge;
+    uint64_t results[RESULTS], number, place, count, charge;
 };
 
 /* What is there before a call; main fills in the results. */
@@ -217,6 +267,78 @@ static void *try_irb(void *unused)
     return unused;
 }
 
+/* What a call for a block's sums gave, with the word after them. */
+struct block_given {
+    uint64_t sums[TRANCHE_WEIGHTS_SUM_WORDS + 1], number, place;
+};
+
+/* One call for a block of a sheet of so many words. */
+static struct block_given sum_block(const uint64_t *from, size_t words, uint64_t block)
+{
+    struct block_given g = {.number = 9, .place = 9};
+    for (size_t i = 0; i <= TRANCHE_WEIGHTS_SUM_WORDS; i++)
+        g.sums[i] = WORD_BEFORE;
+    g.number = tranche_weights_block_sums(from, words, block, &g.place, g.sums);
+    return g;
+}
+
+/* Holds number, place and sums, and the word after them. */
+static void block_is(struct block_given g, uint64_t number, uint64_t place, const uint64_t *sums, const char *what)
+{
+    due(g.number == number && g.place == place && memcmp(g.sums, sums, TRANCHE_WEIGHTS_SUM_WORDS * sizeof *sums) == 0, what);
+    due(g.sums[TRANCHE_WEIGHTS_SUM_WORDS] == WORD_BEFORE, "the word after a block's sums");
+}
+
+/* Holds the sums of a block of an accepted sheet. */
+static void summed(const uint64_t *from, size_t words, uint64_t block, const uint64_t *sums, const char *what)
+{
+    block_is(sum_block(from, words, block), TRANCHE_WEIGHTS_ACCEPTED, 0, sums, what);
+}
+
+/* Holds the sums of an accepted sheet past its last block. */
+static void nothing_past(const uint64_t *from, size_t words, const char *what)
+{
+    for (size_t i = 0; i < PAST_BLOCKS; i++)
+        summed(from, words, past[i], no_sums, what);
+}
+
+/* The sums of blocks: every status, a sheet of one block and one of two, past the last block, and a tranche that is too thin to be weighed. */
+static void *try_blocks(void *unused)
+{
+    summed(rows_sheet, ROWS_SHEET_WORDS, 0, rows_sums, "the sums of a block");
+    summed(rows_sheet, ROWS_SHEET_WORDS, 1, no_sums, "the sums past the only block");
+    nothing_past(rows_sheet, ROWS_SHEET_WORDS, "the sums far past the only block");
+    summed(resecuritisation, WORDS, 0, resecuritisation_sums, "the sums of a re-securitisation");
+    summed(blocks_sheet, BLOCKS_SHEET_WORDS, 0, first_block, "the sums of a whole block");
+    summed(blocks_sheet, BLOCKS_SHEET_WORDS, 1, last_block, "the sums of a last block of one row");
+    nothing_past(blocks_sheet, BLOCKS_SHEET_WORDS, "the sums past the last of two blocks");
+    refused(weigh(thin_sheet, THIN_SHEET_WORDS, RESULTS), TRANCHE_WEIGHTS_REFUSED_THIN_TRANCHE, THIN_PLACE, "a tranche too thin to be weighed");
+    summed(thin_sheet, THIN_SHEET_WORDS, 0, thin_sums, "the sums over a thin tranche");
+    return unused;
+}
+
+/* Holds the refusal of a sheet, whatever the block. */
+static void blocks_refused(const uint64_t *from, size_t words, uint64_t number, uint64_t place, const char *what)
+{
+    block_is(sum_block(from, words, 0), number, place, no_sums, what);
+    for (size_t i = 0; i < PAST_BLOCKS; i++)
+        block_is(sum_block(from, words, past[i]), number, place, no_sums, what);
+}
+
+/* The sums of refused sheets: a word missing, a word too many, a rating that is not listed, and of three faults the first. */
+static void *try_refused_blocks(void *unused)
+{
+    uint64_t words[ROWS_SHEET_WORDS + 1] = {0};
+    memcpy(words, rows_sheet, sizeof rows_sheet);
+    blocks_refused(words, ROWS_SHEET_WORDS - 1, TRANCHE_WEIGHTS_REFUSED_MISSING_WORD, ROWS_SHEET_WORDS - 1, "the sums with a word missing");
+    blocks_refused(words, ROWS_SHEET_WORDS + 1, TRANCHE_WEIGHTS_REFUSED_WORDS_FOLLOW, ROWS_SHEET_WORDS, "the sums with a word too many");
+    words[ROWS_SHEET_WORDS - 1] = 19;
+    blocks_refused(words, ROWS_SHEET_WORDS, TRANCHE_WEIGHTS_REFUSED_RATING, ROWS_SHEET_WORDS - 1, "the sums with a rating that is not listed");
+    words[LAST_STATUS_PLACE] = 3;
+    blocks_refused(words, ROWS_SHEET_WORDS + 1, TRANCHE_WEIGHTS_REFUSED_STATUS, LAST_STATUS_PLACE, "the sums with three faults");
+    return unused;
+}
+
 /* The file of the first sheet; and a bad length, which comes before too little room. */
 static void *try_weigh_file(void *unused)
 {
@@ -247,6 +369,7 @@ static void *try_null(void *unused)
     due(tranche_weights_report(NULL, 0, text, sizeof text) == sizeof no_file - 1 && memcmp(text, no_file, sizeof no_file - 1) == 0,
         "the report on no file");
     due(tranche_weights_report(file, size, NULL, 0) == report(sizeof text), "no room for the report");
+    blocks_refused(NULL, 0, TRANCHE_WEIGHTS_REFUSED_MISSING_WORD, 0, "the sums of no sheet");
     return unused;
 }
 
@@ -259,19 +382,34 @@ static void on_stack(size_t stack, void *(*trial)(void *))
     due(pthread_create(&thread, &attributes, trial, NULL) == 0 && pthread_join(thread, NULL) == 0, "a trial on its thread");
 }
 
+/* Puts the sheet of two blocks together. */
+static void fill_blocks_sheet(void)
+{
+    uint64_t *to = blocks_sheet + ROW_COUNT_PLACE;
+    memcpy(blocks_sheet, sheet, ROW_COUNT_PLACE * sizeof *sheet);
+    *to++ = TRANCHE_WEIGHTS_BLOCK_ROWS + 1;
+    for (size_t row = 0; row <= TRANCHE_WEIGHTS_BLOCK_ROWS; row++, to += TRANCHE_WEIGHTS_ROW_WORDS)
+        memcpy(to, row == 0 ? first_row : row < TRANCHE_WEIGHTS_BLOCK_ROWS ? next_row : last_row, sizeof next_row);
+    const uint64_t *tranches = sheet + ROW_COUNT_PLACE + 1 + TRANCHE_WEIGHTS_ROW_WORDS;
+    memcpy(to, tranches, (size_t)(sheet + WORDS - tranches) * sizeof *sheet);
+}
+
 int main(int argc, char **argv)
 {
     FILE *from = argc == 2 ? fopen(argv[1], "rb") : NULL;
     due(from != NULL, "the file to report on");
     size = fread(file, 1, sizeof file, from);
     fclose(from);
-    for (size_t i = 0; i <= TRANCHE_WEIGHTS_LINE_WORDS; i++)
+    for (size_t i = 0; i < RESULTS; i++)
         before.results[i] = WORD_BEFORE;
-    on_stack(WEIGH_STACK, try_weigh);
-    on_stack(WEIGH_STACK, try_stc);
-    on_stack(WEIGH_STACK, try_dates);
-    on_stack(WEIGH_STACK, try_least_weight);
-    on_stack(WEIGH_STACK, try_irb);
+    fill_blocks_sheet();
+    on_stack(SHEET_STACK, try_weigh);
+    on_stack(SHEET_STACK, try_stc);
+    on_stack(SHEET_STACK, try_dates);
+    on_stack(SHEET_STACK, try_least_weight);
+    on_stack(SHEET_STACK, try_irb);
+    on_stack(SHEET_STACK, try_blocks);
+    on_stack(SHEET_STACK, try_refused_blocks);
     on_stack(FILE_STACK, try_weigh_file);
     on_stack(FILE_STACK, try_null);
     on_stack(FILE_STACK, try_report);

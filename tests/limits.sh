@@ -1,8 +1,9 @@
-# The most words that a sheet has, by 01's "The deal sheet" and 02's S-1, S-3 and S-5, and the most bytes of its file: for the trials, which read it with `.`. Each of the
-# four sections has a count.
+# The most words that a sheet has, by 01's "The deal sheet" and 02's S-1, S-3 and S-5, the most bytes of its file, and the rows of a block, by S-7: for the trials, which
+# read it with `.`. Each of the four sections has a count.
 facts_most=6
 rows_most=1000
 row_words=4
+block_rows=50
 tranches_most=32
 tranche_words=7
 irb_words=6

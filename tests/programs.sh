@@ -1,7 +1,7 @@
 #!/bin/sh
-# Runs tranche_report and sheet_words as a desk does, and holds standard output, standard error and the exit status of each run to what is due.
-# Prints a line for each case, and stops with 1 at the first difference. The programs are built first: rt check tranche_report sheet_words. An input that
-# fails midway is made by tests/failing_input.c, which is built here, with every warning an error.
+# Runs tranche_report, portfolio_totals and sheet_words as a desk does, and holds standard output, standard error and the exit status of each run to what is due.
+# Prints a line for each case, and stops with 1 at the first difference. The programs are built first: rt check tranche_report portfolio_totals sheet_words. An
+# input that fails midway is made by tests/failing_input.c, which is built here, with every warning an error.
 set -u
 
 root=$(cd "$(dirname "$0")/.." && pwd) || exit 1
@@ -59,9 +59,9 @@ bytes() {
     dd if=/dev/zero bs="$1" count=1 2> dd.log | tr '\000' "$2"
 }
 
-# So many words, one to a line: words NUMBER
-words() {
-    awk -v n="$1" 'BEGIN { for (i = 0; i < n; i++) print 0 }'
+# So many lines, all the same: lines NUMBER LINE
+lines() {
+    awk -v n="$1" -v line="$2" 'BEGIN { for (i = 0; i < n; i++) print line }'
 }
 
 cp "$root/crates/tranche_report/data/deal" deal
@@ -69,9 +69,9 @@ cp "$root/crates/sheet_words/data/deal" deal.txt
 mkdir folder
 cc -O2 -std=c11 -Wall -Wextra -Wpedantic -Werror "$root/tests/failing_input.c" -o failing_input || exit 1
 
-# ---- what both programs say of their arguments and of a file that can't be read
+# ---- what all programs say of their arguments and of a file that can't be read
 
-for name in tranche_report sheet_words; do
+for name in tranche_report portfolio_totals sheet_words; do
     due '' "usage: $name FILE (- for standard input)\n"
     run "$name"
     held "$name: no argument"
@@ -104,8 +104,49 @@ done
 due '' 'standard input: Input/output error\n'
 run_failing tranche_report deal
 held 'tranche_report: a standard input that fails after the checked deal'
+run_failing portfolio_totals deal
+held 'portfolio_totals: a standard input that fails after the checked deal'
 run_failing sheet_words deal.txt
 held 'sheet_words: a standard input that fails after the checked deal'
+
+# ---- what the programs that read a sheet's file say of one that is refused, and of an output that takes nothing
+
+for name in tranche_report portfolio_totals; do
+    due 'refused 1 at 0\n' ''
+    run "$name" /dev/null
+    held "$name: an empty file"
+
+    due 'refused 15 at 0\n' ''
+    bytes 7 a > file
+    run "$name" file
+    held "$name: 7 bytes"
+    bytes $((sheet_bytes_most + 1)) a > file
+    run "$name" file
+    held "$name: one byte more than a sheet has"
+    bytes $((sheet_bytes_most + 8)) a > file
+    run "$name" file
+    held "$name: one word more than a sheet has"
+    bytes 1000000 a | run "$name" -
+    held "$name: a long file from a pipe"
+
+    due 'refused 2 at 0\n' ''
+    dd if=/dev/zero of=file bs=$sheet_bytes_most count=1 2> dd.log
+    run "$name" file
+    held "$name: as many bytes as a sheet has"
+
+    due 'refused 3 at 36\n' ''
+    bytes 8 a | cat deal - > file
+    run "$name" file
+    held "$name: a word after the checked deal"
+
+    due 'refused 8 at 48\n' ''
+    "$bin/sheet_words" "$root/examples/refused.txt" | run "$name" -
+    held "$name: the example of a refused deal"
+
+    due '' "$name: standard output can't be written\n"
+    run_full "$name" deal
+    held "$name: standard output is full"
+done
 
 # ---- the report
 
@@ -119,31 +160,74 @@ held 'tranche_report: the checked deal from a slow pipe'
 "$bin/sheet_words" deal.txt | run tranche_report -
 held 'tranche_report: the checked deal from sheet_words'
 
-due 'refused 1 at 0\n' ''
-run tranche_report /dev/null
-held 'tranche_report: an empty file'
+# ---- the totals by portfolio
 
-due 'refused 15 at 0\n' ''
-bytes 7 a > file
-run tranche_report file
-held 'tranche_report: 7 bytes'
-bytes $((sheet_bytes_most + 1)) a > file
-run tranche_report file
-held 'tranche_report: one byte more than a sheet has'
-bytes $((sheet_bytes_most + 8)) a > file
-run tranche_report file
-held 'tranche_report: one word more than a sheet has'
-bytes 1000000 a | run tranche_report -
-held 'tranche_report: a long file from a pipe'
+# One run on an ordinary deal of one tranche, whose rows, so many, come as text from standard input: run_totals NUMBER
+run_totals() {
+    { echo "4 0 0 1 1 $1"; cat; echo '1 80 1 60 80 1 0 0'; } | "$bin/sheet_words" - | run portfolio_totals -
+}
 
-due 'refused 2 at 0\n' ''
-dd if=/dev/zero of=file bs=$sheet_bytes_most count=1 2> dd.log
-run tranche_report file
-held 'tranche_report: as many bytes as a sheet has'
+# The seven sums of so many delinquent rows with the highest amounts and risk weight: highest ROWS
+highest() {
+    amounts=$(($1 * 10000000000))
+    weighted=$((amounts * 1250))
+    echo "$amounts $amounts $weighted $amounts $amounts $weighted $amounts"
+}
 
-due '' "tranche_report: standard output can't be written\n"
-run_full tranche_report deal
-held 'tranche_report: standard output is full'
+due '0 1 2 1000 1000 100000 1000 1000 100000 50\ntotal 1000 1000 100000 1000 1000 100000 50\n' ''
+run portfolio_totals deal
+held 'portfolio_totals: the checked deal'
+run portfolio_totals - < deal
+held 'portfolio_totals: the checked deal as standard input'
+(dd bs=1 count=101 2> dd.log; sleep 1; cat) < deal | run portfolio_totals -
+held 'portfolio_totals: the checked deal from a slow pipe'
+"$bin/sheet_words" deal.txt | run portfolio_totals -
+held 'portfolio_totals: the checked deal from sheet_words'
+
+sums='500000000 503000000 29950000000 482000000 485000000 28150000000 12500000'
+due "0 1 6 $sums\ntotal $sums\n" ''
+"$bin/sheet_words" "$root/examples/ordinary.txt" | run portfolio_totals -
+held 'portfolio_totals: rows that pay, are delinquent and are not known'
+
+sums='100000000 100000000 16100000000 100000000 100000000 16100000000 0'
+due "0 1 4 $sums\ntotal $sums\n" ''
+"$bin/sheet_words" "$root/examples/resecuritisation.txt" | run portfolio_totals -
+held 'portfolio_totals: a re-securitisation'
+
+sums='500000000 501000000 38750000000 470000000 471000000 36500000000 11000000'
+due "0 1 5 $sums\ntotal $sums\n" ''
+"$bin/sheet_words" "$root/examples/irba.txt" | run portfolio_totals -
+held 'portfolio_totals: a mixed pool'
+
+# A tranche with both points at 100000, above the charge of 80000: the formula has no weight for it, and the pool has its sums.
+echo '4 0 0 1 1 1 6000000 10000000 100 0 3 8999991 1 60 0 1 0 0 5 2 60 5 0 0 0 1000004 3 60 0 0 0 0' > text
+"$bin/sheet_words" text > file
+due 'refused 13 at 18\n' ''
+run tranche_report file
+held 'tranche_report: a tranche too thin for the formula'
+sums='6000000 10000000 600000000 6000000 10000000 600000000 0'
+due "0 1 1 $sums\ntotal $sums\n" ''
+run portfolio_totals file
+held 'portfolio_totals: a tranche too thin for the formula'
+
+block='5000 6000 250000 5000 6000 250000 120'
+due "0 1 50 $block\ntotal $block\n" ''
+{ echo '100 120 50 1'; lines 49 '100 120 50 0'; } > rows
+run_totals 50 < rows
+held 'portfolio_totals: one whole block'
+due "0 1 50 $block\n1 51 51 7 8 210 0 0 0 0\ntotal 5007 6008 250210 5000 6000 250000 120\n" ''
+echo '7 8 30 2' | cat rows - | run_totals 51
+held 'portfolio_totals: one row more'
+
+text=
+first=1
+while [ $first -le $rows_most ]; do
+    text="$text$((first / block_rows)) $first $((first + block_rows - 1)) $(highest $block_rows)\n"
+    first=$((first + block_rows))
+done
+due "${text}total $(highest $rows_most)\n" ''
+lines $rows_most '10000000000 10000000000 1250 1' | run_totals $rows_most
+held 'portfolio_totals: as many rows as a pool has, with the highest sums'
 
 # ---- sheets written by hand
 
@@ -210,17 +294,17 @@ held 'sheet_words: a number of 1000 digits'
 
 due '' ''
 dd if=/dev/zero of=due.out bs=$sheet_bytes_most count=1 2> dd.log
-words $sheet_words_most > text
+lines $sheet_words_most 0 > text
 run sheet_words text
 held 'sheet_words: as many words as a sheet has'
 
 due '' "$((sheet_words_most + 1)) words, and a sheet has at most $sheet_words_most\n"
-words $((sheet_words_most + 1)) > text
+lines $((sheet_words_most + 1)) 0 > text
 run sheet_words text
 held 'sheet_words: one word more than a sheet has'
 
 due '' "5000 words, and a sheet has at most $sheet_words_most\n"
-words 5000 > text
+lines 5000 0 > text
 run sheet_words text
 held 'sheet_words: 5000 words'
 

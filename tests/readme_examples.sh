@@ -1,6 +1,6 @@
 #!/bin/sh
-# The README's examples: the C program is taken out of it, built and run, the Rust program is the file that it names, and what they, the report program and the C
-# example print stands in it, line for line. The programs and the static library are built first: rt check sheet_words tranche_report, rt staticlib tranche_weights.
+# The README's examples: the C program is taken out of it, built and run, the Rust program is the file that it names, and what they, the programs of the report and of the totals
+# and the C example print stands in it, line for line. The programs and the static library are built first: rt check sheet_words tranche_report portfolio_totals, rt staticlib tranche_weights.
 set -eu
 cd "$(dirname "$0")/.."
 room=$(mktemp -d)
@@ -27,6 +27,8 @@ stands() {
 target/bin/sheet_words examples/ordinary.txt > "$room/deal"
 target/bin/tranche_report "$room/deal" > "$room/out"
 stands "report on examples/ordinary.txt" "$room/out"
+target/bin/portfolio_totals "$room/deal" > "$room/out"
+stands "totals of examples/ordinary.txt" "$room/out"
 
 $build examples/print_lines.c "$archive" -o "$room/print_lines"
 "$room/print_lines" "$room/deal" > "$room/out"

@@ -1,5 +1,5 @@
 #!/usr/bin/env python3
-"""The text that crates/checked_examples must print. What passes is worked out from the papers alone: 01, S-1 to S-3, S-5 and S-6 of 02, and Tables 3 and 4 of source
+"""The text that crates/checked_examples must print. What passes is worked out from the papers alone: 01, S-1 to S-3 and S-5 to S-7 of 02, and Tables 3 and 4 of source
 document 001. Exact fractions, exponentials to a hundred digits, Python's own calendar.
 
     python3 tests/worked_examples.py > /tmp/worked_examples && cmp /tmp/worked_examples crates/checked_examples/stdout
@@ -9,8 +9,9 @@ would differ. Where two numbers pass as the seventh word, or as the low number o
 the two; where that has neither, it is the higher, the exact value rounded down. Nothing else is taken from the stored text.
 
 It fails where a figure of the rating tables is missing from the examples' weights, where a case of one, two or three ratings, of dates, of the IRB section, of
-SEC-IRBA or of the seventh word is met by no example, where no line of the examples depends on a coefficient of SEC-IRBA, where a weight published in source document
-004 is not enclosed, or where a deal in dates has other lines than the same deal in months. It needs Python's standard library and is no part of the gate.
+SEC-IRBA, of the seventh word or of totals by portfolio (S-7) is met by no example, where no line of the examples depends on a coefficient of SEC-IRBA, where a weight
+published in source document 004 is not enclosed, where a deal in dates has other lines than the same deal in months, or where the totals by portfolio are not those of
+the pool. It needs Python's standard library and is no part of the gate.
 """
 import os
 import sys
@@ -84,10 +85,18 @@ Ends = namedtuple("Ends", "weight least")
 class Refused(Exception):
     """A refusal: its number and its place."""
 
+    def __str__(self):
+        return "refused %d at %d" % self.args
+
 
 def up(x, y):
     """x / y, rounded up."""
     return -(-x // y)
+
+
+def spaced(numbers):
+    """Numbers with single spaces between them."""
+    return " ".join(map(str, numbers))
 
 
 # ---- dates
@@ -403,12 +412,54 @@ def report(words):
     try:
         charge, lines = weighed(words)
     except Refused as r:
-        return [["refused %d at %d" % r.args]]
+        return [[str(r)]]
     LINES.extend(lines)
     lines = [forms_of(line) for line in lines]
     text = [["charge %d tranches %d" % (charge, len(lines))]]
-    text += [[" ".join(map(str, (i, *words))) for words in forms] for i, forms in enumerate(lines, 1)]
+    text += [[spaced((i, *words)) for words in forms] for i, forms in enumerate(lines, 1)]
     return text + [["total %d %d" % tuple(sum(forms[0][n] for forms in lines) for n in (4, 5))]]
+
+
+# ---- totals by portfolio
+
+# The rows of a block.
+BLOCK_ROWS = 50
+
+
+def sums(rows):
+    """The seven sums of some rows: exposure, nominal and weighted exposure, each over all of them and over those with known status, and late nominal."""
+
+    def three(some):
+        return sum(e for e, _, _, _ in some), sum(n for _, n, _, _ in some), sum(e * w for e, _, w, _ in some)
+
+    return [*three(rows), *three([r for r in rows if r[3] != 2]), sum(n for _, n, _, s in rows if s == 1)]
+
+
+def block_of(rows, block):
+    """The rows of a block, counted from 0; past the last there are none."""
+    return [row for i, row in enumerate(rows) if i // BLOCK_ROWS == block]
+
+
+def block_text(words, block):
+    """What a caller reads of a block of a sheet: its seven sums, or the refusal that the words get."""
+    try:
+        return spaced(sums(block_of(judged(words).rows, block)))
+    except Refused as r:
+        return str(r)
+
+
+def totals(words):
+    """The text of a sheet's totals by portfolio, line by line: for each block its number, its first and its last row, and its sums; then those of the pool."""
+    try:
+        rows = judged(words).rows
+    except Refused as r:
+        return [str(r)]
+    blocks = [block_of(rows, block) for block in range(up(len(rows), BLOCK_ROWS))]
+    if sums(rows) != [sum(each) for each in zip(*map(sums, blocks))]:
+        sys.exit("the totals by portfolio are not those of the pool")
+    firsts = range(1, len(rows) + 1, BLOCK_ROWS)
+    lines = [spaced((i, first, first + len(block) - 1, *sums(block))) for i, (first, block) in enumerate(zip(firsts, blocks))]
+    return lines + ["total " + spaced(sums(rows))]
 
 
 # ---- what the program prints, in its order
@@ -445,10 +496,16 @@ def say(forms):
     return text
 
 
-def say_report(name, words):
-    """Prints a name and the report on a sheet, and returns the report."""
+# Of each sheet with a report: its words, the report and the totals by portfolio.
+PORTFOLIOS = []
+
+
+def say_texts(name, words):
+    """Prints a name, the report on a sheet and its totals by portfolio, and returns the report."""
     say([name])
-    return "\n".join(say(forms) for forms in report(words))
+    text = "\n".join(say(forms) for forms in report(words))
+    PORTFOLIOS.append((words, text, [say([line]) for line in totals(words)]))
+    return text
 
 
 def print_figures():
@@ -467,7 +524,7 @@ def answer(words, room):
         weighed(words, room)
         return "weighed"
     except Refused as r:
-        return "refused %d at %d" % r.args
+        return str(r)
 
 
 def print_rooms():
@@ -479,14 +536,50 @@ def print_rooms():
 def print_limits():
     """Files of zeros, and the largest deals: six facts, a mixed pool of 1,000 rows of 10^10, 32 tranches of a 32nd of the pool, the IRB section."""
     for length in (0, 7, MOST_BYTES - 1, MOST_BYTES, MOST_BYTES + 1, MOST_BYTES + 8):
-        text = "refused 15 at 0" if length % 8 or length > MOST_BYTES else answer([0] * (length // 8), 0)
-        say(["file of zeros, bytes %d: %s" % (length, text)])
+        words, bad = [0] * (length // 8), [str(Refused(15, 0))] if length % 8 or length > MOST_BYTES else []
+        say(["file of zeros, bytes %d: %s" % (length, bad[0] if bad else answer(words, 0))])
+        for line in bad or totals(words):
+            say([line])
     for weight, stc, share in ((1250, 0, 0), (100, 0, 0), (100, 1, 0), (100, 0, SHARE_LEAST), (100, 1, MILLION)):
         sheet = [FACTS_MOST, MIXED_POOL, 0, 1, 1, stc, 0, ROWS] + [10**10, 10**10, weight, 0] * ROWS + [TRANCHES]
         for rank in range(1, TRANCHES + 1):
             sheet += [312500000000, rank, 1200, 312500000000, 0, 0, 0]
         sheet += [1, *Irb(charge=200_000, loss=MILLION, loans=MILLION, retail=0, share=share, average=TOP)]
-        say_report("largest deal, risk weight %d, STC mark %d, share %d" % (weight, stc, share), sheet)
+        say_texts("largest deal, risk weight %d, STC mark %d, share %d" % (weight, stc, share), sheet)
+
+
+def different_rows(count, resecuritised=0):
+    """A sheet with so many rows, of which no two have an exposure, a nominal amount or a risk weight in common. In an ordinary deal every third is of unknown status,
+    with little exposure, and the cap lowers the one tranche, below CCC-, to the pool's average."""
+    sheet = [FACTS_MOST, SA_POOL, resecuritised, 1, 1, 0, 0, count]
+    for i in range(count):
+        sheet += [i + 1 if i % 3 == 2 else MILLION + i, 2 * MILLION + 3 * i, 1250 - i, 3 if resecuritised else i % 3]
+    return sheet + [1, MILLION, 1, 60, MILLION, 18, 0, 0]
+
+
+def print_pools():
+    """Pools of different rows, with their totals by portfolio."""
+    for count, resecuritised in [*((n, 0) for n in (1, 49, 50, 51, 99, 100, 101, ROWS)), (101, 1)]:
+        say_texts("different rows %d, re-securitisation %d" % (count, resecuritised), different_rows(count, resecuritised))
+
+
+# The first blocks, the last that a pool may have and the next; 2^32, which cut to 32 bits is 0; then numbers whose product with 50, cut to 64 bits, is 34, 0, and 50
+# below 2^64.
+BLOCKS = 0, 1, 2, 19, 20, 2**32, (2**64 + 34) // BLOCK_ROWS, 2**63, 2**64 - 1
+
+
+def print_blocks():
+    """Single blocks as a caller reads them, of sheets that are accepted, that 6 and 3 refuse, and that 13 refuses where they are weighed. Returns words, block and text
+    of each."""
+    bad = different_rows(51)
+    bad[FACTS_MOST + 2 + ROW_SIZE * 50 + 2] = 1251
+    sheets = {"different rows %d" % count: different_rows(count) for count in (50, 51, ROWS)}
+    sheets |= {"a word too many, rows 51": different_rows(51) + [0], "the last risk weight 1251, rows 51": bad, "thin tranche, rows 2": THIN}
+    read = []
+    for (name, words), block in product(sheets.items(), BLOCKS):
+        read.append((words, block, block_text(words, block)))
+        say(["%s, block %d: %s" % (name, block, read[-1][2])])
+    return read
 
 
 def read_examples():
@@ -499,9 +592,9 @@ def read_examples():
 
 
 def print_examples(sheets):
-    """Prints the report on each example, and returns the reports by name. Leaves in LINES those of the examples alone."""
+    """Prints the report on each example and its totals by portfolio, and returns the reports by name. Leaves in LINES those of the examples alone."""
     LINES.clear()
-    return {name: say_report(name, words) for name, words in sheets.items()}
+    return {name: say_texts(name, words) for name, words in sheets.items()}
 
 
 def check_tables(texts):
@@ -880,6 +973,58 @@ def check_ends(said):
     check_met(due, met)
 
 
+# ---- the cases of totals by portfolio
+
+
+def portfolio_cases(words, text, lines):
+    """What a sheet, the report on it and its totals by portfolio are an example of. A row counts as first or last of a block where another block lies next to it."""
+    if lines[0] == text:
+        yield "%d in the totals too" % refusal_of(text)[0]
+        return
+    if refusal_of(text):
+        yield "%d in the report alone" % refusal_of(text)[0]
+    rows = judged(words).rows
+    if all(len(set(column)) == len(rows) for column in list(zip(*rows))[:3]):
+        yield "rows %d, all different" % len(rows)
+    if len(rows) > BLOCK_ROWS and len(rows) % BLOCK_ROWS:
+        yield "last block of rows %d" % (len(rows) % BLOCK_ROWS)
+    yield from ("status %d, first row of a block" % s for _, _, _, s in rows[BLOCK_ROWS::BLOCK_ROWS])
+    yield from ("status %d, last row of a block" % s for _, _, _, s in rows[BLOCK_ROWS - 1:-1:BLOCK_ROWS])
+    yield from ("known exposure 0" for line in lines if line.split()[-4] == "0")
+    yield from ("weighted exposure 0" for line in lines if line.split()[-5] == "0")
+
+
+def block_cases(words, block, text):
+    """What a block that a caller reads is an example of."""
+    if refusal_of(text):
+        yield "%d, block %d" % (refusal_of(text)[0], block)
+        return
+    blocks, first = up(len(judged(words).rows), BLOCK_ROWS), BLOCK_ROWS * block
+    yield "blocks %d, block %d" % (blocks, block)
+    if answer(words, LINE_SIZE * TRANCHES) != "weighed":
+        yield "%s where it is weighed, block %d" % (answer(words, LINE_SIZE * TRANCHES), block)
+    if blocks <= block and block % 2**32 < blocks:
+        yield "block %d past the last, in 32 bits one of the pool's" % block
+    if 2**64 <= first and first % 2**64 < len(judged(words).rows):
+        yield "first row above 2^64, in 64 bits %d" % (first % 2**64)
+    if (first + BLOCK_ROWS) % 2**64 == 0:
+        yield "end of the block in 64 bits 0"
+
+
+def check_totals(read):
+    """Every case of totals by portfolio is met, and of the blocks that a caller reads."""
+    met = {case for portfolio in PORTFOLIOS for case in portfolio_cases(*portfolio)} | {case for one in read for case in block_cases(*one)}
+    due = ["rows %d, all different" % count for count in (1, 49, 50, 51, 99, 100, 101, ROWS)] + ["last block of rows %d" % count for count in (1, 49)]
+    due += ["status %d, %s row of a block" % case for case in product(range(4), ("first", "last"))] + ["known exposure 0", "weighted exposure 0"]
+    due += ["%d in the totals too" % number for number in (*range(1, 12), 16, 17, 18)] + ["13 in the report alone"]
+    due += ["blocks %d, block %d" % case for case in ((1, 0), (1, 1), (2, 0), (2, 1), (2, 2), (20, 0), (20, 19), (20, 20), *product((1, 2, 20), (2**64 - 1,)))]
+    due += ["%d, block %d" % case for case in product((3, 6), (0, 2, 2**64 - 1))]
+    due += ["refused 13 at 22 where it is weighed, block %d" % block for block in (0, 1)]
+    due += ["block %d past the last, in 32 bits one of the pool's" % block for block in (2**32, 2**63)]
+    due += ["first row above 2^64, in 64 bits %d" % first for first in (0, 34)] + ["end of the block in 64 bits 0"]
+    check_met(due, met)
+
+
 # ---- published weights
 
 # Annex 1 of source document 004: the example, its row, the weight and the risk-weighted amount. Its maturity of 34.5 months lies between 34 and 35.
@@ -901,6 +1046,8 @@ if __name__ == "__main__":
     print_figures()
     ROOMS = print_rooms()
     print_limits()
+    print_pools()
+    READ = print_blocks()
     SHEETS = read_examples()
     TEXTS = print_examples(SHEETS)
     check_tables(TEXTS)
@@ -909,4 +1056,5 @@ if __name__ == "__main__":
     check_same_lines(TEXTS)
     check_irba(SHEETS, TEXTS)
     check_ends(ROOMS)
+    check_totals(READ)
     check_published(TEXTS)

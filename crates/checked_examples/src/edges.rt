@@ -1,6 +1,7 @@
 // What is not kept as a written sheet: results that are too short (14), files of a bad length (15), and the largest deals.
-use crate::examples::print_report;
+use crate::examples::print_texts;
 use deal::Answer;
+use judgement::Refusal;
 use libc::STDOUT_FILENO;
 use limits::BYTE_LIMIT;
 use limits::FACTS_MOST;
@@ -12,7 +13,7 @@ use limits::TRANCHES_MOST;
 use limits::WORD_LIMIT;
 
 // A deal whose second tranche is too thin for the formula: 13 at place 22, where the results have room for three lines.
-const THIN: [u64; 36] = [
+pub(crate) const THIN: [u64; 36] = [
     4,
     0,
     0,
@@ -91,6 +92,15 @@ const CHECKED: [u64; 36] = [
     0,
 ];
 
+// Writes a line: a refusal.
+pub(crate) fn print_refusal(r: Refusal) {
+    io::write_all(STDOUT_FILENO, b"refused ");
+    io::print_decimal(STDOUT_FILENO, r.number);
+    io::write_all(STDOUT_FILENO, b" at ");
+    io::print_decimal(STDOUT_FILENO, r.place);
+    io::write_all(STDOUT_FILENO, b"\n");
+}
+
 // Writes the answer to a deal with the results that are lent for it.
 fn print_answer(sheet: &[u64], results: &mut [u64]) {
     let answer = deal::weigh(sheet, results);
@@ -101,13 +111,7 @@ fn print_answer(sheet: &[u64], results: &mut [u64]) {
         } => {
             io::write_all(STDOUT_FILENO, b"weighed\n");
         }
-        Answer::Refused(r) => {
-            io::write_all(STDOUT_FILENO, b"refused ");
-            io::print_decimal(STDOUT_FILENO, r.number);
-            io::write_all(STDOUT_FILENO, b" at ");
-            io::print_decimal(STDOUT_FILENO, r.place);
-            io::write_all(STDOUT_FILENO, b"\n");
-        }
+        Answer::Refused(r) => print_refusal(r),
     }
 }
 
@@ -143,14 +147,14 @@ pub(crate) fn print_short_results() {
     print_rooms(b"checked deal", &checked);
 }
 
-// Writes the report on a file of that many bytes, all of them 0.
+// Writes both texts of a file of that many bytes, all of them 0.
 fn print_length(n: u64) {
     let file = [0u8; BYTE_LIMIT + 8];
     let length = buffers::within(n, &file);
     io::write_all(STDOUT_FILENO, b"file of zeros, bytes ");
     io::print_decimal(STDOUT_FILENO, n);
     io::write_all(STDOUT_FILENO, b": ");
-    print_report(&file[..length]);
+    print_texts(&file[..length]);
 }
 
 // The empty file lacks its first word. Of the other lengths only that of the longest sheet gets past 15; a fact count of 0 is then the fault.
@@ -164,13 +168,13 @@ pub(crate) fn print_lengths() {
     print_length(longest + 8);
 }
 
-// The place of the pool's count in the largest sheets, and that of the tranches' count.
-const POOL_AT: usize = 1 + FACTS_MOST;
+// The place of the pool's count in sheets with the most facts, and in the largest sheets that of the tranches' count.
+pub(crate) const POOL_AT: usize = 1 + FACTS_MOST;
 
 const TRANCHES_AT: usize = POOL_AT + 1 + ROW_SIZE * ROWS_MOST;
 
 // The places of the first pool row, of the first tranche and of the IRB section's count.
-const FIRST_ROW: usize = POOL_AT + 1;
+pub(crate) const FIRST_ROW: usize = POOL_AT + 1;
 
 const FIRST_TRANCHE: usize = TRANCHES_AT + 1;
 
@@ -215,7 +219,7 @@ fn with_irb_section(sheet: [u64; WORD_LIMIT], share: u64) -> [u64; WORD_LIMIT] {
     filled
 }
 
-// Writes the report on the largest deal, as many words as a sheet has, of a mixed pool with that risk weight of all rows, that STC mark and that share.
+// Writes both texts of the largest deal, as many words as a sheet has, of a mixed pool with that risk weight of all rows, that STC mark and that share.
 pub(crate) fn print_largest(weight: u64, stc: u64, share: u64) {
     let mut facts = [0u64; WORD_LIMIT];
     facts[0] = FACTS_MOST as u64;
@@ -233,6 +237,6 @@ pub(crate) fn print_largest(weight: u64, stc: u64, share: u64) {
     io::print_decimal(STDOUT_FILENO, share);
     io::write_all(STDOUT_FILENO, b"\n");
     if files::store(&sheet, &mut file) {
-        print_report(&file);
+        print_texts(&file);
     }
 }

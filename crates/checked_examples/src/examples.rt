@@ -3,32 +3,51 @@ use crate::reading;
 use libc::STDOUT_FILENO;
 use limits::BYTE_LIMIT;
 use report::TEXT_ROOM;
+use report::TOTALS_ROOM;
 use report::Written;
 use sheet_text::Made;
 
-// Writes the report on a file.
-pub(crate) fn print_report(file: &[u8]) {
-    let mut text = [0u8; TEXT_ROOM];
-    let written = report::report(file, &mut text);
+// Writes a text that was written whole to the start of a buffer.
+fn print_written(written: Written, text: &[u8]) {
     if let Written::Whole(n) = written {
-        let length = buffers::within(n, &text);
+        let length = buffers::within(n, text);
         io::write_all(STDOUT_FILENO, &text[..length]);
     }
 }
 
-// Writes the report on a sheet that is written as a text.
+// Writes the report on a file.
+fn print_report(file: &[u8]) {
+    let mut text = [0u8; TEXT_ROOM];
+    let written = report::report(file, &mut text);
+    print_written(written, &text);
+}
+
+// Writes the totals by portfolio of a file.
+fn print_totals(file: &[u8]) {
+    let mut text = [0u8; TOTALS_ROOM];
+    let written = report::portfolio_totals(file, &mut text);
+    print_written(written, &text);
+}
+
+// Writes both texts of a file, the report and the totals by portfolio, which a refusal with 13 in the report does not keep back.
+pub(crate) fn print_texts(file: &[u8]) {
+    print_report(file);
+    print_totals(file);
+}
+
+// Writes both texts of a sheet that is written as a text.
 fn print_sheet(text: &[u8]) {
     let mut file = [0u8; BYTE_LIMIT];
     let made = sheet_text::sheet_bytes(text, &mut file);
     if let Made::Bytes(n) = made {
         let length = buffers::within(n, &file);
-        print_report(&file[..length]);
+        print_texts(&file[..length]);
     } else {
         io::write_all(STDOUT_FILENO, b"no sheet\n");
     }
 }
 
-// Writes the name of an example and the report on it.
+// Writes the name of an example and both texts of it.
 fn print_example(i: usize) {
     let mut name = io::buffer();
     let length = os::arg(i, &mut name);

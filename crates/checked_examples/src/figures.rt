@@ -4,7 +4,7 @@ use libc::STDOUT_FILENO;
 use numbers::Ends;
 
 // Writes a label and the number that it labels.
-fn print_labelled(label: &[u8], n: u64) {
+pub(crate) fn print_labelled(label: &[u8], n: u64) {
     io::write_all(STDOUT_FILENO, label);
     io::print_decimal(STDOUT_FILENO, n);
 }

@@ -1,5 +1,7 @@
 // Prints what the library gives for figures and deals whose numbers are known, to be held against the stored text: single figures, refusals that no
-// written sheet can get, the largest deals, and the report on each example that an argument names.
+// written sheet can get, the largest deals, pools of many rows and single blocks of them, and each example that an argument names. Of a file it prints the
+// report, then the totals by portfolio.
+mod blocks;
 mod edges;
 mod examples;
 mod figures;
@@ -15,5 +17,7 @@ fn main() {
     edges::print_largest(100, 1, 0);
     edges::print_largest(100, 0, 950000);
     edges::print_largest(100, 1, 1000000);
+    blocks::print_pools();
+    blocks::print_single_blocks();
     examples::print_examples();
 }

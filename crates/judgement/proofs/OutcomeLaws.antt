@@ -1,4 +1,4 @@
--- The numbers of an outcome settle it, and the verdict that left it. No axioms.
+-- The numbers of an outcome settle it, and the verdict that left it; and what a verdict leaves. No axioms.
 use mathlib.Core.Path.{_≡_, refl, sym, ap}
 use Prim.Native.Nat.{ℕ}
 use native.Mathlib.Omega.{arith}
@@ -20,6 +20,14 @@ module _ {A : Type 0} where
 
   pub found-not-refused : (a : A) (r : Refusal) → found a ≡ refusedBy r → ⊥
   found-not-refused a r e = let z : _≡_ {A = ℕ} 0 1 = cc in omega arith
+
+  -- ---- the outcome from the verdict
+
+  pub refused-when : (r : Refusal) (b : A) (v : Verdict) → v ≡ Faulty r → refusedBy r ≡ outcome b v
+  refused-when r b v e = rw e refl
+
+  pub found-when : (a b : A) (v : Verdict) → v ≡ Sound → a ≡ b → found a ≡ outcome b v
+  found-when a b v e same = rw (e, same) refl
 
   -- ---- the verdict from the outcome
 

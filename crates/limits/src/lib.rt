@@ -11,6 +11,11 @@ pub const ROWS_MOST: usize = 1000;
 
 pub const ROW_SIZE: usize = 4;
 
+// The pool rows of a block, and the most blocks of a pool.
+pub const BLOCK_SIZE: usize = 50;
+
+pub const BLOCKS_MOST: usize = 20;
+
 // The most tranches, and the words of a tranche's row.
 pub const TRANCHES_MOST: usize = 32;
 

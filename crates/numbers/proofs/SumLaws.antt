@@ -1,12 +1,12 @@
--- Laws of a sum over an index: its next term, its bounds by the bounds of its terms, its growth with the number of terms, and one term replaced.
+-- Laws of a sum over an index: its next term, its bounds by the bounds of its terms, its growth with the number of terms, one term replaced, and its parts: the sums of its blocks add up to it.
 -- No axioms.
 use mathlib.Core.Logic.{⊎-elim}
-use mathlib.Core.Path.{_≡_, refl}
-use Prim.Native.Nat.{ℕ, zero, suc, _+_, _*_, _≤_, _<_}
-use native.Mathlib.Nat.{eq-or-lt-of-le, le-of-suc-le-suc, le-refl, le-step, lt-suc-self, not-suc-le-zero}
+use mathlib.Core.Path.{_≡_, refl, sym, ap, _∙_}
+use Prim.Native.Nat.{ℕ, zero, suc, _+_, _*_, _-_, min, _≤_, _<_}
+use native.Mathlib.Nat.{add-zero, add-suc, eq-zero-or-pos, min-eq-left, eq-or-lt-of-le, le-of-suc-le-suc, le-refl, le-step, lt-suc-self, mul-le-mul-left, not-suc-le-zero}
 use native.Mathlib.Numerals.{add-one}
 use native.Mathlib.Omega.{arith}
-use Rattle.numbers.specs.Sum.{sum}
+use Rattle.numbers.specs.Sum.{sum, sumFrom, blockSum}
 
 pub sum-next : (f : ℕ → ℕ) (n : ℕ) → sum f (n + 1) ≡ sum f n + f n
 unfolding sum
@@ -59,3 +59,51 @@ sum-replaced f g k (suc n) l h =
     let last : f n ≡ g n = h n (lt-suc-self n) (λ same. omega arith) in
     omega (arith, sum-replaced f g k n below (λ i under. h i (le-step under))))
     (eq-or-lt-of-le (le-of-suc-le-suc l))
+
+-- ---- parts of a sum
+
+-- the first a terms, and those behind them
+pub sum-parted : (f : ℕ → ℕ) (a n : ℕ) → sum f (a + n) ≡ sum f a + sum (λ j. f (a + j)) n
+unfolding sum
+sum-parted f a zero = rw (add-zero a) (omega arith)
+sum-parted f a (suc n) = rw (add-suc a n) (omega (arith, sum-parted f a n))
+
+pub sum-from-next : (f : ℕ → ℕ) (a i : ℕ) → a ≤ i → sumFrom f a (i + 1) ≡ sumFrom f a i + f i
+sum-from-next f a i l =
+    let one-more : (i + 1) - a ≡ (i - a) + 1 = omega arith in
+    let last : a + (i - a) ≡ i = omega arith in
+    rw one-more (sum-next (λ j. f (a + j)) (i - a) ∙ rw last refl)
+
+-- up to a term that is not above the first there is nothing to sum
+pub sum-from-none : (f : ℕ → ℕ) (a e : ℕ) → e ≤ a → sumFrom f a e ≡ 0
+unfolding sum
+sum-from-none f a e l = let none : e - a ≡ 0 = omega arith in rw none refl
+
+-- at most n terms, none above m
+pub sum-from-at-most : (f : ℕ → ℕ) (m a e n : ℕ) → e - a ≤ n → ((i : ℕ) → i < e → f i ≤ m) → sumFrom f a e ≤ m * n
+sum-from-at-most f m a e n few h = omega (arith, sum-at-most (λ j. f (a + j)) m (e - a) (λ j l. h (a + j) (omega arith)), mul-le-mul-left m few)
+
+-- the terms up to a, of which there are n, and m more
+next-block : (f : ℕ → ℕ) (m n a : ℕ) → sum f (min n a) + sumFrom f a (min n (a + m)) ≡ sum f (min n (a + m))
+next-block f m n a =
+    ⊎-elim
+    (λ (past : n - a ≡ 0).
+    let same : min n (a + m) ≡ min n a = omega arith in
+    omega (arith, ap (sum f) same, sum-from-none f a (min n (a + m)) (omega arith)))
+    (λ (within : 0 < n - a).
+    let start : min n a ≡ a = omega arith in
+    let end : a + (min n (a + m) - a) ≡ min n (a + m) = omega arith in
+    rw start (sym (sum-parted f a (min n (a + m) - a)) ∙ ap (sum f) end))
+    (eq-zero-or-pos (n - a))
+
+-- the first k blocks of n terms, m to a block
+blocks-to : (f : ℕ → ℕ) (m n k : ℕ) → sum (λ b. blockSum f m n b) k ≡ sum f (min n (m * k))
+unfolding sum
+blocks-to f m n zero = let none : min n (m * 0) ≡ 0 = omega arith in rw none refl
+blocks-to f m n (suc k) =
+    let end : m * suc k ≡ m * k + m = omega arith in
+    rw (end, blocks-to f m n k) (next-block f m n (m * k))
+
+-- blocks of any size that reach the last term sum to the whole
+pub sum-of-blocks : (f : ℕ → ℕ) (m n k : ℕ) → n ≤ m * k → sum (λ b. blockSum f m n b) k ≡ sum f n
+sum-of-blocks f m n k l = blocks-to f m n k ∙ ap (sum f) (min-eq-left l)

@@ -8,15 +8,15 @@ use native.Mathlib.Nat.{le-refl, mul-le-mul-left}
 use native.Mathlib.Omega.{arith}
 use borrow.Author.Tests.{leb-true, eqb-true, ne-eqb}
 use Rattle.numbers.specs.Sum.{whereCounted}
-use Rattle.numbers.proofs.SumLaws.{sum-at-most, sum-at-least, sum-ordered, sum-scaled}
+use Rattle.numbers.proofs.SumLaws.{sum-at-most, sum-from-at-most, sum-at-least, sum-ordered, sum-scaled}
 use Rattle.charge.specs.PoolCharge.{unknownExposure, mostlyKnown}
 use Rattle.charge.specs.SumLimits.{SumLimits}
 use Rattle.judgement.specs.DealSheet.{rows, exposure, nominal, status, needed}
 use Rattle.judgement.specs.Refusals.{judged}
 use Rattle.judgement.specs.declared.Verdict.the-variants.{Sound}
 use Rattle.judgement.proofs.SheetLimits.{good-row, rows-within, pool-counted}
-use Rattle.pool.specs.PoolSums.{known, delinquent, weightedExposure, totalsTo, sumsTo, poolSums}
-use Rattle.pool.specs.RowTotals.{TotalLimits}
+use Rattle.pool.specs.PoolSums.{known, delinquent, weightedExposure, poolSums}
+use Rattle.pool.specs.RowTotals.{totalsFrom, unknown, markedFrom, TotalLimits, MarkedLimits}
 
 -- ---- a number where it counts
 
@@ -35,7 +35,7 @@ pub counted-among : (some more : Bool) (x : ℕ) → (some ≡ true → more ≡
 counted-among true more x h = rw (h refl) (le-refl x)
 counted-among false more x h = omega arith
 
--- ---- the sums of the first n rows of an accepted sheet
+-- ---- the rows of an accepted sheet
 
 module _ (s : List ℕ) (accepted : judged s (needed s) ≡ Sound) where
   row-weighted : (i : ℕ) → i < rows s → weightedExposure s i ≤ 1250 * exposure s i
@@ -46,64 +46,60 @@ module _ (s : List ℕ) (accepted : judged s (needed s) ≡ Sound) where
       let one : status s i ≡ 1 = eqb-true (status s i) 1 e in
       ap not (ne-eqb (status s i) 2 (λ two. omega arith))
 
-  -- the totals of some of the first n rows
-  pub total-limits : (counts : ℕ → Bool) (n : ℕ) → n ≤ rows s → TotalLimits (totalsTo s counts n) n
-  total-limits counts n within = record {
+  -- the totals of those of the rows from a to before e that count, which are at most n rows
+  pub total-limits : (counts : ℕ → Bool) (a e n : ℕ) → e ≤ rows s → e - a ≤ n → TotalLimits (totalsFrom s counts a e) n
+  total-limits counts a e n within few = record {
     exposure-most =
-        sum-at-most (λ i. whereCounted (counts i) (exposure s i)) 10000000000 n
+        sum-from-at-most (λ i. whereCounted (counts i) (exposure s i)) 10000000000 a e n few
         (λ i l. counted-within (counts i) (exposure s i) 10000000000 (good-row s i accepted (omega arith) .exposure-most));
     nominal-most =
-        sum-at-most (λ i. whereCounted (counts i) (nominal s i)) 10000000000 n
+        sum-from-at-most (λ i. whereCounted (counts i) (nominal s i)) 10000000000 a e n few
         (λ i l. counted-within (counts i) (nominal s i) 10000000000 (good-row s i accepted (omega arith) .nominal-most));
     weighted-most =
-        sum-at-most (λ i. whereCounted (counts i) (weightedExposure s i)) 12500000000000 n
+        sum-from-at-most (λ i. whereCounted (counts i) (weightedExposure s i)) 12500000000000 a e n few
         (λ i l.
         counted-within (counts i) (weightedExposure s i) 12500000000000
         (omega (arith, row-weighted i (omega arith), good-row s i accepted (omega arith) .exposure-most)));
   }
 
-  pub sum-limits-to : (n : ℕ) → n ≤ rows s → SumLimits (sumsTo s n)
-  sum-limits-to n within =
-      let counts = rows-within s (pool-counted s accepted) in
-      record {
-        exposure-most =
-            omega (arith, sum-at-most (λ i. exposure s i) 10000000000 n (λ i l. good-row s i accepted (omega arith) .exposure-most));
-        known-among-all =
-            sum-ordered (λ i. whereCounted (known s i) (exposure s i)) (λ i. exposure s i) n
-            (λ i l. counted-at-most (known s i) (exposure s i));
-        weighted-most =
-            sum-scaled (λ i. weightedExposure s i) (λ i. exposure s i) 1250 n (λ i l. row-weighted i (omega arith));
-        known-weighted-most =
-            sum-scaled (λ i. whereCounted (known s i) (weightedExposure s i)) (λ i. whereCounted (known s i) (exposure s i)) 1250 n
-            (λ i l. counted-scaled (known s i) (weightedExposure s i) (exposure s i) 1250 (row-weighted i (omega arith)));
-        known-nominal-most =
-            omega (
-              arith,
-              sum-at-most (λ i. whereCounted (known s i) (nominal s i)) 10000000000 n
-                  (λ i l. counted-within (known s i) (nominal s i) 10000000000 (good-row s i accepted (omega arith) .nominal-most)),
-            );
-        late-among-known =
-            sum-ordered (λ i. whereCounted (delinquent s i) (nominal s i)) (λ i. whereCounted (known s i) (nominal s i)) n
-            (λ i l. counted-among (delinquent s i) (known s i) (nominal s i) (late-known i));
-      }
-
-  pub nominal-most-to : (n : ℕ) → n ≤ rows s → sumsTo s n .all .nominal ≤ 10000000000000
-  nominal-most-to n within =
-      let counts = rows-within s (pool-counted s accepted) in
-      omega (arith, sum-at-most (λ i. nominal s i) 10000000000 n (λ i l. good-row s i accepted (omega arith) .nominal-most))
+  pub marked-limits : (a e n : ℕ) → e ≤ rows s → e - a ≤ n → MarkedLimits (markedFrom s a e) n
+  marked-limits a e n within few = record {
+    unknown-within = total-limits (λ i. unknown s i) a e n within few;
+    late-most = total-limits (λ i. delinquent s i) a e n within few .nominal-most;
+  }
 
 -- ---- the pool of an accepted sheet
 
 pub sum-limits : (s : List ℕ) → judged s (needed s) ≡ Sound → SumLimits (poolSums s)
 unfolding poolSums
-sum-limits s accepted = sum-limits-to s accepted (rows s) (le-refl (rows s))
+sum-limits s accepted =
+    let counts = rows-within s (pool-counted s accepted) in
+    record {
+      exposure-most = omega (arith, sum-at-most (λ i. exposure s i) 10000000000 (rows s) (λ i l. good-row s i accepted l .exposure-most));
+      known-among-all =
+          sum-ordered (λ i. whereCounted (known s i) (exposure s i)) (λ i. exposure s i) (rows s)
+          (λ i l. counted-at-most (known s i) (exposure s i));
+      weighted-most = sum-scaled (λ i. weightedExposure s i) (λ i. exposure s i) 1250 (rows s) (λ i l. row-weighted s accepted i l);
+      known-weighted-most =
+          sum-scaled (λ i. whereCounted (known s i) (weightedExposure s i)) (λ i. whereCounted (known s i) (exposure s i)) 1250 (rows s)
+          (λ i l. counted-scaled (known s i) (weightedExposure s i) (exposure s i) 1250 (row-weighted s accepted i l));
+      known-nominal-most =
+          omega (
+            arith,
+            sum-at-most (λ i. whereCounted (known s i) (nominal s i)) 10000000000 (rows s)
+                (λ i l. counted-within (known s i) (nominal s i) 10000000000 (good-row s i accepted l .nominal-most)),
+          );
+      late-among-known =
+          sum-ordered (λ i. whereCounted (delinquent s i) (nominal s i)) (λ i. whereCounted (known s i) (nominal s i)) (rows s)
+          (λ i l. counted-among (delinquent s i) (known s i) (nominal s i) (late-known s accepted i));
+    }
 
 pub nominal-within : (s : List ℕ) → judged s (needed s) ≡ Sound → (1 ≤ poolSums s .all .nominal) × (poolSums s .all .nominal ≤ 10000000000000)
 unfolding poolSums
 nominal-within s accepted =
     let counts = rows-within s (pool-counted s accepted) in (
       omega (arith, sum-at-least (λ i. nominal s i) 1 (rows s) (λ i l. good-row s i accepted l .nominal-least)),
-      nominal-most-to s accepted (rows s) (le-refl (rows s)),
+      omega (arith, sum-at-most (λ i. nominal s i) 10000000000 (rows s) (λ i l. good-row s i accepted l .nominal-most)),
     )
 
 -- what the average and the pool charge are divided by

@@ -1,16 +1,23 @@
--- What a pool comes to is settled by its numbers; and what these say of the words, the layout and the sums. No axioms.
+-- What a pool and a block come to is settled by their numbers; and what these say of the words, the layout and the sums. No axioms.
 use mathlib.Core.List.{List}
 use mathlib.Core.Path.{_≡_, refl, sym, ap, _∙_}
 use Prim.Native.Nat.{ℕ}
 use Rattle.charge.specs.declared.Sums.{Sums}
 use Rattle.judgement.specs.DealSheet.{layout}
 use Rattle.judgement.specs.Outcome.{found, refusedBy}
-use Rattle.judgement.specs.Refusals.{wordsVerdict}
+use Rattle.judgement.specs.Refusals.{wordsVerdict, wordsNumbers, numbersOf as wordsNumbersOf}
 use Rattle.judgement.specs.declared.Layout.{Layout}
 use Rattle.judgement.specs.declared.Refusal.{Refusal}
 use Rattle.judgement.specs.declared.Verdict.the-variants.{Sound, Faulty}
-use Rattle.judgement.proofs.OutcomeLaws.{same-found, same-refusal, found-not-refused, found-means, refused-means}
+use Rattle.judgement.specs.declared.Words.{Words}
+use Rattle.judgement.specs.declared.Words.the-variants.{Good, Bad}
+use Rattle.judgement.proofs.WordsLaw.{good-numbers, bad-numbers}
+use Rattle.judgement.proofs.OutcomeLaws.{same-found, same-refusal, found-not-refused, found-when, refused-when, found-means, refused-means}
 use Rattle.pool.specs.PoolSums.{poolSums}
+use Rattle.pool.specs.BlockSums.{blockSums}
+use Rattle.pool.specs.SummedBlock.{numbersOf as blockNumbersOf, blockNumbers}
+use Rattle.pool.specs.declared.Block.{Block}
+use Rattle.pool.specs.declared.Block.the-variants as block
 use Rattle.pool.specs.SummedPool.{OpenPool, numbersOf, poolNumbers}
 use Rattle.pool.specs.declared.Pool.{Pool}
 use Rattle.pool.specs.declared.Pool.the-variants.{Summed, Refused}
@@ -23,15 +30,37 @@ pool-settled (Summed l q) (Refused r) e = absurd (found-not-refused (l, q) r e)
 pool-settled (Refused t) (Summed m p) e = absurd (found-not-refused (m, p) t (sym e))
 pool-settled (Refused t) (Refused r) e = ap Refused (same-refusal t r e)
 
--- ---- from the words to the numbers
+pub block-settled : (v w : Block) → blockNumbersOf v ≡ blockNumbersOf w → v ≡ w
+block-settled (block.Summed q) (block.Summed p) e = ap block.Summed (same-found q p e)
+block-settled (block.Summed q) (block.Refused r) e = absurd (found-not-refused q r e)
+block-settled (block.Refused t) (block.Summed p) e = absurd (found-not-refused p t (sym e))
+block-settled (block.Refused t) (block.Refused r) e = ap block.Refused (same-refusal t r e)
 
-pub summed-pool : (s : List ℕ) (l : Layout) (q : Sums) → wordsVerdict s ≡ Sound → l ≡ layout s → q ≡ poolSums s → found (l, q) ≡ poolNumbers s
-unfolding poolNumbers
-summed-pool s l q sound is sums = simp (sound, is, sums)
+-- ---- what `judge_words` found, by each case
+
+pub good-words : (s : List ℕ) (w : Words) (l : Layout) → wordsNumbersOf w ≡ wordsNumbers s → w ≡ Good l → (wordsVerdict s ≡ Sound) × (l ≡ layout s)
+good-words s w l e is = good-numbers s l (sym (ap wordsNumbersOf is) ∙ e)
+
+pub bad-words : (s : List ℕ) (w : Words) (r : Refusal) → wordsNumbersOf w ≡ wordsNumbers s → w ≡ Bad r → wordsVerdict s ≡ Faulty r
+bad-words s w r e is = bad-numbers s r (sym (ap wordsNumbersOf is) ∙ e)
+
+-- ---- from the words to the numbers
 
 pub refused-pool : (s : List ℕ) (r : Refusal) → wordsVerdict s ≡ Faulty r → refusedBy r ≡ poolNumbers s
 unfolding poolNumbers
-refused-pool s r e = rw e
+refused-pool s r e = refused-when r (layout s, poolSums s) (wordsVerdict s) e
+
+pub summed-pool : (s : List ℕ) (l : Layout) (q : Sums) → wordsVerdict s ≡ Sound → l ≡ layout s → q ≡ poolSums s → found (l, q) ≡ poolNumbers s
+unfolding poolNumbers
+summed-pool s l q sound is sums = found-when (l, q) (layout s, poolSums s) (wordsVerdict s) sound (rw (is, sums) refl)
+
+pub refused-block : (s : List ℕ) (b : ℕ) (r : Refusal) → wordsVerdict s ≡ Faulty r → refusedBy r ≡ blockNumbers s b
+unfolding blockNumbers
+refused-block s b r e = refused-when r (blockSums s b) (wordsVerdict s) e
+
+pub summed-block : (s : List ℕ) (b : ℕ) (q : Sums) → wordsVerdict s ≡ Sound → q ≡ blockSums s b → found q ≡ blockNumbers s b
+unfolding blockNumbers
+summed-block s b q sound sums = found-when q (blockSums s b) (wordsVerdict s) sound sums
 
 -- ---- and back
 

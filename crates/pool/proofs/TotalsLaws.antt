@@ -1,66 +1,96 @@
--- Totals over rows that count: none, one row more, and how the pool's sums are made of three of them. No axioms.
-use mathlib.Core.Bool.{Bool, true, false, not}
+-- Totals over some rows that count: none, one row more, and how the seven sums over these rows are made of three of them. No axioms.
+use mathlib.Core.Bool.{Bool, true, false, not, cond}
 use mathlib.Core.List.{List}
-use mathlib.Core.Path.{_≡_, refl, ap}
+use mathlib.Core.Path.{_≡_, refl, sym, ap, _∙_}
 use Prim.Native.Nat.{ℕ, zero, suc, _+_, _-_, _≤_}
-use native.Mathlib.Nat.{add-zero}
+use native.Mathlib.Nat.{add-zero, le-refl}
 use native.Mathlib.Omega.{arith}
-use lib.Dec.{eqb}
 use borrow.Author.Tests.{eq-eqb, ne-eqb}
 use Rattle.judgement.specs.DealSheet.{exposure, nominal, status}
-use Rattle.numbers.specs.Sum.{sum, whereCounted}
-use Rattle.pool.specs.PoolSums.{known, delinquent, weightedExposure, totalsTo, sumsTo}
-use Rattle.pool.specs.RowTotals.{withRow, markedTo}
+use Rattle.numbers.specs.Sum.{sum, sumFrom, whereCounted}
+use Rattle.numbers.proofs.SumLaws.{sum-from-next, sum-from-none}
+use Rattle.pool.specs.PoolSums.{delinquent, weightedExposure}
+use Rattle.pool.specs.BlockSums.{noTotals}
+use Rattle.pool.specs.RowTotals.{totalsFrom, sumsFrom, unknown, markedFrom, withRow, withMarked}
 use Rattle.pool.specs.declared.Marked.{Marked}
 use Rattle.charge.specs.declared.Sums.{Sums}
 use Rattle.charge.specs.declared.Totals.{Totals}
-use Rattle.numbers.proofs.SumLaws.{sum-next}
 
-pub totals-none : (s : List ℕ) (counts : ℕ → Bool) → record { exposure = 0; nominal = 0; weighted = 0 } ≡ totalsTo s counts 0
-unfolding sum
-totals-none s counts = refl
+module _ (s : List ℕ) (counts : ℕ → Bool) (a : ℕ) where
+  -- rows up to one that is not above the first are none
+  pub totals-none : (e : ℕ) → e ≤ a → noTotals ≡ totalsFrom s counts a e
+  totals-none e l =
+      rw (
+        sum-from-none (λ i. whereCounted (counts i) (exposure s i)) a e l,
+        sum-from-none (λ i. whereCounted (counts i) (nominal s i)) a e l,
+        sum-from-none (λ i. whereCounted (counts i) (weightedExposure s i)) a e l,
+      ) refl
 
--- a row that counts is added, and one that does not leaves the totals
-pub totals-next : (s : List ℕ) (counts : ℕ → Bool) (i : ℕ) → counts i ≡ true → withRow s (totalsTo s counts i) i ≡ totalsTo s counts (i + 1)
-totals-next s counts i e = simp (sum-next, e)
+  -- the same number of rows from the same row on
+  pub totals-as-far : (i e : ℕ) → i - a ≡ e - a → totalsFrom s counts a i ≡ totalsFrom s counts a e
+  totals-as-far i e far = rw far refl
 
-pub totals-left : (s : List ℕ) (counts : ℕ → Bool) (i : ℕ) → counts i ≡ false → totalsTo s counts i ≡ totalsTo s counts (i + 1)
-totals-left s counts i e = simp (sum-next, e, add-zero)
+  -- one row more
+  totals-step :
+      (i : ℕ) → a ≤ i →
+      _≡_ {A = Totals}
+      (record {
+        exposure = totalsFrom s counts a i .exposure + whereCounted (counts i) (exposure s i);
+        nominal = totalsFrom s counts a i .nominal + whereCounted (counts i) (nominal s i);
+        weighted = totalsFrom s counts a i .weighted + whereCounted (counts i) (weightedExposure s i);
+      })
+      (totalsFrom s counts a (i + 1))
+  totals-step i l =
+      rw (
+        sum-from-next (λ i. whereCounted (counts i) (exposure s i)) a i l,
+        sum-from-next (λ i. whereCounted (counts i) (nominal s i)) a i l,
+        sum-from-next (λ i. whereCounted (counts i) (weightedExposure s i)) a i l,
+      ) refl
+
+  pub totals-next : (i : ℕ) → a ≤ i → counts i ≡ true → withRow s (totalsFrom s counts a i) i ≡ totalsFrom s counts a (i + 1)
+  totals-next i l e = rw e at (totals-step i l)
+
+  totals-left : (i : ℕ) → a ≤ i → counts i ≡ false → totalsFrom s counts a i ≡ totalsFrom s counts a (i + 1)
+  totals-left i l e = rw (add-zero _, add-zero _, add-zero _) at (rw e at (totals-step i l))
+
+  -- a row that counts is added, and one that does not leaves the totals
+  pub totals-where :
+      (i : ℕ) → a ≤ i → cond (counts i) (withRow s (totalsFrom s counts a i) i) (totalsFrom s counts a i) ≡ totalsFrom s counts a (i + 1)
+  totals-where i l = by-test (counts i) refl
+    where
+      by-test : (b : Bool) → counts i ≡ b → cond (counts i) (withRow s (totalsFrom s counts a i) i) (totalsFrom s counts a i) ≡ totalsFrom s counts a (i + 1)
+      by-test true e = rw e (totals-next i l e)
+      by-test false e = rw e (totals-left i l e)
+
+  pub nominal-step : (i : ℕ) → a ≤ i → totalsFrom s counts a i .nominal + whereCounted (counts i) (nominal s i) ≡ totalsFrom s counts a (i + 1) .nominal
+  nominal-step i l = ap (λ (t : Totals). t .nominal) (totals-step i l)
 
 -- ---- what is marked, by the row's status
 
-pub marked-none : (s : List ℕ) → record { unknown = record { exposure = 0; nominal = 0; weighted = 0 }; late = 0 } ≡ markedTo s 0
-unfolding sum
-marked-none s = refl
+module _ (s : List ℕ) (a : ℕ) where
+  pub marked-none : record { unknown = noTotals; late = 0 } ≡ markedFrom s a a
+  marked-none =
+      let late = totals-none s (λ i. delinquent s i) a a (le-refl a) in
+      rw (← totals-none s (λ i. unknown s i) a a (le-refl a)) (ap (λ (t : Totals). record { unknown = noTotals; late = t .nominal }) late)
 
-module _ (s : List ℕ) (i : ℕ) where
-  abbrev unknowns : ℕ → Totals
-  unknowns = totalsTo s (λ k. eqb (status s k) 2)
+  pub marked-next : (i : ℕ) → a ≤ i → withMarked s (markedFrom s a i) i ≡ markedFrom s a (i + 1)
+  marked-next i l = rw (totals-where s (λ i. unknown s i) a i l, nominal-step s (λ i. delinquent s i) a i l) refl
 
-  abbrev lates : ℕ → Totals
-  lates = totalsTo s (λ k. delinquent s k)
+  pub marked-as-far : (i e : ℕ) → i - a ≡ e - a → markedFrom s a i ≡ markedFrom s a e
+  marked-as-far i e far = rw far refl
 
-  late-left : (status s i ≡ 1 → ⊥) → lates i .nominal ≡ lates (i + 1) .nominal
-  late-left other = ap (λ (t : Totals). t .nominal) (totals-left s (λ k. delinquent s k) i (ne-eqb (status s i) 1 other))
+-- a row of each status added
+module _ (s : List ℕ) (m : Marked) (i : ℕ) where
+  pub marked-unknown : status s i ≡ 2 → _≡_ {A = Marked} (record { unknown = withRow s (m .unknown) i; late = m .late }) (withMarked s m i)
+  marked-unknown two = rw (eq-eqb (status s i) 2 two, ne-eqb (status s i) 1 (λ one. omega arith), add-zero (m .late)) refl
 
-  unknown-left : (status s i ≡ 2 → ⊥) → unknowns i ≡ unknowns (i + 1)
-  unknown-left other = totals-left s (λ k. eqb (status s k) 2) i (ne-eqb (status s i) 2 other)
+  pub marked-late : status s i ≡ 1 → _≡_ {A = Marked} (record { unknown = m .unknown; late = m .late + nominal s i }) (withMarked s m i)
+  marked-late one = rw (eq-eqb (status s i) 1 one, ne-eqb (status s i) 2 (λ two. omega arith)) refl
 
-  pub marked-unknown : status s i ≡ 2 → _≡_ {A = Marked} (record { unknown = withRow s (unknowns i) i; late = lates i .nominal }) (markedTo s (i + 1))
-  marked-unknown two =
-      let other : status s i ≡ 1 → ⊥ = (λ one. omega arith) in
-      rw (totals-next s (λ k. eqb (status s k) 2) i (eq-eqb (status s i) 2 two), late-left other)
+  pub marked-other : (status s i ≡ 2 → ⊥) → (status s i ≡ 1 → ⊥) → m ≡ withMarked s m i
+  marked-other unknown late = rw (ne-eqb (status s i) 2 unknown, ne-eqb (status s i) 1 late, add-zero (m .late)) refl
 
-  pub marked-late : status s i ≡ 1 → _≡_ {A = Marked} (record { unknown = unknowns i; late = lates i .nominal + nominal s i }) (markedTo s (i + 1))
-  marked-late one =
-      let other : status s i ≡ 2 → ⊥ = (λ two. omega arith) in
-      let added = ap (λ (t : Totals). t .nominal) (totals-next s (λ k. delinquent s k) i (eq-eqb (status s i) 1 one)) in
-      rw (added, unknown-left other)
-
-  pub marked-other : (status s i ≡ 2 → ⊥) → (status s i ≡ 1 → ⊥) → markedTo s i ≡ markedTo s (i + 1)
-  marked-other unknown late = rw (unknown-left unknown, late-left late)
-
--- ---- the pool's sums
+-- ---- the seven sums
 
 -- a row counts, or it does not
 one-of-two : (b : Bool) (x : ℕ) → x ≡ whereCounted b x + whereCounted (not b) x
@@ -73,22 +103,20 @@ unfolding sum
 two-parts f b zero = refl
 two-parts f b (suc n) = omega (arith, two-parts f b n, one-of-two (b n) (f n))
 
--- totals of all rows, of those of unknown status and of the delinquent ones make the pool's sums
-module _ (s : List ℕ) (n : ℕ) (a u : Totals) (a-is : a ≡ totalsTo s (λ i. true) n) (u-is : u ≡ totalsTo s (λ i. eqb (status s i) 2) n) where
+-- totals of all rows, of those of unknown status and of the delinquent ones make the seven sums
+module _ (s : List ℕ) (first end : ℕ) (a u : Totals) (a-is : a ≡ totalsFrom s (λ i. true) first end) (u-is : u ≡ totalsFrom s (λ i. unknown s i) first end) where
   abbrev k : Totals
-  k = totalsTo s (λ i. known s i) n
+  k = sumsFrom s first end .known
 
   parts : (a .exposure ≡ u .exposure + k .exposure) × ((a .nominal ≡ u .nominal + k .nominal) × (a .weighted ≡ u .weighted + k .weighted))
   parts =
-      rw (a-is, u-is) (
-        two-parts (λ i. exposure s i) (λ i. eqb (status s i) 2) n,
-        (two-parts (λ i. nominal s i) (λ i. eqb (status s i) 2) n, two-parts (λ i. weightedExposure s i) (λ i. eqb (status s i) 2) n),
-      )
+      let part : (f : ℕ → ℕ) → sumFrom f first end ≡ sumFrom (λ i. whereCounted (unknown s i) (f i)) first end + sumFrom (λ i. whereCounted (not (unknown s i)) (f i)) first end = λ f. two-parts (λ j. f (first + j)) (λ j. unknown s (first + j)) (end - first) in
+      rw (a-is, u-is) (part (λ i. exposure s i), (part (λ i. nominal s i), part (λ i. weightedExposure s i)))
 
   pub unknown-among-all : (u .exposure ≤ a .exposure) × ((u .nominal ≤ a .nominal) × (u .weighted ≤ a .weighted))
   unknown-among-all = (omega (arith, parts), (omega (arith, parts), omega (arith, parts)))
 
-  known-left : record { exposure = a .exposure - u .exposure; nominal = a .nominal - u .nominal; weighted = a .weighted - u .weighted } ≡ k
+  known-left : _≡_ {A = Totals} (record { exposure = a .exposure - u .exposure; nominal = a .nominal - u .nominal; weighted = a .weighted - u .weighted }) k
   known-left =
       let e : a .exposure - u .exposure ≡ k .exposure = omega (arith, parts) in
       let m : a .nominal - u .nominal ≡ k .nominal = omega (arith, parts) in
@@ -96,12 +124,12 @@ module _ (s : List ℕ) (n : ℕ) (a u : Totals) (a-is : a ≡ totalsTo s (λ i.
       rw (e, m, w)
 
   pub sums-made :
-      (l : ℕ) → l ≡ totalsTo s (λ i. delinquent s i) n .nominal →
+      (l : ℕ) → l ≡ totalsFrom s (λ i. delinquent s i) first end .nominal →
       _≡_ {A = Sums}
       (record {
         all = a;
         known = record { exposure = a .exposure - u .exposure; nominal = a .nominal - u .nominal; weighted = a .weighted - u .weighted };
         late = l;
       })
-      (sumsTo s n)
+      (sumsFrom s first end)
   sums-made l l-is = rw (known-left, a-is, l-is)

@@ -20,21 +20,22 @@ delinquent s i = eqb (status s i) 1
 abbrev pub weightedExposure : List ℕ → ℕ → ℕ
 weightedExposure s i = exposure s i * riskWeight s i
 
--- the totals of those of the first n rows that count
-abbrev pub totalsTo : List ℕ → (ℕ → Bool) → ℕ → Totals
-totalsTo s counts n = record {
-  exposure = sum (λ i. whereCounted (counts i) (exposure s i)) n;
-  nominal = sum (λ i. whereCounted (counts i) (nominal s i)) n;
-  weighted = sum (λ i. whereCounted (counts i) (weightedExposure s i)) n;
+-- the totals of the rows that count; `total` says over which rows a number is summed
+abbrev pub totalsBy : List ℕ → ((ℕ → ℕ) → ℕ) → (ℕ → Bool) → Totals
+totalsBy s total counts = record {
+  exposure = total (λ i. whereCounted (counts i) (exposure s i));
+  nominal = total (λ i. whereCounted (counts i) (nominal s i));
+  weighted = total (λ i. whereCounted (counts i) (weightedExposure s i));
 }
 
--- the seven sums over the first n rows: exposure, nominal and weighted exposure over all rows and over the rows with known status, and delinquent nominal
-abbrev pub sumsTo : List ℕ → ℕ → Sums
-sumsTo s n = record {
-  all = totalsTo s (λ i. true) n;
-  known = totalsTo s (λ i. known s i) n;
-  late = totalsTo s (λ i. delinquent s i) n .nominal;
+-- the seven sums: exposure, nominal and weighted exposure over all rows and over the rows with known status, and delinquent nominal
+abbrev pub sumsBy : List ℕ → ((ℕ → ℕ) → ℕ) → Sums
+sumsBy s total = record {
+  all = totalsBy s total (λ i. true);
+  known = totalsBy s total (λ i. known s i);
+  late = totalsBy s total (λ i. delinquent s i) .nominal;
 }
 
+-- over all rows of the pool
 unfoldable pub poolSums : List ℕ → Sums
-poolSums s = sumsTo s (rows s)
+poolSums s = sumsBy s (λ f. sum f (rows s))

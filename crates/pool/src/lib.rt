@@ -1,25 +1,53 @@
-// The pool of a deal sheet: its seven sums, from the words of the sheet alone.
+// The pool of a deal sheet: its seven sums and those of each block of its rows, from the words of the sheet alone.
 ghost use mathlib.Core.Bool.{true};
 ghost use mathlib.Core.Path.{_≡_};
-ghost use Prim.Native.Nat.{_+_, _<_};
-ghost use Rattle.limits.specs.SheetSize.{rowSize};
+ghost use Prim.Native.Nat.{_+_, _≤_, _<_};
+ghost use Rattle.limits.specs.SheetSize.{rowsMost, rowSize, blockSize, blocksMost};
 ghost use Rattle.judgement.specs.DealSheet.{word, rows, rowAt};
 ghost use Rattle.judgement.specs.LaidOut.{LaidOut};
-ghost use Rattle.pool.specs.PoolSums.{totalsTo, poolSums};
+ghost use Rattle.pool.specs.PoolSums.{poolSums};
+ghost use Rattle.pool.specs.BlockSums.{blockSums, sumWords};
 ghost use Rattle.pool.specs.SummedPool.{numbersOf, poolNumbers};
-ghost use Rattle.pool.specs.RowTotals.{TotalLimits, withRow, markedTo};
+ghost use Rattle.pool.specs.SummedBlock.{numbersOf as blockNumbersOf, blockNumbers, sumsRead};
+ghost use Rattle.pool.specs.RowTotals.{totalsFrom, sumsFrom, markedFrom, withRow, withMarked, totalsAdded, withBlock, TotalLimits, MarkedLimits, SumsLimits, Subtotals};
 use charge::Sums;
 use charge::Totals;
 use judgement::Layout;
 use judgement::Refusal;
 use judgement::Words;
+use limits::BLOCK_SIZE;
+use limits::BLOCKS_MOST;
 use limits::ROW_SIZE;
+use numbers::rounded_up;
+use numbers::smaller;
 
 // What a sheet's pool comes to: its sums, with what is read of the sheet; or the refusal that the words get.
 pub enum Pool {
     Summed(Layout, Sums),
     Refused(Refusal),
 }
+
+// What a block of a sheet's pool comes to: its sums; or the refusal that the words get.
+pub enum Block {
+    Summed(Sums),
+    Refused(Refusal),
+}
+
+// Totals and sums over no rows.
+const NO_TOTALS: Totals = Totals {
+    exposure: 0,
+    nominal: 0,
+    weighted: 0,
+};
+
+const NO_SUMS: Sums = Sums {
+    all: NO_TOTALS,
+    known: NO_TOTALS,
+    late: 0,
+};
+
+// How many sums there are.
+pub const SUMS: usize = 7;
 
 // What is marked of some rows: the totals of those of unknown status, and the nominal of the delinquent ones.
 struct Marked {
@@ -51,29 +79,24 @@ fn with_row(s: &[u64], l: Layout, t: Totals, i: u64) -> Totals
     }
 }
 
-// The totals over all rows.
-fn all_totals(s: &[u64], l: Layout) -> Totals
-    requires { ⌜ LaidOut (now s) l ⌝ }
-    ensures { λ r. ⌜ r ≡ totalsTo (now (s .entry)) (λ i. true) (rows (now (s .entry))) ⌝ }
+// The totals over the rows from first to before end.
+fn totals_from(s: &[u64], l: Layout, first: u64, end: u64) -> Totals
+    requires { ⌜ LaidOut (now s) l × (end ≤ rows (now s)) ⌝ }
+    ensures { λ r. ⌜ r ≡ totalsFrom (now (s .entry)) (λ i. true) first end ⌝ }
 {
-    let rows = l.rows;
-    let mut t = Totals {
-        exposure: 0,
-        nominal: 0,
-        weighted: 0,
-    };
-    let mut i = 0;
-    while i < rows {
+    let mut t = NO_TOTALS;
+    let mut i = first;
+    while i < end {
         t = with_row(s, l, t, i);
         i += 1;
     }
     t
 }
 
-// What is marked of the first i rows, with row i added: a row of status 2 is not known, one of status 1 is delinquent.
+// What is marked, with row i added: a row of status 2 is not known, one of status 1 is delinquent.
 fn with_marked(s: &[u64], l: Layout, m: Marked, i: u64) -> Marked
-    requires { ⌜ LaidOut (now s) l × (i < rows (now s)) × (m ≡ markedTo (now s) i) ⌝ }
-    ensures { λ r. ⌜ r ≡ markedTo (now (s .entry)) (i + 1) ⌝ }
+    requires { ⌜ LaidOut (now s) l × (i < rows (now s)) × MarkedLimits m i ⌝ }
+    ensures { λ r. ⌜ r ≡ withMarked (now (s .entry)) m i ⌝ }
 {
     let status = row_word(s, l, i, 3);
     let unknown = m.unknown;
@@ -92,36 +115,31 @@ fn with_marked(s: &[u64], l: Layout, m: Marked, i: u64) -> Marked
     m
 }
 
-// What is marked of all rows.
-fn all_marked(s: &[u64], l: Layout) -> Marked
-    requires { ⌜ LaidOut (now s) l ⌝ }
-    ensures { λ r. ⌜ r ≡ markedTo (now (s .entry)) (rows (now (s .entry))) ⌝ }
+// What is marked of the rows from first to before end.
+fn marked_from(s: &[u64], l: Layout, first: u64, end: u64) -> Marked
+    requires { ⌜ LaidOut (now s) l × (end ≤ rows (now s)) ⌝ }
+    ensures { λ r. ⌜ r ≡ markedFrom (now (s .entry)) first end ⌝ }
 {
-    let rows = l.rows;
     let mut m = Marked {
-        unknown: Totals {
-            exposure: 0,
-            nominal: 0,
-            weighted: 0,
-        },
+        unknown: NO_TOTALS,
         late: 0,
     };
-    let mut i = 0;
-    while i < rows {
+    let mut i = first;
+    while i < end {
         m = with_marked(s, l, m, i);
         i += 1;
     }
     m
 }
 
-// The pool's sums. Rows of unknown status and delinquent rows are few, so a pass of their own, which reads little of the other rows, is quicker than one pass
-// for all seven sums.
-fn pool_sums(s: &[u64], l: Layout) -> Sums
-    requires { ⌜ LaidOut (now s) l ⌝ }
-    ensures { λ r. ⌜ r ≡ poolSums (now (s .entry)) ⌝ }
+// The seven sums over the rows from first to before end. Rows of unknown status and delinquent rows are few, so a pass of their own, which reads little of the
+// other rows, is quicker than one pass for all seven sums.
+fn sums_from(s: &[u64], l: Layout, first: u64, end: u64) -> Sums
+    requires { ⌜ LaidOut (now s) l × (end ≤ rows (now s)) ⌝ }
+    ensures { λ r. ⌜ r ≡ sumsFrom (now (s .entry)) first end ⌝ }
 {
-    let marked = all_marked(s, l);
-    let all = all_totals(s, l);
+    let marked = marked_from(s, l, first, end);
+    let all = totals_from(s, l, first, end);
     let unknown = marked.unknown;
     let known = Totals {
         exposure: all.exposure - unknown.exposure,
@@ -135,6 +153,93 @@ fn pool_sums(s: &[u64], l: Layout) -> Sums
     }
 }
 
+// The sums of block b, counted from 0.
+fn block_of(s: &[u64], l: Layout, b: u64) -> Sums
+    requires { ⌜ LaidOut (now s) l × (b < blocksMost) ⌝ }
+    ensures { λ r. ⌜ r ≡ blockSums (now (s .entry)) b ⌝ }
+{
+    let first = BLOCK_SIZE as u64 * b;
+    let end = smaller(l.rows, first + BLOCK_SIZE as u64);
+    sums_from(s, l, first, end)
+}
+
+// The sums of a block of any number: past the last there are no rows, and a number that no pool's block has is not multiplied.
+fn block_or_none(s: &[u64], l: Layout, b: u64) -> Sums
+    requires { ⌜ LaidOut (now s) l ⌝ }
+    ensures { λ r. ⌜ r ≡ blockSums (now (s .entry)) b ⌝ }
+{
+    if b < BLOCKS_MOST as u64 {
+        return block_of(s, l, b);
+    }
+    NO_SUMS
+}
+
+// The sums of each of the first n blocks.
+fn subtotals(s: &[u64], l: Layout, n: u64) -> [Sums; BLOCKS_MOST]
+    requires { ⌜ LaidOut (now s) l × (n ≤ blocksMost) ⌝ }
+    ensures { λ r. ⌜ Subtotals (now (s .entry)) n r ⌝ }
+{
+    let mut each = [NO_SUMS; BLOCKS_MOST];
+    let mut b = 0;
+    while b < n {
+        each[b as usize] = block_of(s, l, b);
+        b += 1;
+    }
+    each
+}
+
+// The sum of two totals, of which the second is over the rows of a block.
+fn added(t: Totals, u: Totals) -> Totals
+    requires { ⌜ TotalLimits t rowsMost × TotalLimits u blockSize ⌝ }
+    ensures { λ r. ⌜ r ≡ totalsAdded t u ⌝ }
+{
+    Totals {
+        exposure: t.exposure + u.exposure,
+        nominal: t.nominal + u.nominal,
+        weighted: t.weighted + u.weighted,
+    }
+}
+
+// Seven sums with those of a block added.
+fn with_block(q: Sums, block: Sums) -> Sums
+    requires { ⌜ SumsLimits q rowsMost × SumsLimits block blockSize ⌝ }
+    ensures { λ r. ⌜ r ≡ withBlock q block ⌝ }
+{
+    Sums {
+        all: added(q.all, block.all),
+        known: added(q.known, block.known),
+        late: q.late + block.late,
+    }
+}
+
+// The pool's sums: per block of rows, then over the blocks.
+fn over_blocks(s: &[u64], l: Layout) -> Sums
+    requires { ⌜ LaidOut (now s) l ⌝ }
+    ensures { λ r. ⌜ r ≡ poolSums (now (s .entry)) ⌝ }
+{
+    let n = rounded_up(l.rows, BLOCK_SIZE as u64);
+    let each = subtotals(s, l, n);
+    let mut q = NO_SUMS;
+    let mut b = 0;
+    while b < n {
+        let block = each[b as usize];
+        q = with_block(q, block);
+        b += 1;
+    }
+    q
+}
+
+// The pool's sums. A pool of one block has that block's, so that a small deal pays for no array of blocks.
+fn pool_sums(s: &[u64], l: Layout) -> Sums
+    requires { ⌜ LaidOut (now s) l ⌝ }
+    ensures { λ r. ⌜ r ≡ poolSums (now (s .entry)) ⌝ }
+{
+    if l.rows <= BLOCK_SIZE as u64 {
+        return block_of(s, l, 0);
+    }
+    over_blocks(s, l)
+}
+
 // The sums of a sheet's pool; or the refusal that its words get. Neither the room for results nor the tranches' thickness is judged here. `numbersOf` gives 01's
 // number and place of a refusal, and where there is none the sums with what is read of the sheet.
 pub fn sum_pool(s: &[u64]) -> Pool
@@ -145,4 +250,41 @@ pub fn sum_pool(s: &[u64]) -> Pool
         Words::Good(layout) => Pool::Summed(layout, pool_sums(s, layout)),
         Words::Bad(r) => Pool::Refused(r),
     }
+}
+
+// The sums of a block of a sheet's pool, blocks counted from 0; or the refusal that the sheet's words get, whatever the block. Neither the room for results nor the tranches' thickness is
+// judged here. `blockNumbersOf` gives 01's number and place of a refusal, and where there is none the sums.
+pub fn sum_block(s: &[u64], block: u64) -> Block
+    ensures { λ r. ⌜ blockNumbersOf r ≡ blockNumbers (now (s .entry)) block ⌝ }
+{
+    let words = judgement::judge_words(s);
+    match words {
+        Words::Good(layout) => Block::Summed(block_or_none(s, layout, block)),
+        Words::Bad(r) => Block::Refused(r),
+    }
+}
+
+// The sums that a block came to; where the sheet was refused they read 0.
+pub fn sums_read(block: Block) -> Sums
+    ensures { λ r. ⌜ r ≡ sumsRead (blockNumbersOf block) ⌝ }
+{
+    match block {
+        Block::Summed(q) => q,
+        Block::Refused(_r) => NO_SUMS,
+    }
+}
+
+// Seven sums as words: exposure, nominal and weighted exposure over all rows, the same three over the rows with known status, and late nominal.
+pub fn sum_words(q: Sums) -> [u64; SUMS]
+    ensures { λ r. ⌜ r ≡ sumWords q ⌝ }
+{
+    [
+        q.all.exposure,
+        q.all.nominal,
+        q.all.weighted,
+        q.known.exposure,
+        q.known.nominal,
+        q.known.weighted,
+        q.late,
+    ]
 }

@@ -21,6 +21,7 @@ use Rattle.files.proofs.FileLaws.{length-file-bytes, good-file, words-of-bytes}
 use Rattle.deal_file.specs.FileAnswer.{fileReply, fileResults}
 use Rattle.deal_file.proofs.FileAnswerLaws.{reply-of-bad-length, reply-of-words, results-of-words, accepted-length}
 use Rattle.report.specs.ReportText.{refusalLine, rwaColumn, capitalColumn, dealText, sheetText, fileText, textRoom, writtenFor, textAfter}
+use Rattle.report.specs.declared.Written.{Written}
 use Rattle.report.specs.declared.Written.the-variants.{Whole, NoRoom}
 use Rattle.report.proofs.TextLaws.{length-deal-text, length-refusal-line, deal-text-of-lines}
 
@@ -120,29 +121,33 @@ file-text-fits file = by-length (goodLength file) refl
     by-length true e = rw (loaded-text file e) (sheet-text-fits (fileWords file))
     by-length false e = rw (bad-length-text file e) (length-refusal-line 15 0)
 
--- ---- the text in a lent buffer
-
--- a text composed at the start of a scratch buffer lies within it
-pub composed-fits :
-    (file scratch : List ℕ) (size : ℕ) {whole : List ℕ} → length scratch ≡ textRoom → size ≡ length (fileText file) → whole ≡ sets scratch 0 (fileText file) →
-    size ≤ length whole
-composed-fits file scratch size room measured is =
-    omega (arith, ap length is, length-sets scratch 0 (fileText file), file-text-fits file)
-
--- no room for it: nothing is written
-pub text-refused :
-    (text old : List ℕ) (size : ℕ) → size ≡ length text → length old < size → (NoRoom size ≡ writtenFor text old) × (old ≡ textAfter text old)
-text-refused text old size measured short = rw (measured, lt-leb (length text) (length old) (omega arith)) (refl, refl)
+-- ---- a text in a lent buffer
 
 -- a text written at the start of a buffer that has room for it
 written-at-start : (text old : List ℕ) → length text ≤ length old → sets old 0 text ≡ text ++ drop (length text) old
 written-at-start text old within = sets-eq text old 0 (omega arith) ∙ ap (λ (n : ℕ). text ++ drop n old) (zero-add (length text))
 
--- room for it: the bytes of the scratch buffer up to its size are the text, and they are copied
+-- a text composed at the start of a scratch buffer lies within it, and is what stands there up to its length
+pub composed :
+    (text scratch : List ℕ) (size : ℕ) {whole : List ℕ} → length text ≤ length scratch → size ≡ length text → whole ≡ sets scratch 0 text →
+    (size ≤ length whole) × (take size whole ≡ text)
+composed text scratch size fits measured is = (
+  omega (arith, ap length is, length-sets scratch 0 text),
+  ap (take size) (is ∙ written-at-start text scratch fits) ∙ take-at text (drop (length text) scratch) size (sym measured),
+)
+
+-- no room for it: nothing is written
+pub text-refused : (text old : List ℕ) → length old < length text → (NoRoom (length text) ≡ writtenFor text old) × (old ≡ textAfter text old)
+text-refused text old short = rw (lt-leb (length text) (length old) short) (refl, refl)
+
+-- room for it: it stands at the start, and the rest is as it was
 pub text-copied :
-    (text old scratch : List ℕ) (size : ℕ) {whole after : List ℕ} → size ≡ length text → whole ≡ sets scratch 0 text → length text ≤ length scratch →
-    size ≤ length old → after ≡ sets old 0 (take size whole) → (Whole size ≡ writtenFor text old) × (after ≡ textAfter text old)
-text-copied text old scratch size measured is within room copied =
-    let part = ap (take size) (is ∙ written-at-start text scratch within) ∙ take-at text (drop (length text) scratch) size (sym measured) in
-    let fits : length text ≤ length old = omega arith in
-    rw (le-leb (length text) (length old) fits) (ap Whole measured, copied ∙ ap (sets old 0) part ∙ written-at-start text old fits)
+    (text old : List ℕ) {after : List ℕ} → length text ≤ length old → after ≡ sets old 0 text →
+    (Whole (length text) ≡ writtenFor text old) × (after ≡ textAfter text old)
+text-copied text old fits copied = rw (le-leb (length text) (length old) fits) (refl, copied ∙ written-at-start text old fits)
+
+-- what is written of a composed text
+pub composed-copied :
+    (text old : List ℕ) (part : List ℕ) {w : Written} {after : List ℕ} → part ≡ text → (w ≡ writtenFor part old) × (after ≡ textAfter part old) →
+    (w ≡ writtenFor text old) × (after ≡ textAfter text old)
+composed-copied text old part is written = rw is at written

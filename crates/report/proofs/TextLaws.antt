@@ -25,7 +25,7 @@ put-behind old at xs ys first second =
 
 -- ---- how long a text can be
 
-length-spaced : (n : ℕ) (ns : List ℕ) → length (spaced n ns) ≤ spacedRoom (length ns)
+pub length-spaced : (n : ℕ) (ns : List ℕ) → length (spaced n ns) ≤ spacedRoom (length ns)
 unfolding spaced
 length-spaced n [] = simp length-append (omega (arith, length-decimal n))
 length-spaced n (m ∷ ns) = simp length-append (omega (arith, length-decimal n, length-spaced m ns))

@@ -1,14 +1,17 @@
-// The report on a file: the bytes of a deal sheet's file in, the text that a desk reads out.
+// The texts on a file: the bytes of a deal sheet's file in, the text that a desk reads out, the report on its tranches or its totals by portfolio.
 ghost use mathlib.Core.Path.{_≡_};
 ghost use Prim.Native.Nat.{_≤_};
 ghost use lib.ListN.{length};
 ghost use lib.Seq.{sets};
 ghost use Rattle.report.specs.ReportText.{fileText, writtenFor, textAfter, textRoom};
+ghost use Rattle.report.specs.PortfolioText.{fileTotals, totalsRoom};
 
 mod lines;
 mod text;
+mod totals;
 
 use deal::Answer;
+use limits::BLOCKS_MOST;
 use limits::LINE_SIZE;
 use limits::RESULT_ROOM;
 use limits::TRANCHES_MOST;
@@ -23,6 +26,9 @@ const LINE_ROOM: usize = (DIGITS_MOST + 1) * (1 + LINE_SIZE);
 
 // Bytes that hold every text: the first line, whose labels have 17 bytes, a line for each tranche, and the last line, whose labels have 7.
 pub const TEXT_ROOM: usize = 17 + TWO_NUMBERS + LINE_ROOM * TRANCHES_MOST + 7 + TWO_NUMBERS;
+
+// Bytes that hold every text of totals: a line of ten numbers for each block, and a last line of seven, whose label has 6 bytes.
+pub const TOTALS_ROOM: usize = (DIGITS_MOST + 1) * 10 * BLOCKS_MOST + 6 + (DIGITS_MOST + 1) * 7;
 
 // What became of a text: it was written whole, or there was no room for it and nothing was written. Both hold the text's length.
 pub enum Written {
@@ -44,7 +50,20 @@ fn compose(file: &[u8], out: &mut [u8]) -> usize
     }
 }
 
-// Writes the text of a file to the start of a lent buffer, later bytes untouched; where there is no room for all of it, nothing is written. There is room
+// Copies a text to the start of a lent buffer, later bytes untouched; where there is no room for all of it, nothing is written.
+fn copied(whole: &[u8], text: &mut [u8]) -> Written
+    ensures { λ r. ⌜ r ≡ writtenFor (now (whole .entry)) (now (text .entry)) ⌝ }
+    ensures { λ r. ⌜ now (text .exit) ≡ textAfter (now (whole .entry)) (now (text .entry)) ⌝ }
+{
+    let size = whole.len();
+    if text.len() < size {
+        return Written::NoRoom(size as u64);
+    }
+    text::put_bytes(whole, 0, text);
+    Written::Whole(size as u64)
+}
+
+// Writes the report's text on a file to the start of a lent buffer, later bytes untouched; where there is no room for all of it, nothing is written. There is room
 // in a buffer of TEXT_ROOM bytes, whatever the file.
 pub fn report(file: &[u8], text: &mut [u8]) -> Written
     ensures { λ r. ⌜ r ≡ writtenFor (fileText (now (file .entry))) (now (text .entry)) ⌝ }
@@ -53,9 +72,16 @@ pub fn report(file: &[u8], text: &mut [u8]) -> Written
 {
     let mut whole = [0u8; TEXT_ROOM];
     let size = compose(file, &mut whole);
-    if text.len() < size {
-        return Written::NoRoom(size as u64);
-    }
-    text::put_bytes(&whole[..size], 0, text);
-    Written::Whole(size as u64)
+    copied(&whole[..size], text)
+}
+
+// The same for the totals by portfolio of a file's sheet. There is room in a buffer of TOTALS_ROOM bytes, whatever the file.
+pub fn portfolio_totals(file: &[u8], text: &mut [u8]) -> Written
+    ensures { λ r. ⌜ r ≡ writtenFor (fileTotals (now (file .entry))) (now (text .entry)) ⌝ }
+    ensures { λ r. ⌜ now (text .exit) ≡ textAfter (fileTotals (now (file .entry))) (now (text .entry)) ⌝ }
+    ensures { λ r. ⌜ length (fileTotals (now (file .entry))) ≤ totalsRoom ⌝ }
+{
+    let mut whole = [0u8; TOTALS_ROOM];
+    let size = totals::compose(file, &mut whole);
+    copied(&whole[..size], text)
 }

@@ -15,7 +15,7 @@ const RWA_COLUMN: usize = 4;
 const CAPITAL_COLUMN: usize = 5;
 
 // Writes a line of numbers: n, and then the words, with single spaces between them. `next` is the number whose turn it is.
-fn put_spaced(n: u64, words: &[u64], at: usize, out: &mut [u8]) -> usize
+pub(crate) fn put_spaced(n: u64, words: &[u64], at: usize, out: &mut [u8]) -> usize
     requires { ⌜ at + spacedRoom (length (now words)) ≤ length (now out) ⌝ }
     ensures { λ r. ⌜ r ≡ at + length (spaced n (now (words .entry))) ⌝ }
     ensures { λ r. ⌜ now (out .exit) ≡ sets (now (out .entry)) at (spaced n (now (words .entry))) ⌝ }

@@ -1,1 +1,2 @@
 pub mod WrittenLength
+pub mod BlockReplyLaw

@@ -1,1 +1,2 @@
 pub mod FourNumbers
+pub mod BlockReply

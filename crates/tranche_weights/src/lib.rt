@@ -7,8 +7,12 @@ ghost use Rattle.deal.specs.DemandThree.{KeepsDemandThree, KeepsSeventhWord};
 ghost use Rattle.deal.specs.Results.{replyOf, replyTo, resultsAfter};
 ghost use Rattle.deal_file.specs.FileAnswer.{fileReply, fileResults, FileKeepsDemandThree, FileKeepsSeventhWord};
 ghost use Rattle.report.specs.ReportText.{fileText, textAfter, textRoom};
+ghost use Rattle.pool.specs.SummedBlock.{numbersOf};
+ghost use Rattle.tranche_weights.specs.BlockReply.{blockReply, replyFor, blockReplyTo};
 ghost use Rattle.tranche_weights.specs.FourNumbers.{fourNumbers};
 use deal::Answer;
+use pool::Block;
+use pool::SUMS;
 use report::Written;
 
 // An answer as a program in C gets it: the refusal's number, 0 where there is none; place, count and charge are written through the lent numbers.
@@ -36,7 +40,7 @@ fn put_answer(answer: Answer, place: &mut u64, count: &mut u64, charge: &mut u64
 
 // Weighs every tranche of a deal sheet, as deal::weigh does.
 #[no_mangle]
-pub extern "C" fn tranche_weights_weigh_v6(
+pub extern "C" fn tranche_weights_weigh_v7(
     sheet: &[u64],
     results: &mut [u64],
     place: &mut u64,
@@ -54,7 +58,7 @@ pub extern "C" fn tranche_weights_weigh_v6(
 
 // Weighs every tranche of the deal sheet that a file's bytes hold, as deal_file::weigh_file does.
 #[no_mangle]
-pub extern "C" fn tranche_weights_weigh_file_v6(
+pub extern "C" fn tranche_weights_weigh_file_v7(
     file: &[u8],
     results: &mut [u64],
     place: &mut u64,
@@ -73,7 +77,7 @@ pub extern "C" fn tranche_weights_weigh_file_v6(
 // Writes the report's text on a file, as report::report does. The answer is the text's length; it was written where that is at most the room lent, and
 // else nothing was.
 #[no_mangle]
-pub extern "C" fn tranche_weights_report_v6(file: &[u8], text: &mut [u8]) -> u64
+pub extern "C" fn tranche_weights_report_v7(file: &[u8], text: &mut [u8]) -> u64
     ensures { λ r. ⌜ r ≡ length (fileText (now (file .entry))) ⌝ }
     ensures { λ r. ⌜ now (text .exit) ≡ textAfter (fileText (now (file .entry))) (now (text .entry)) ⌝ }
     ensures { λ r. ⌜ r ≤ textRoom ⌝ }
@@ -83,4 +87,35 @@ pub extern "C" fn tranche_weights_report_v6(file: &[u8], text: &mut [u8]) -> u64
         Written::Whole(n) => n,
         Written::NoRoom(n) => n,
     }
+}
+
+// What a block came to as a program in C gets it: the refusal's number, 0 where there is none; place and sums are written through the lent numbers.
+fn put_block(block: Block, place: &mut u64, sums: &mut [u64; SUMS]) -> u64
+    ensures { λ r. ⌜ blockReply r (now (place .exit)) (now (sums .exit)) ≡ replyFor (numbersOf block) ⌝ }
+{
+    *sums = pool::sum_words(pool::sums_read(block));
+    match block {
+        Block::Summed(_q) => {
+            *place = 0;
+            0
+        }
+        Block::Refused(refusal) => {
+            *place = refusal.place;
+            refusal.number
+        }
+    }
+}
+
+// Reads the sums of a block of a deal sheet's pool, as pool::sum_block does: seven words, in the order of pool::sum_words, which read 0 where the sheet is refused.
+#[no_mangle]
+pub extern "C" fn tranche_weights_block_sums_v7(
+    sheet: &[u64],
+    block: u64,
+    place: &mut u64,
+    sums: &mut [u64; SUMS],
+) -> u64
+    ensures { λ r. ⌜ blockReply r (now (place .exit)) (now (sums .exit)) ≡ blockReplyTo (now (sheet .entry)) block ⌝ }
+{
+    let read = pool::sum_block(sheet, block);
+    put_block(read, place, sums)
 }

@@ -2,7 +2,7 @@
 
 use crate::deals::ROOM;
 use independent::{Deal, Line, Refusal};
-use tranche_weights::LINE_WORDS;
+use tranche_weights::{LINE_WORDS, MOST_BLOCKS};
 
 /// Count and charge, or else number and place of the refusal.
 type Outcome = Result<(u64, u64), (u64, u64)>;
@@ -25,6 +25,30 @@ pub fn check(name: &str, sheet: &[u64]) -> Result<Option<String>, String> {
     let plain = plain::weigh(sheet, &mut results);
     let remark = difference(&admitted, plain, &results);
     Ok(remark.map(|difference| format!("The plain version differs on the sheet \"{name}\": {difference}.")))
+}
+
+/// Holds the proved sums of each block of a sheet to the exact ones, also past the last block. Neither refuses it.
+pub fn check_blocks(name: &str, sheet: &[u64]) -> Result<(), String> {
+    for block in 0..=MOST_BLOCKS as u64 {
+        let proved = tranche_weights::block_sums(sheet, block);
+        let exact = independent::block_sums(sheet, block);
+        if !matches!((&proved, &exact), (Ok(proved), Ok(exact)) if same_sums(proved, exact)) {
+            return Err(format!(
+                "the proved sums differ on the sheet \"{name}\", block {block}: {proved:?} where {exact:?} is due"
+            ));
+        }
+    }
+    Ok(())
+}
+
+/// Whether each of the seven sums is the same.
+fn same_sums(proved: &tranche_weights::BlockSums, exact: &independent::BlockSums) -> bool {
+    let over = [(proved.all, exact.all), (proved.known, exact.known)];
+    let same_totals = over.iter().all(|(proved, exact)| {
+        (proved.exposure, proved.nominal, proved.weighted_exposure)
+            == (exact.exposure, exact.nominal, exact.weighted_exposure)
+    });
+    same_totals && proved.late_nominal == exact.late_nominal
 }
 
 /// What in an answer is not admitted, if anything.
@@ -120,5 +144,26 @@ mod tests {
         assert_eq!(difference(&admitted, Err((11, 7)), &[]), None);
         assert!(difference(&admitted, Err((11, 8)), &[]).is_some());
         assert!(difference(&admitted, Err((10, 7)), &[]).is_some());
+    }
+    /// Sums with any one of them changed are not the same.
+    #[test]
+    fn every_changed_sum_is_a_difference() {
+        let exact = independent::block_sums(&deals::large(), 0).expect("the large deal is accepted");
+        let proved = tranche_weights::block_sums(&deals::large(), 0).expect("the large deal is accepted");
+        assert!(same_sums(&proved, &exact));
+        let changes: [fn(&mut independent::BlockSums); 7] = [
+            |sums| sums.all.exposure += 1,
+            |sums| sums.all.nominal += 1,
+            |sums| sums.all.weighted_exposure += 1,
+            |sums| sums.known.exposure += 1,
+            |sums| sums.known.nominal += 1,
+            |sums| sums.known.weighted_exposure += 1,
+            |sums| sums.late_nominal += 1,
+        ];
+        for change in changes {
+            let mut changed = exact;
+            change(&mut changed);
+            assert!(!same_sums(&proved, &changed));
+        }
     }
 }

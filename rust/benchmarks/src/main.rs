@@ -1,8 +1,9 @@
 //! Times of the proved calculator beside a plain double-precision one and the exact independent one.
 //!
 //! `cargo run --release -p benchmarks` prints, as text that can stand in a README: the time per sheet of the three on
-//! some sheets, with ratios; sheets per second on one core and on all; and how the time grows with rows and tranches.
-//! Before a sheet is timed, its answers are compared. `--quick` takes fewer rounds and shorter runs.
+//! some sheets, with ratios; sheets per second on one core and on all; the time to read a block's sums; and how the
+//! time grows with rows and tranches. Before a sheet is timed, its answers are compared. `--quick` takes fewer rounds
+//! and shorter runs.
 
 #![forbid(unsafe_code)]
 
@@ -44,6 +45,7 @@ fn run(plan: &Plan) -> Result<(), String> {
     println!("{}", machine::description());
     compare(plan)?;
     throughput(plan);
+    block_sums(plan)?;
     for series in [growth::by_rows(), growth::by_tranches()] {
         println!("\n{}", series.measured(plan)?);
     }
@@ -105,4 +107,18 @@ fn throughput(plan: &Plan) {
     let lines = [("small", deals::small()), ("large", deals::large())].map(line);
     let all = format!("{cores} cores");
     print!("{}", table(&["sheet", "one core", &all, "all/one"], &lines));
+}
+
+/// The time to read the sums of a block of the large deal, by the proved version.
+fn block_sums(plan: &Plan) -> Result<(), String> {
+    let sheet = deals::large();
+    agreement::check_blocks("large", &sheet)?;
+    let version = versions::proved_block_sums;
+    let times = timing::rounds(&[Work { version, sheet: &sheet }], plan);
+    println!(
+        "\nSums of one block of the large sheet (proved): {}; median of {} rounds.",
+        duration(timing::median(&times[0])),
+        plan.rounds
+    );
+    Ok(())
 }

@@ -1,7 +1,8 @@
-//! The three versions in the one form that is timed. Inputs and answers pass through `black_box`, so that the compiler
-//! can neither foresee the sheet nor drop the answer.
+//! The three versions, and the reading of a block's sums, in the one form that is timed. Inputs and answers pass
+//! through `black_box`, so that the compiler can neither foresee the sheet nor drop the answer.
 
 use std::hint::black_box;
+use tranche_weights::MOST_BLOCKS;
 
 /// Weighs a sheet once. The results are lent to every version; the exact one makes its own.
 pub type Version = fn(&[u64], &mut [u64]);
@@ -22,4 +23,10 @@ pub fn plain(sheet: &[u64], results: &mut [u64]) {
 /// The exact independent version.
 pub fn exact(sheet: &[u64], results: &mut [u64]) {
     let _ = black_box(independent::weigh(black_box(sheet), black_box(results.len() as u64)));
+}
+
+/// The sums of the last block that a pool can have, by the proved version. The results are not used.
+pub fn proved_block_sums(sheet: &[u64], _: &mut [u64]) {
+    let last = MOST_BLOCKS as u64 - 1;
+    let _ = black_box(tranche_weights::block_sums(black_box(sheet), black_box(last)));
 }

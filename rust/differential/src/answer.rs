@@ -1,7 +1,8 @@
-//! The numbers of an answer, by "The deal sheet" and "Refusals, by who can cause them" of document 01, by S-1, S-3, S-5
-//! and S-6: the words of a line, the approaches, the refusals.
+//! The numbers of an answer, by "The deal sheet" and "Refusals, by who can cause them" of document 01, by S-1, S-3 and
+//! S-5 to S-7: the words of a line, the words of a block's sums, the approaches, the refusals.
 
 use crate::sheet::TRANCHES;
+use independent::{BlockSums, Totals};
 
 /// The words of a line, by their places.
 #[derive(Debug, Clone, Copy, PartialEq, Eq)]
@@ -41,6 +42,62 @@ impl LineWord {
 pub const LINE_WORDS: usize = LineWord::LeastWeight as usize + 1;
 /// Result words for the most tranches.
 pub const MOST_RESULTS: usize = LINE_WORDS * TRANCHES as usize;
+
+/// The words of a block's sums, by their places.
+#[derive(Debug, Clone, Copy, PartialEq, Eq)]
+pub enum SumWord {
+    /// Exposure over all rows.
+    Exposure,
+    /// Nominal over all rows.
+    Nominal,
+    /// Exposure times risk weight over all rows.
+    WeightedExposure,
+    /// Exposure over the rows with known status.
+    KnownExposure,
+    /// Nominal over the rows with known status.
+    KnownNominal,
+    /// Exposure times risk weight over the rows with known status.
+    KnownWeightedExposure,
+    /// Nominal over the delinquent rows.
+    LateNominal,
+}
+
+impl SumWord {
+    /// All words with their names, in the order of the enum.
+    pub const TABLE: [(SumWord, &'static str); 7] = [
+        (SumWord::Exposure, "exposure"),
+        (SumWord::Nominal, "nominal"),
+        (SumWord::WeightedExposure, "weighted exposure"),
+        (SumWord::KnownExposure, "known exposure"),
+        (SumWord::KnownNominal, "known nominal"),
+        (SumWord::KnownWeightedExposure, "known weighted exposure"),
+        (SumWord::LateNominal, "late nominal"),
+    ];
+
+    /// Its name.
+    pub const fn name(self) -> &'static str {
+        SumWord::TABLE[self as usize].1
+    }
+}
+
+/// The words of a block's sums.
+pub const SUM_WORDS: usize = SumWord::TABLE.len();
+
+/// The words of independent sums, in their order.
+pub fn sum_words(sums: &BlockSums) -> [u64; SUM_WORDS] {
+    let of = |totals: &Totals| [totals.exposure, totals.nominal, totals.weighted_exposure];
+    let ([exposure, nominal, weighted], [known_exposure, known_nominal, known_weighted]) =
+        (of(&sums.all), of(&sums.known));
+    [
+        exposure,
+        nominal,
+        weighted,
+        known_exposure,
+        known_nominal,
+        known_weighted,
+        sums.late_nominal,
+    ]
+}
 
 /// The approaches, by their words.
 #[derive(Debug, Clone, Copy, PartialEq, Eq)]
@@ -133,12 +190,31 @@ pub mod refusal {
 mod tests {
     use super::*;
 
-    /// An approach's word is its place in the enum, so the table must follow it.
+    /// The word of an approach is its place in the enum, and so is the place of a sum, so the tables must follow them.
     #[test]
-    fn table_follows_the_enum() {
+    fn tables_follow_the_enums() {
         assert!((0..)
             .zip(Approach::TABLE)
             .all(|(place, entry)| entry.0 as usize == place));
+        assert!((0..)
+            .zip(SumWord::TABLE)
+            .all(|(place, entry)| entry.0 as usize == place));
+    }
+
+    /// Sums have the order of S-7.
+    #[test]
+    fn sums_stand_in_their_order() {
+        let [all, known] = [1, 4].map(|first| Totals {
+            exposure: first,
+            nominal: first + 1,
+            weighted_exposure: first + 2,
+        });
+        let sums = BlockSums {
+            all,
+            known,
+            late_nominal: 7,
+        };
+        assert_eq!(sum_words(&sums), [1, 2, 3, 4, 5, 6, 7]);
     }
 
     /// The approaches have the words of document 01 and S-5.

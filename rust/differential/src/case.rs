@@ -1,5 +1,7 @@
-//! One sheet of a run with all that is done with it: its room for results, its file, and a second sheet made from it.
+//! One sheet of a run with all that is done with it: its room for results, its file, a second sheet made from it, and
+//! numbers of blocks.
 
+use crate::blocks;
 use crate::damage;
 use crate::dates;
 use crate::irb;
@@ -31,6 +33,8 @@ pub struct Case {
     pub second: Vec<u64>,
     /// The tranche whose ratings the second sheet changes, from 0.
     pub rerated: usize,
+    /// Numbers of blocks to be read besides those that every sheet is asked for.
+    pub blocks: [u64; blocks::DRAWN],
     /// The deal that the sheet was written from.
     deal: Deal,
 }
@@ -55,6 +59,7 @@ impl Case {
             relation: Relation::Unused,
             second: Vec::new(),
             rerated: 0,
+            blocks: [0; blocks::DRAWN],
             deal: Deal::default(),
         }
     }
@@ -74,6 +79,7 @@ impl Case {
         }
         self.make_second(&mut random);
         self.make_file(&mut random);
+        self.blocks = blocks::draw(&mut random);
     }
 
     /// Makes the second sheet. Facts are added to damaged sheets too, and months take the place of dates in them; the

@@ -1,7 +1,8 @@
 //! All comparisons of one sheet.
 
+use crate::blocks;
 use crate::case::Case;
-use crate::difference::{Difference, Part};
+use crate::difference::{Asked, Difference, Part};
 use crate::kind::{File, Relation};
 use crate::lent::Lent;
 use crate::library::Library;
@@ -18,9 +19,12 @@ pub fn check(library: &Library, case: &Case, lent: &mut Lent, tally: &mut Tally)
     words::compare(&expected, &said, lent)?;
     tally.note(case, &expected, lent);
     if case.file_kind != File::Unused {
-        check_file(library, case, lent, tally).map_err(Difference::of_file)?;
+        check_file(library, case, lent, tally).map_err(|difference| difference.of(Asked::File))?;
     }
-    check_second(library, case, &expected, lent, tally)
+    check_second(library, case, &expected, lent, tally)?;
+    let blocks = blocks::compare(library.block_sums, case)?;
+    tally.note_blocks(&case.sheet, &expected, &blocks);
+    Ok(())
 }
 
 /// Compares the answer to the sheet's file, with the room of the sheet, and the report on it.

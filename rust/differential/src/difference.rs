@@ -1,12 +1,12 @@
 //! What the two sides may differ in, and a difference that was found.
 
-use crate::answer::LineWord;
+use crate::answer::{LineWord, SumWord};
 use std::fmt;
 
 /// The compared part in which the sides differ.
 #[derive(Debug, Clone, Copy, PartialEq, Eq)]
 pub enum Part {
-    /// One side weighs, the other refuses.
+    /// One side weighs or sums, the other refuses.
     Outcome,
     /// The refusal's number.
     Number,
@@ -18,6 +18,10 @@ pub enum Part {
     Charge,
     /// A word of a line.
     Line(LineWord),
+    /// A word of a block's sums, also one above 0 on a refusal.
+    Sum(SumWord),
+    /// The sums of all blocks, added up.
+    BlockTotals,
     /// A word after the lines was written.
     AfterLines,
     /// A result word was written on a refusal.
@@ -46,12 +50,14 @@ impl fmt::Display for Part {
     /// Prints the part's name.
     fn fmt(&self, to: &mut fmt::Formatter<'_>) -> fmt::Result {
         to.write_str(match self {
-            Part::Outcome => "weighed or refused",
+            Part::Outcome => "accepted or refused",
             Part::Number => "refusal number",
             Part::Place => "place",
             Part::Count => "tranche count",
             Part::Charge => "pool charge",
             Part::Line(word) => word.name(),
+            Part::Sum(word) => word.name(),
+            Part::BlockTotals => "sums over the blocks",
             Part::AfterLines => "a word after the lines was written",
             Part::ResultsOnRefusal => "results were written on a refusal",
             Part::Text => "report text",
@@ -67,6 +73,28 @@ impl fmt::Display for Part {
     }
 }
 
+/// What was asked for.
+#[derive(Debug, Clone, Copy, PartialEq, Eq)]
+pub enum Asked {
+    /// The lines of the sheet's words.
+    Words,
+    /// The lines of the sheet's file, or its report.
+    File,
+    /// The sums of the block of this number.
+    Block(u64),
+}
+
+impl fmt::Display for Asked {
+    /// Prints what was asked for where it is not the sheet's words, after the name of a part.
+    fn fmt(&self, to: &mut fmt::Formatter<'_>) -> fmt::Result {
+        match self {
+            Asked::Words => Ok(()),
+            Asked::File => to.write_str(" of the file"),
+            Asked::Block(block) => write!(to, " of block {block}"),
+        }
+    }
+}
+
 /// A difference between the two sides.
 #[derive(Debug, Clone, PartialEq, Eq)]
 pub struct Difference {
@@ -76,8 +104,8 @@ pub struct Difference {
     pub expected: String,
     /// What the compared library said.
     pub said: String,
-    /// Whether it is in an answer to the sheet's file. Of a panic this is not known, and said to be false.
-    pub of_file: bool,
+    /// In the answer to what. Of a panic this is not known, and said to be the sheet's words.
+    pub asked: Asked,
 }
 
 impl Difference {
@@ -87,21 +115,26 @@ impl Difference {
             part,
             expected: format!("{expected:?}"),
             said: format!("{said:?}"),
-            of_file: false,
+            asked: Asked::Words,
         }
     }
 
-    /// The same difference, in an answer to the sheet's file.
-    pub fn of_file(self) -> Difference {
-        Difference { of_file: true, ..self }
+    /// The same difference, in the answer to this.
+    pub fn of(self, asked: Asked) -> Difference {
+        Difference { asked, ..self }
     }
 }
 
 impl fmt::Display for Difference {
     /// Prints the part, what is due and what was said, on one line.
     fn fmt(&self, to: &mut fmt::Formatter<'_>) -> fmt::Result {
-        let of = if self.of_file { " of the file" } else { "" };
-        write!(to, "{}{of}: expected {}, said {}", self.part, self.expected, self.said)
+        let Difference {
+            part,
+            asked,
+            expected,
+            said,
+        } = self;
+        write!(to, "{part}{asked}: expected {expected}, said {said}")
     }
 }
 

@@ -51,7 +51,7 @@ pub enum Kind {
     HalfThick,
     /// Ratings of one weight on a tranche whose exact figures by them differ.
     NearRatings,
-    /// Up to 1,000 rows.
+    /// Up to 1,000 rows, often as many as about the end of a block.
     LargePool,
     /// An IRB pool, with its section.
     IrbPool,

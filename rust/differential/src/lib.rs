@@ -1,5 +1,5 @@
 //! Holds the proved library of tranche weights against the independent implementation of document 01 ("the scope
-//! paper") and of requests S-1 to S-3, S-5 and S-6 of document 02 ("later requests"), on seeded random sheets.
+//! paper") and of requests S-1 to S-3 and S-5 to S-7 of document 02 ("later requests"), on seeded random sheets.
 //!
 //! Every sheet is made from a seed and its index alone ([`Case`]), so that a run can be split over threads and any
 //! sheet can be made again. [`Run::go`] compares all sheets and gives the counts of what it met ([`Tally`]) or the
@@ -9,6 +9,8 @@
 #![deny(missing_docs)]
 
 pub mod answer;
+mod block_feature;
+mod blocks;
 mod case;
 mod check;
 mod damage;
@@ -37,15 +39,16 @@ mod text;
 mod tranches;
 mod words;
 
+pub use block_feature::{BlockFeature, BlockRowFeature, RefusedAt};
 pub use case::Case;
 pub use check::check;
 pub use date_feature::{DateFeature, DatedLineFeature};
-pub use difference::{Difference, Part};
+pub use difference::{Asked, Difference, Part};
 pub use irb_feature::{is_under_irba, IrbFeature, IrbLineFeature, IrbRefusal};
 pub use kind::{File, Kind, Relation, Room};
 pub use least_feature::{Ends, LeastFeature, NearPair};
 pub use lent::Lent;
-pub use library::{Library, Reply, Weigh, WeighFile};
+pub use library::{BlockReply, Library, Reply, SumBlock, Weigh, WeighFile};
 pub use line_feature::{Feature, StcFeature};
 pub use rating_feature::RatingFeature;
 pub use run::{Found, Run};

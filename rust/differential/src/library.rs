@@ -1,7 +1,7 @@
-//! The library that is held against the independent implementation, as three functions, so that tests can put wrong
+//! The library that is held against the independent implementation, as four functions, so that tests can put wrong
 //! ones in their place.
 
-pub use tranche_weights::Reply;
+pub use tranche_weights::{BlockReply, Reply};
 
 /// Weighs a sheet's words into lent results and replies with the four numbers of the C function.
 pub type Weigh = fn(&[u64], &mut [u64]) -> Reply;
@@ -9,7 +9,10 @@ pub type Weigh = fn(&[u64], &mut [u64]) -> Reply;
 /// Weighs the sheet of a file's bytes into lent results and replies with the four numbers of the C function.
 pub type WeighFile = fn(&[u8], &mut [u64]) -> Reply;
 
-/// The three functions that are compared.
+/// Reads the sums of a block of a sheet's rows and replies with number, place and seven words, as the C function does.
+pub type SumBlock = fn(&[u64], u64) -> BlockReply;
+
+/// The four functions that are compared.
 #[derive(Clone, Copy)]
 pub struct Library {
     /// Weighs a sheet's words into lent results.
@@ -18,6 +21,8 @@ pub struct Library {
     pub weigh_file: WeighFile,
     /// Gives the report's text for a file's bytes.
     pub report: fn(&[u8]) -> String,
+    /// Reads the sums of a block of a sheet's rows.
+    pub block_sums: SumBlock,
 }
 
 impl Library {
@@ -26,5 +31,6 @@ impl Library {
         weigh: tranche_weights::reply_to_words,
         weigh_file: tranche_weights::reply_to_file,
         report: tranche_weights::report,
+        block_sums: tranche_weights::reply_to_block,
     };
 }

@@ -2,7 +2,7 @@
 
 use crate::kind::Kind;
 use crate::random::Random;
-use crate::sheet::{status, Deal, Row, POOL_AMOUNT, RISK_WEIGHT, ROWS, WHOLE};
+use crate::sheet::{status, Deal, Row, BLOCK_EDGES, POOL_AMOUNT, RISK_WEIGHT, ROWS, WHOLE};
 
 /// How the amounts of a pool are drawn.
 #[derive(Clone, Copy)]
@@ -138,6 +138,7 @@ impl Statuses {
 fn row_count(kind: Kind, random: &mut Random) -> u64 {
     match (kind, random.below(16)) {
         (Kind::LargePool, 0..=3) => ROWS,
+        (Kind::LargePool, 4..=9) => random.pick(&BLOCK_EDGES),
         (Kind::LargePool, _) => random.between(31, ROWS),
         (_, 0) => random.between(1, 60),
         (_, 1..=5) => random.between(1, 30),

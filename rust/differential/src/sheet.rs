@@ -1,5 +1,5 @@
-//! The deal sheet, by "The deal sheet" of document 01, the fifth fact of S-1, the dates of S-3 and the IRB section of
-//! S-5: what it holds, and the places of its words.
+//! The deal sheet, by "The deal sheet" of document 01, the fifth fact of S-1, the dates of S-3, the IRB section of S-5
+//! and the blocks of S-7: what it holds, and the places of its words.
 
 use std::ops::{Index, IndexMut};
 
@@ -9,6 +9,23 @@ pub const POOL_AMOUNT: u64 = 10_000_000_000;
 pub const RISK_WEIGHT: u64 = 1_250;
 /// The most pool rows.
 pub const ROWS: u64 = 1_000;
+/// The rows of a block; the last block of a pool may have fewer.
+pub const BLOCK_ROWS: u64 = 50;
+/// The most blocks of a pool.
+pub const BLOCKS: u64 = blocks_of(ROWS);
+/// Counts of rows about the ends of the first two blocks and of the last but one, the fewest and the most.
+pub const BLOCK_EDGES: [u64; 10] = [
+    1,
+    BLOCK_ROWS - 1,
+    BLOCK_ROWS,
+    BLOCK_ROWS + 1,
+    2 * BLOCK_ROWS - 1,
+    2 * BLOCK_ROWS,
+    2 * BLOCK_ROWS + 1,
+    ROWS - BLOCK_ROWS,
+    ROWS - BLOCK_ROWS + 1,
+    ROWS,
+];
 /// The highest tranche amount.
 pub const TRANCHE_AMOUNT: u64 = 10_000_000_000_000;
 /// The highest final legal maturity, in months.
@@ -531,6 +548,11 @@ impl Layout {
     pub fn pool<'a>(&self, sheet: &'a [u64]) -> &'a [[u64; RowWord::COUNT]] {
         sheet[self.row(0)..self.tranche_count()].as_chunks().0
     }
+}
+
+/// How many blocks so many rows have.
+pub const fn blocks_of(rows: u64) -> u64 {
+    rows.div_ceil(BLOCK_ROWS)
 }
 
 /// The file form of a sheet: eight bytes for each word, lowest byte first.

@@ -1,11 +1,12 @@
 //! A sheet and what each side says to it, in full, as text.
 
 use crate::answer::MOST_RESULTS;
+use crate::blocks;
 use crate::case::Case;
 use crate::difference::Part;
 use crate::kind::{File, Relation};
 use crate::lent::Lent;
-use crate::library::{Library, Reply};
+use crate::library::{BlockReply, Library, Reply};
 use crate::run::Found;
 use crate::words::due;
 use independent::{Deal, Refusal};
@@ -75,15 +76,37 @@ fn proved_answer(room: usize, weigh: impl FnOnce(&mut [u64]) -> Reply) -> String
     numbers(&reply) + &lines.collect::<String>()
 }
 
-/// What both sides answer to the sheet, and to its file where there is one.
+/// Number, place and sums of a reply, as a line.
+fn sums(reply: &BlockReply) -> String {
+    let BlockReply {
+        number, place, sums, ..
+    } = reply;
+    format!("number {number} place {place} sums {}\n", words(sums))
+}
+
+/// What both sides answer to the blocks that are asked for.
+fn block_answers(library: &Library, case: &Case) -> String {
+    let read = independent::sheet::read(&case.sheet);
+    let pool = blocks::pool_of(&read);
+    let (numbers, _) = blocks::numbers(pool, case.blocks);
+    let both = numbers.into_iter().map(|block| {
+        let independent = sums(&blocks::due(pool, block));
+        let proved = sums(&(library.block_sums)(&case.sheet, block));
+        format!("independent, block {block}: {independent}proved, block {block}: {proved}")
+    });
+    both.collect()
+}
+
+/// What both sides answer to the sheet, to its file where there is one, and to blocks of its rows.
 pub fn answers(library: &Library, case: &Case) -> String {
     let independent = independent_answer(&independent::weigh(&case.sheet, case.room as u64));
     let proved = proved_answer(case.room, |results| (library.weigh)(&case.sheet, results));
     let text = format!("independent: {independent}proved: {proved}");
-    match case.file_kind {
-        File::Unused => text,
-        _ => text + &file_answers(library, case),
-    }
+    let of_file = match case.file_kind {
+        File::Unused => String::new(),
+        _ => file_answers(library, case),
+    };
+    text + &of_file + &block_answers(library, case)
 }
 
 /// What both sides answer to the sheet's file, with the room of the sheet and as a report.

@@ -1,6 +1,7 @@
 //! What a run went through, counted, and what of it must occur for the run to count as one.
 
 use crate::answer::{refusal, Approach, LineWord, LINE_WORDS};
+use crate::block_feature::{AskedBlock, BlockFeature, BlockRowFeature};
 use crate::case::Case;
 use crate::date_feature::{DateFeature, DatedLineFeature};
 use crate::irb_feature::{
@@ -94,6 +95,8 @@ fn names() -> Vec<String> {
     names.extend(parameter_names());
     names.extend(COLUMNS.map(|name| format!("lines: rarest grade, {name}")));
     names.extend(FileFeature::TABLE.map(|(_, name)| name.to_string()));
+    names.extend(BlockRowFeature::TABLE.map(|(_, name)| name.to_string()));
+    names.extend(BlockFeature::TABLE.map(|(_, name)| name.to_string()));
     names
 }
 
@@ -144,6 +147,10 @@ pub struct Tally {
     pub grades: [[u64; GRADES]; COLUMNS.len()],
     /// Files that show each feature.
     pub file_features: [u64; FileFeature::TABLE.len()],
+    /// Blocks whose rows show each feature.
+    pub block_row_features: [u64; BlockRowFeature::TABLE.len()],
+    /// Blocks that show each feature.
+    pub block_features: [u64; BlockFeature::TABLE.len()],
     /// Lines with two admitted weights where the higher one is taken.
     pub higher_taken: u64,
     /// Lines with two admitted least weights where the lower one is taken.
@@ -275,6 +282,19 @@ impl Tally {
         }
     }
 
+    /// Notes the blocks of these numbers of a sheet whose lines have this answer. Their sums were found equal.
+    pub fn note_blocks(&mut self, sheet: &[u64], answer: &Result<Deal, Refusal>, numbers: &[u64]) {
+        for &number in numbers {
+            let asked = AskedBlock::new(sheet, answer, number);
+            for (count, (feature, _)) in self.block_row_features.iter_mut().zip(BlockRowFeature::TABLE) {
+                *count += u64::from(feature.shown(&asked));
+            }
+            for (count, (feature, _)) in self.block_features.iter_mut().zip(BlockFeature::TABLE) {
+                *count += u64::from(feature.shown(&asked));
+            }
+        }
+    }
+
     /// Notes that a second sheet was compared.
     pub fn note_second(&mut self, relation: Relation) {
         self.relations[relation as usize] += 1;
@@ -315,6 +335,8 @@ impl Tally {
         add(&mut self.parameters, &other.parameters);
         add(self.grades.as_flattened_mut(), other.grades.as_flattened());
         add(&mut self.file_features, &other.file_features);
+        add(&mut self.block_row_features, &other.block_row_features);
+        add(&mut self.block_features, &other.block_features);
         self.higher_taken += other.higher_taken;
         self.lower_taken += other.lower_taken;
         add(&mut self.apart, &other.apart);
@@ -346,6 +368,8 @@ impl Tally {
             &self.parameters,
             &rarest_grades,
             &self.file_features,
+            &self.block_row_features,
+            &self.block_features,
         ];
         groups.concat()
     }

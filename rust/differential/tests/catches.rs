@@ -1,15 +1,17 @@
 //! The comparison finds a wrong answer in each part that it compares: each test puts a function with one fault in place
 //! of the proved one.
 
-use differential::answer::{refusal, Approach, LineWord, LINE_WORDS};
+use differential::answer::{refusal, sum_words, Approach, LineWord, SumWord, LINE_WORDS, MOST_RESULTS, SUM_WORDS};
 use differential::sheet::{
-    pool_kind, Fact, IrbWord, Layout, TrancheWord, DAYS, FACTS, FEWEST_FACTS, FILE_BYTES, IRB_SHARE, LONG_TERM,
-    MANY_LOANS, MONTHS, RATINGS, WHOLE, WORD_BYTES,
+    blocks_of, pool_kind, Fact, IrbWord, Layout, TrancheWord, BLOCKS, BLOCK_ROWS, DAYS, FACTS, FEWEST_FACTS,
+    FILE_BYTES, IRB_SHARE, LONG_TERM, MANY_LOANS, MONTHS, RATINGS, WHOLE, WORD_BYTES,
 };
 use differential::{
-    show, Case, Difference, Ends, Feature, Found, LeastFeature, Library, Part, Reply, Run, Tally, Weigh, WeighFile,
+    show, Asked, BlockReply, Case, Difference, Ends, Feature, Found, LeastFeature, Library, Part, Reply, Run, SumBlock,
+    Tally, Weigh, WeighFile,
 };
 use independent::approach::{self, Figures};
+use independent::block::{self, sums_over};
 use independent::charge::{self, Points};
 use independent::date::Date;
 use independent::formula::{raw_weights, Terms};
@@ -39,10 +41,10 @@ fn first_difference(library: Library) -> Option<Difference> {
     found.map(|found| found.difference)
 }
 
-/// The part in which a run first finds this library different, in an answer to a file or else to a sheet's words.
-fn first_part(library: Library, of_file: bool) -> Option<Part> {
+/// The part in which a run first finds this library different, in the answer to what is meant.
+fn first_part(library: Library, meant: fn(Asked) -> bool) -> Option<Part> {
     let difference = first_difference(library)?;
-    assert_eq!(difference.of_file, of_file, "{difference}");
+    assert!(meant(difference.asked), "{difference}");
     Some(difference.part)
 }
 
@@ -52,7 +54,7 @@ fn weighed(weigh: Weigh) -> Option<Part> {
         weigh,
         ..Library::PROVED
     };
-    first_part(library, false)
+    first_part(library, |asked| asked == Asked::Words)
 }
 
 /// The part in which a run first finds this weighing of files different.
@@ -61,7 +63,7 @@ fn filed(weigh_file: WeighFile) -> Option<Part> {
         weigh_file,
         ..Library::PROVED
     };
-    first_part(library, true)
+    first_part(library, |asked| asked == Asked::File)
 }
 
 /// The part in which a run first finds this report different.
@@ -70,7 +72,16 @@ fn reported(report: fn(&[u8]) -> String) -> Option<Part> {
         report,
         ..Library::PROVED
     };
-    first_part(library, true)
+    first_part(library, |asked| asked == Asked::File)
+}
+
+/// The part in which a run first finds these sums of blocks different.
+fn summed(block_sums: SumBlock) -> Option<Part> {
+    let library = Library {
+        block_sums,
+        ..Library::PROVED
+    };
+    first_part(library, |asked| matches!(asked, Asked::Block(_)))
 }
 
 /// The proved weighing, the start of each wrong one.
@@ -116,6 +127,8 @@ fn nothing_wrong_is_passed() {
     assert_eq!(weighed(proved), None);
     assert_eq!(filed(|file, results| read(file, results, good_length, proved)), None);
     assert_eq!(reported(text), None);
+    assert_eq!(summed(proved_sums), None);
+    assert_eq!(summed(|sheet, number| over_rows(sheet, number, block_of)), None);
 }
 
 /// A refusal with its number one too high.
@@ -1775,6 +1788,369 @@ fn difference_of_a_file_is_shown() {
     );
     assert!(
         text.ends_with("difference in place of the file: expected 0, said 9\n"),
+        "{text}"
+    );
+}
+
+/// The proved sums of a block, the start of each wrong one.
+fn proved_sums(sheet: &[u64], number: u64) -> BlockReply {
+    (Library::PROVED.block_sums)(sheet, number)
+}
+
+/// Sums over the rows of the pool that are taken for those of a block.
+fn over_rows(sheet: &[u64], number: u64, taken: fn(&[Row], u64) -> &[Row]) -> BlockReply {
+    match independent::sheet::read(sheet) {
+        Ok(read) => BlockReply::summing(sum_words(&sums_over(taken(&read.pool, number)))),
+        Err(refusal) => BlockReply::refusing(refusal.number, refusal.place),
+    }
+}
+
+/// The rows of a block, where blocks have so many rows.
+fn block_by(pool: &[Row], number: u64, rows: u64) -> &[Row] {
+    let mut blocks = pool.chunks(rows as usize);
+    blocks.nth(number as usize).unwrap_or_default()
+}
+
+/// The rows of a block.
+fn block_of(pool: &[Row], number: u64) -> &[Row] {
+    block_by(pool, number, BLOCK_ROWS)
+}
+
+/// The rows of a block of fifty, and none of a last one that has fewer.
+fn full_block(pool: &[Row], number: u64) -> &[Row] {
+    let rows = block_of(pool, number);
+    if rows.len() as u64 == BLOCK_ROWS {
+        rows
+    } else {
+        &[]
+    }
+}
+
+/// The same, but where the pool has no full block.
+fn full_block_after_first(pool: &[Row], number: u64) -> &[Row] {
+    match number {
+        0 => block_of(pool, number),
+        _ => full_block(pool, number),
+    }
+}
+
+/// The rows from the block's number times fifty on, the product cut to 64 bits.
+fn wrapped_block(pool: &[Row], number: u64) -> &[Row] {
+    let first = number.wrapping_mul(BLOCK_ROWS) as usize;
+    block_of(pool.get(first..).unwrap_or_default(), 0)
+}
+
+/// The rows of the last block, for each number past it.
+fn last_block_past_the_end(pool: &[Row], number: u64) -> &[Row] {
+    let last = (pool.len() as u64 - 1) / BLOCK_ROWS;
+    block_of(pool, number.min(last))
+}
+
+/// Blocks that have other rows: 49 or 51 of them, or all; the last block left out where it is not full; blocks counted
+/// from 1, or from the last; numbers past the end cut to 64 bits after a product, to 32 bits or by a remainder, or
+/// taken for the last block.
+#[test]
+fn wrong_rows_of_a_block() {
+    let wrong: [SumBlock; 12] = [
+        |sheet, number| over_rows(sheet, number, |pool, number| block_by(pool, number, BLOCK_ROWS - 1)),
+        |sheet, number| over_rows(sheet, number, |pool, number| block_by(pool, number, BLOCK_ROWS + 1)),
+        |sheet, number| over_rows(sheet, number, |pool, _| pool),
+        |sheet, number| over_rows(sheet, number, full_block),
+        |sheet, number| over_rows(sheet, number, full_block_after_first),
+        |sheet, number| over_rows(sheet, number, |pool, number| block_of(pool, number.wrapping_sub(1))),
+        |sheet, number| over_rows(sheet, number, |pool, number| block_of(pool, number.saturating_sub(1))),
+        |sheet, number| over_rows(sheet, number, wrapped_block),
+        |sheet, number| {
+            over_rows(sheet, number, |pool, number| {
+                block_of(pool, number & u64::from(u32::MAX))
+            })
+        },
+        |sheet, number| over_rows(sheet, number, |pool, number| block_of(pool, number % BLOCKS)),
+        |sheet, number| over_rows(sheet, number, last_block_past_the_end),
+        |sheet, number| {
+            over_rows(sheet, number, |pool, number| {
+                block_of(pool, (BLOCKS - 1).wrapping_sub(number))
+            })
+        },
+    ];
+    for (place, block_sums) in wrong.into_iter().enumerate() {
+        assert_eq!(summed(block_sums), Some(Part::Sum(SumWord::Exposure)), "{place}");
+    }
+}
+
+/// Sums of a block's rows with a fault, where the sheet is not refused.
+fn other_sums(sheet: &[u64], number: u64, fault: fn(&[Row], &mut [u64; SUM_WORDS])) -> BlockReply {
+    let mut reply = proved_sums(sheet, number);
+    if let Ok(read) = independent::sheet::read(sheet) {
+        fault(block_of(&read.pool, number), &mut reply.sums);
+    }
+    reply
+}
+
+/// The sum of nominal amounts over the rows of this status.
+fn nominal_of(rows: &[Row], status: Status) -> u64 {
+    let of_status = rows.iter().filter(|row| row.status == status);
+    of_status.map(|row| row.nominal).sum()
+}
+
+/// Rows counted by another status: as late those of unknown status, those of a re-securitisation or none; as known
+/// those of unknown status too, or not the delinquent ones, or not those of a re-securitisation.
+#[test]
+fn wrong_status_of_a_row() {
+    let late: [SumBlock; 3] = [
+        |sheet, number| {
+            other_sums(sheet, number, |rows, sums| {
+                sums[SumWord::LateNominal as usize] += nominal_of(rows, Status::Unknown)
+            })
+        },
+        |sheet, number| {
+            other_sums(sheet, number, |rows, sums| {
+                sums[SumWord::LateNominal as usize] += nominal_of(rows, Status::SecuritisationTranche)
+            })
+        },
+        |sheet, number| other_sums(sheet, number, |_, sums| sums[SumWord::LateNominal as usize] = 0),
+    ];
+    for block_sums in late {
+        assert_eq!(summed(block_sums), Some(Part::Sum(SumWord::LateNominal)));
+    }
+    let known: [SumBlock; 3] = [
+        |sheet, number| other_sums(sheet, number, |_, sums| sums.copy_within(..3, 3)),
+        |sheet, number| other_sums(sheet, number, |rows, sums| without(Status::Delinquent, rows, sums)),
+        |sheet, number| {
+            other_sums(sheet, number, |rows, sums| {
+                without(Status::SecuritisationTranche, rows, sums)
+            })
+        },
+    ];
+    for block_sums in known {
+        assert_eq!(summed(block_sums), Some(Part::Sum(SumWord::KnownExposure)));
+    }
+}
+
+/// Leaves the rows of a status out of the sums over the rows with known status.
+fn without(status: Status, rows: &[Row], sums: &mut [u64; SUM_WORDS]) {
+    let others: Vec<Row> = rows.iter().copied().filter(|row| row.status != status).collect();
+    let known = SumWord::KnownExposure as usize..SumWord::LateNominal as usize;
+    sums[known.clone()].copy_from_slice(&sum_words(&sums_over(&others))[known]);
+}
+
+/// Amounts in each other's place: the nominal amount weighted, and the exposure of the delinquent rows.
+#[test]
+fn wrong_amount_of_a_row() {
+    let weighted: SumBlock = |sheet, number| {
+        other_sums(sheet, number, |rows, sums| {
+            let weighted = rows.iter().map(|row| row.nominal * row.risk_weight);
+            sums[SumWord::WeightedExposure as usize] = weighted.sum();
+        })
+    };
+    assert_eq!(summed(weighted), Some(Part::Sum(SumWord::WeightedExposure)));
+    let late: SumBlock = |sheet, number| {
+        other_sums(sheet, number, |rows, sums| {
+            let late = rows.iter().filter(|row| row.status == Status::Delinquent);
+            sums[SumWord::LateNominal as usize] = late.map(|row| row.exposure).sum();
+        })
+    };
+    assert_eq!(summed(late), Some(Part::Sum(SumWord::LateNominal)));
+}
+
+/// The proved sums with a fault in the reply to each refused sheet, or else to each one that is summed.
+fn faulty_sums(sheet: &[u64], number: u64, on_refusal: bool, fault: fn(&mut BlockReply)) -> BlockReply {
+    let mut reply = proved_sums(sheet, number);
+    if (reply.number != 0) == on_refusal {
+        fault(&mut reply);
+    }
+    reply
+}
+
+/// One too high in a word of the sums, or that word not written; each where the block is summed, and where the sheet is
+/// refused.
+fn wrong_sum<const WORD: usize, const ON_REFUSAL: bool, const UNWRITTEN: bool>(
+    sheet: &[u64],
+    number: u64,
+) -> BlockReply {
+    faulty_sums(sheet, number, ON_REFUSAL, |reply| match UNWRITTEN {
+        true => reply.sums[WORD] = u64::MAX,
+        false => reply.sums[WORD] += 1,
+    })
+}
+
+/// For each word of the sums, the sums that have it wrong in each way, and the part in which that is found.
+macro_rules! wrong_sums {
+    ($($word:ident),+) => {
+        [$((
+            [
+                wrong_sum::<{ SumWord::$word as usize }, false, false> as SumBlock,
+                wrong_sum::<{ SumWord::$word as usize }, false, true>,
+                wrong_sum::<{ SumWord::$word as usize }, true, false>,
+                wrong_sum::<{ SumWord::$word as usize }, true, true>,
+            ],
+            Part::Sum(SumWord::$word),
+        )),+]
+    };
+}
+
+/// Each word of the sums, wrong or not written, also on a refusal, where 0 is due.
+#[test]
+fn wrong_word_of_the_sums() {
+    let wrong: [([SumBlock; 4], Part); SUM_WORDS] = wrong_sums![
+        Exposure,
+        Nominal,
+        WeightedExposure,
+        KnownExposure,
+        KnownNominal,
+        KnownWeightedExposure,
+        LateNominal
+    ];
+    for (wrong, part) in wrong {
+        for block_sums in wrong {
+            assert_eq!(summed(block_sums), Some(part));
+        }
+    }
+}
+
+/// The sums of the pool left on a refusal of a later word.
+fn sums_left_on_a_refusal(sheet: &[u64], number: u64) -> BlockReply {
+    let mut reply = proved_sums(sheet, number);
+    if reply.number != 0 {
+        reply.sums = pool_judged_alone(sheet, number).sums;
+    }
+    reply
+}
+
+/// Takes a sheet whose pool is good for good: sums it with another list of tranches and no IRB section.
+fn pool_judged_alone(sheet: &[u64], number: u64) -> BlockReply {
+    let reply = proved_sums(sheet, number);
+    match Layout::before(sheet, reply.place as usize).filter(|_| reply.number != 0) {
+        Some(layout) => {
+            let mut words = [&sheet[..layout.tranche_count()], &[1, 1, 1, 1, 0, 0, 0, 0]].concat();
+            words[Layout::fact(Fact::PoolKind)] = pool_kind::SA;
+            if sixth_is(sheet, |_| true) {
+                words[SIXTH] = 0;
+            }
+            proved_sums(&words, number)
+        }
+        None => reply,
+    }
+}
+
+/// Number and place of a refusal, place of a sheet that is summed, and sums left on a refusal.
+#[test]
+fn wrong_reply_to_a_block() {
+    let wrong: [(SumBlock, Part); 6] = [
+        (
+            |sheet, number| faulty_sums(sheet, number, true, |reply| reply.number += 1),
+            Part::Number,
+        ),
+        (
+            |sheet, number| faulty_sums(sheet, number, true, |reply| reply.place += 1),
+            Part::Place,
+        ),
+        (
+            |sheet, number| faulty_sums(sheet, number, true, |reply| reply.place = u64::MAX),
+            Part::Place,
+        ),
+        (
+            |sheet, number| faulty_sums(sheet, number, false, |reply| reply.place = 1),
+            Part::Place,
+        ),
+        (
+            |sheet, number| faulty_sums(sheet, number, false, |reply| reply.place = u64::MAX),
+            Part::Place,
+        ),
+        (sums_left_on_a_refusal, Part::Sum(SumWord::Exposure)),
+    ];
+    for (block_sums, part) in wrong {
+        assert_eq!(summed(block_sums), Some(part));
+    }
+}
+
+/// Judges the lines of a sheet too, with so much room for them.
+fn lines_judged(sheet: &[u64], number: u64, room: usize) -> BlockReply {
+    let reply = proved(sheet, &mut [0; MOST_RESULTS][..room]);
+    match reply.number {
+        0 => proved_sums(sheet, number),
+        refused => BlockReply::refusing(refused, reply.place),
+    }
+}
+
+/// Takes words that follow the last section.
+fn words_after_sections_taken(sheet: &[u64], number: u64) -> BlockReply {
+    let reply = proved_sums(sheet, number);
+    match reply.number {
+        refusal::WORDS_FOLLOW => proved_sums(&sheet[..reply.place as usize], number),
+        _ => reply,
+    }
+}
+
+/// Judges no word where the block is past the last of every pool, or else of the sheet's.
+fn unjudged_past_the_end(sheet: &[u64], number: u64, blocks: fn(&[u64]) -> Option<u64>) -> BlockReply {
+    match blocks(sheet) {
+        Some(blocks) if number >= blocks => BlockReply::summing([0; SUM_WORDS]),
+        _ => proved_sums(sheet, number),
+    }
+}
+
+/// The blocks of the pool that a sheet counts.
+fn counted_blocks(sheet: &[u64]) -> Option<u64> {
+    let place = Layout::FACTS_COUNT + 1 + usize::try_from(*sheet.first()?).ok()?.min(sheet.len());
+    sheet.get(place).copied().map(blocks_of)
+}
+
+/// Sheets refused that are not, or summed that are refused: 13 or 14 judged; words after the pool or after the last
+/// section not judged, and none where the block is past the end; every sheet summed, and every sheet refused.
+#[test]
+fn wrong_judgement_of_a_block() {
+    let wrong: [SumBlock; 8] = [
+        |sheet, number| lines_judged(sheet, number, MOST_RESULTS),
+        |sheet, number| lines_judged(sheet, number, 0),
+        pool_judged_alone,
+        words_after_sections_taken,
+        |sheet, number| unjudged_past_the_end(sheet, number, |_| Some(BLOCKS)),
+        |sheet, number| unjudged_past_the_end(sheet, number, counted_blocks),
+        |sheet, number| faulty_sums(sheet, number, true, |reply| *reply = BlockReply::summing(reply.sums)),
+        |sheet, number| faulty_sums(sheet, number, false, |reply| *reply = BlockReply::refusing(1, 0)),
+    ];
+    for (place, block_sums) in wrong.into_iter().enumerate() {
+        assert_eq!(summed(block_sums), Some(Part::Outcome), "{place}");
+    }
+}
+
+/// A reading of sums that panics ends the run as a difference.
+#[test]
+fn panic_on_a_block_is_a_difference() {
+    let library = Library {
+        block_sums: |_, _| panic!("a side that stops"),
+        ..Library::PROVED
+    };
+    assert_eq!(
+        first_difference(library).map(|difference| difference.part),
+        Some(Part::Panic)
+    );
+}
+
+/// A difference in a block's sums is shown with its number and with what each side said to it.
+#[test]
+fn difference_of_a_block_is_shown() {
+    let library = Library {
+        block_sums: |sheet, number| match (number, proved_sums(sheet, number)) {
+            (BLOCKS, reply) if reply.number == 0 => BlockReply::refusing(refusal::MISSING, 9),
+            (_, reply) => reply,
+        },
+        ..Library::PROVED
+    };
+    let found = run(library, 2).expect_err("a good sheet is not refused");
+    assert_eq!(found.difference.asked, Asked::Block(BLOCKS));
+    let case = Case::new(SEED, found.index);
+    let text = show::difference(&library, SEED, &case, &found);
+    let proved = format!("\nproved, block {BLOCKS}: number 1 place 9 sums 0 0 0 0 0 0 0\n");
+    assert!(text.contains(&proved), "{text}");
+    let read = independent::sheet::read(&case.sheet).expect("a good sheet");
+    let sums = sum_words(&block::sums(&read.pool, 0)).map(|sum| sum.to_string());
+    let independent = format!("\nindependent, block 0: number 0 place 0 sums {}\n", sums.join(" "));
+    assert!(text.contains(&independent), "{text}");
+    let last = text.lines().last().unwrap_or_default();
+    assert!(
+        last.contains(&format!("difference in accepted or refused of block {BLOCKS}: ")),
         "{text}"
     );
 }

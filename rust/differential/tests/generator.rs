@@ -2,8 +2,8 @@
 
 use differential::answer::{refusal, Approach, LINE_WORDS, MOST_RESULTS};
 use differential::sheet::{
-    pool_kind, status, Fact, IrbWord, Layout, RowWord, TrancheWord, DAYS, FACTS, FEWEST_FACTS, IRB_AVERAGE, IRB_SHARE,
-    LOANS, MANY_LOANS, MONTHS, POOL_AMOUNT, ROWS, TRANCHES, TRANCHE_AMOUNT, WHOLE,
+    pool_kind, status, Fact, IrbWord, Layout, RowWord, TrancheWord, BLOCKS, BLOCK_EDGES, DAYS, FACTS, FEWEST_FACTS,
+    IRB_AVERAGE, IRB_SHARE, LOANS, MANY_LOANS, MONTHS, POOL_AMOUNT, ROWS, TRANCHES, TRANCHE_AMOUNT, WHOLE,
 };
 use differential::{is_under_irba, Case, Kind, Relation};
 use independent::approach::Figures;
@@ -557,6 +557,26 @@ fn charges_follow_the_kinds() {
         let small = charges(Kind::SmallCharge, irba);
         assert!(small.iter().filter(|charge| (1..=3).contains(*charge)).count() > 10);
     }
+}
+
+/// Large pools have as many rows as about the end of a block, and numbers between them.
+#[test]
+fn large_pools_meet_the_blocks() {
+    let counts: Vec<u64> = sheets(Kind::LargePool, 20_000)
+        .map(|sheet| Layout::of_sheet(&sheet).rows as u64)
+        .collect();
+    assert!(BLOCK_EDGES.iter().all(|rows| counts.contains(rows)), "{counts:?}");
+    let between = counts.iter().filter(|rows| !BLOCK_EDGES.contains(rows));
+    assert!(between.count() > 50);
+}
+
+/// The numbers of blocks that are drawn are all that a pool can have, the next ones, and others of any size.
+#[test]
+fn numbers_of_blocks_are_drawn() {
+    let drawn: Vec<[u64; 2]> = (0..1_000).map(|index| Case::new(22, index).blocks).collect();
+    let near: BTreeSet<u64> = drawn.iter().map(|numbers| numbers[0]).collect();
+    assert_eq!(near, (0..BLOCKS + 2).collect());
+    assert!(drawn.iter().any(|numbers| numbers[1] > u64::MAX / 2));
 }
 
 /// The limits are met: counts, amounts, and the largest sums.

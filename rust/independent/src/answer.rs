@@ -1,4 +1,4 @@
-//! What is answered to a sheet: a weighed deal or a refusal.
+//! What is answered to a sheet: a weighed deal, the sums of a block of its pool, or a refusal.
 
 /// A refusal: its number and its place, as listed under "Refusals, by who can cause them".
 #[derive(Debug, Clone, Copy, PartialEq, Eq)]
@@ -34,4 +34,21 @@ pub struct Amounts {
     pub weight: u64,
     pub risk_weighted: u64,
     pub capital: u64,
+}
+
+/// The seven sums of S-7 over some rows of a pool: three over all of them, the same three over those with known status,
+/// and the nominal amounts of the delinquent ones.
+#[derive(Debug, Clone, Copy, Default, PartialEq, Eq)]
+pub struct BlockSums {
+    pub all: Totals,
+    pub known: Totals,
+    pub late_nominal: u64,
+}
+
+/// Sums over some rows: exposure, nominal, and exposure times risk weight in whole percent.
+#[derive(Debug, Clone, Copy, Default, PartialEq, Eq)]
+pub struct Totals {
+    pub exposure: u64,
+    pub nominal: u64,
+    pub weighted_exposure: u64,
 }

@@ -21,9 +21,21 @@ pub struct PoolCharge {
     pub unknown_above_limit: bool,
 }
 
-/// N: the sum of nominal amounts, over all rows.
-pub fn nominal_sum(pool: &[Row]) -> u128 {
-    sum(pool.iter(), |row| row.nominal.into())
+/// The sum of nominal amounts; over all rows it is N.
+pub fn nominal_sum(rows: &[Row]) -> u128 {
+    sum(rows.iter(), |row| row.nominal.into())
+}
+
+/// The sum of exposure.
+pub fn exposure_sum(rows: &[Row]) -> u128 {
+    sum(rows.iter(), |row| row.exposure.into())
+}
+
+/// The sum of exposure x risk weight.
+pub fn weighted_exposure_sum(rows: &[Row]) -> u128 {
+    sum(rows.iter(), |row| {
+        u128::from(row.exposure) * u128::from(row.risk_weight)
+    })
 }
 
 /// A is max(0, N minus all tranches of this or a senior class) x 10^6 / N, rounded down. D is the same with senior
@@ -49,13 +61,9 @@ pub fn points(nominal: u128, tranches: &[Tranche], class: u64) -> Points {
 /// Every exposure is at least 1, so a pool without a known row is 100% unknown and takes the second case. The first
 /// case therefore never divides by zero.
 pub fn pool_charge(pool: &[Row]) -> PoolCharge {
-    let known: Vec<Row> = pool
-        .iter()
-        .copied()
-        .filter(|row| row.status != Status::Unknown)
-        .collect();
-    let exposure = sum(pool.iter(), |row| row.exposure.into());
-    let known_exposure = sum(known.iter(), |row| row.exposure.into());
+    let known = known_rows(pool);
+    let exposure = exposure_sum(pool);
+    let known_exposure = exposure_sum(&known);
     let unknown_exposure = exposure - known_exposure;
     if unknown_exposure * 100 > exposure * 5 {
         return PoolCharge {
@@ -82,19 +90,27 @@ pub fn base_charge(rows: &[Row]) -> u128 {
     average_risk_weight_times(800, rows)
 }
 
-/// The late share W: delinquent nominal x 10^6 / nominal, rounded up. Status 3 counts as not delinquent.
+/// The rows with known status.
+pub fn known_rows(rows: &[Row]) -> Vec<Row> {
+    let known = rows.iter().copied().filter(|row| row.status != Status::Unknown);
+    known.collect()
+}
+
+/// The late share W: delinquent nominal x 10^6 / nominal, rounded up.
 fn late_share(known: &[Row]) -> u128 {
-    let late = known.iter().filter(|row| row.status == Status::Delinquent);
-    (sum(late, |row| row.nominal.into()) * WHOLE).div_ceil(nominal_sum(known))
+    (late_nominal_sum(known) * WHOLE).div_ceil(nominal_sum(known))
+}
+
+/// The sum of nominal amounts over the delinquent rows. Status 3 counts as not delinquent.
+pub fn late_nominal_sum(rows: &[Row]) -> u128 {
+    let late = rows.iter().filter(|row| row.status == Status::Delinquent);
+    sum(late, |row| row.nominal.into())
 }
 
 /// `factor` x (sum of exposure x risk weight) / (sum of exposure), rounded up. The base charge takes it with 800, the
 /// cap with 100 over all rows.
 pub fn average_risk_weight_times(factor: u128, rows: &[Row]) -> u128 {
-    let weighted = sum(rows.iter(), |row| {
-        u128::from(row.exposure) * u128::from(row.risk_weight)
-    });
-    (factor * weighted).div_ceil(sum(rows.iter(), |row| row.exposure.into()))
+    (factor * weighted_exposure_sum(rows)).div_ceil(exposure_sum(rows))
 }
 
 /// The sum of one figure over some rows.

@@ -1,15 +1,16 @@
-//! Exact tranche weights: the crate follows document 01 (the scope paper), requests S-1 to S-3, S-5 and S-6 of document
-//! 02 (the paper of later requests) and the rating figures of source document 001 alone, and shares nothing with the
-//! proved code.
+//! Exact tranche weights: the crate follows document 01 (the scope paper), requests S-1 to S-3 and S-5 to S-7 of
+//! document 02 (the paper of later requests) and the rating figures of source document 001 alone, and shares nothing
+//! with the proved code.
 //!
 //! Nothing is rounded but where the papers name a rounding. Sums and products are whole numbers of 128 bits, where
 //! every intermediate result fits (the largest is about 10^19). The exponentials of the formula are held between two
 //! fixed-point numbers, each rounded outward.
 //!
 //! [`answer`] has the types of the answers, [`date`] the dates of S-3. One module stands for each heading of document
-//! 01, and one for S-5; each uses only these two and modules above it in this list:
+//! 01, and one each for S-7 and S-5; each uses only these two and modules above it in this list:
 //! - [`sheet`]: "The deal sheet" and "Refusals, by who can cause them", but for refusal 13;
 //! - [`charge`]: "Points and pool charge";
+//! - [`block`]: sums by blocks of rows;
 //! - [`rating`]: "The rating table";
 //! - [`irba`]: charge and parameter of SEC-IRBA;
 //! - [`formula`]: "The formula and its series";
@@ -18,6 +19,7 @@
 
 pub mod answer;
 pub mod approach;
+pub mod block;
 pub mod charge;
 pub mod date;
 pub mod formula;
@@ -25,7 +27,7 @@ pub mod irba;
 pub mod rating;
 pub mod sheet;
 
-pub use answer::{Amounts, Deal, Line, Refusal};
+pub use answer::{Amounts, BlockSums, Deal, Line, Refusal, Totals};
 
 /// Weighs a deal sheet. `room` is how many result words the caller lends, for refusal 14.
 ///
@@ -52,4 +54,11 @@ pub fn weigh(sheet: &[u64], room: u64) -> Result<Deal, Refusal> {
 /// all others.
 pub fn weigh_file(file: &[u8], room: u64) -> Result<Deal, Refusal> {
     weigh(&sheet::words_of_file(file)?, room)
+}
+
+/// The sums of a block of a deal sheet's pool. Only the refusals before 14 come here: those of the words from place 0
+/// upward, then 3, whatever the block.
+pub fn block_sums(sheet: &[u64], block: u64) -> Result<BlockSums, Refusal> {
+    let sheet = sheet::read(sheet)?;
+    Ok(block::sums(&sheet.pool, block))
 }

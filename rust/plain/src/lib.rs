@@ -1,9 +1,10 @@
 //! A plain double-precision calculator of tranche weights.
 //!
 //! It reads the deal sheet of document 01 with the fifth fact of S-1, the sixth of S-3 and the IRB section of S-5 of
-//! document 02, rates by S-1 and S-2, takes SEC-IRBA by S-5, rounds each weight up and down by S-6, refuses what they
-//! refuse in the same order, and writes the same result words for each tranche. Sums of whole amounts are kept in
-//! `u64`. Every figure with a division or an exponential in it is worked in `f64`, with `exp`, `ceil` and `floor`.
+//! document 02, rates by S-1 and S-2, takes SEC-IRBA by S-5, rounds each weight up and down by S-6, adds up the pool by
+//! the blocks of S-7, refuses what they refuse in the same order, and writes the same result words for each tranche.
+//! Sums of whole amounts are kept in `u64`. Every figure with a division or an exponential in it is worked in `f64`,
+//! with `exp`, `ceil` and `floor`.
 //!
 //! **Its rounding differs from document 01's in rare places.** A product above 2^53 loses its last digits in `f64`, and
 //! a quotient that lies very near a whole number can be taken for that number, or for one just past it. A figure that 01

@@ -9,6 +9,8 @@ pub const FEWEST_FACTS: u64 = 4;
 pub const MOST_FACTS: u64 = 6;
 /// The most rows that a pool can hold.
 pub const MOST_ROWS: u64 = 1_000;
+/// The rows of a block, by which a pool is added up; the last one may have fewer.
+pub const BLOCK_ROWS: u64 = 50;
 /// The most tranches that a sheet can hold.
 pub const MOST_TRANCHES: usize = 32;
 /// The ratings of a tranche.

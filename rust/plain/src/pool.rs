@@ -37,6 +37,13 @@ impl Sums {
         self.weighted += row.exposure * row.risk_weight;
     }
 
+    /// Adds the sums over other rows.
+    fn add_sums(&mut self, others: &Sums) {
+        self.exposure += others.exposure;
+        self.nominal += others.nominal;
+        self.weighted += others.weighted;
+    }
+
     /// The sums over the rows that are not among the others.
     fn less(&self, others: &Sums) -> Sums {
         Sums {
@@ -69,6 +76,13 @@ impl Pool {
             status::NOT_KNOWN => self.unknown.add(row),
             _ => {}
         }
+    }
+
+    /// Adds the sums of a block of rows.
+    pub fn add_block(&mut self, block: &Pool) {
+        self.all.add_sums(&block.all);
+        self.unknown.add_sums(&block.unknown);
+        self.late += block.late;
     }
 
     /// N, the sum of nominal amounts.

@@ -2,7 +2,7 @@
 
 use crate::date::Date;
 use crate::limits::{
-    refusal, FEWEST_FACTS, IRB_SECTIONS, IRB_WORDS, MOST_FACTS, MOST_LOANS, MOST_MONTHS, MOST_POOL_AMOUNT,
+    refusal, BLOCK_ROWS, FEWEST_FACTS, IRB_SECTIONS, IRB_WORDS, MOST_FACTS, MOST_LOANS, MOST_MONTHS, MOST_POOL_AMOUNT,
     MOST_RISK_WEIGHT, MOST_ROWS, MOST_SHARE, MOST_TRANCHES, MOST_TRANCHE_AMOUNT, MOST_WEIGHT, RATINGS, TRANCHE_WORDS,
 };
 use crate::pool::{status, Pool, Row};
@@ -199,8 +199,8 @@ impl<'a> Reader<'a> {
         }
     }
 
-    /// The section of the pool, added up row by row. A re-securitisation holds securitisation tranches and nothing else.
-    /// Its loop is quicker in a function of its own than within `read`.
+    /// The section of the pool, added up block by block. A re-securitisation holds securitisation tranches and nothing
+    /// else. Its loop is quicker in a function of its own than within `read`.
     #[inline(never)]
     fn pool(&mut self, resecuritisation: bool) -> Result<Pool, Refusal> {
         let statuses = if resecuritisation {
@@ -208,17 +208,28 @@ impl<'a> Reader<'a> {
         } else {
             status::PAYING..=status::NOT_KNOWN
         };
-        let count = self.within(1..=MOST_ROWS, refusal::COUNT)?;
+        let mut left = self.within(1..=MOST_ROWS, refusal::COUNT)?;
         let mut pool = Pool::default();
-        for _ in 0..count {
-            pool.add(&Row {
+        while left > 0 {
+            let rows = left.min(BLOCK_ROWS);
+            pool.add_block(&self.block(rows, &statuses)?);
+            left -= rows;
+        }
+        Ok(pool)
+    }
+
+    /// A block of so many rows, added up row by row.
+    fn block(&mut self, rows: u64, statuses: &RangeInclusive<u64>) -> Result<Pool, Refusal> {
+        let mut block = Pool::default();
+        for _ in 0..rows {
+            block.add(&Row {
                 exposure: self.within(1..=MOST_POOL_AMOUNT, refusal::POOL_AMOUNT)?,
                 nominal: self.within(1..=MOST_POOL_AMOUNT, refusal::POOL_AMOUNT)?,
                 risk_weight: self.within(0..=MOST_RISK_WEIGHT, refusal::RISK_WEIGHT)?,
                 status: self.within(statuses.clone(), refusal::STATUS)?,
             });
         }
-        Ok(pool)
+        Ok(block)
     }
 
     /// The rows of the tranches. Each class is the one before it or one more; the first is 1.

@@ -1,5 +1,5 @@
 //! Document 01's checked deals and refusals, the STC deals of S-1, several ratings by S-2, the dates of S-3, the IRB
-//! section of S-5 and the seventh word of S-6, through the one function that callers have.
+//! section of S-5, the seventh word of S-6 and the blocks of S-7, through the one function that callers have.
 
 use plain::LINE_WORDS;
 
@@ -114,6 +114,48 @@ fn unknown_rows_above_a_twentieth_give_the_fallback() {
     assert_eq!((charge, lines[0][APPROACH]), (126_000, 2));
     let (charge, lines) = weighed(&sheet(&FACTS, &pool(51), &[tranche(1_000, 1, 0)]));
     assert_eq!((charge, lines[0][APPROACH], lines[0][WEIGHT]), (1_000_000, 0, 125_000));
+}
+
+/// Rows of one unit, of every 25 one delinquent and one of unknown status.
+fn unit_rows(count: u64) -> Vec<Row> {
+    let status = |row| match row % 25 {
+        7 => 1,
+        24 => 2,
+        _ => 0,
+    };
+    (0..count).map(|row| [1, 1, 100, status(row)]).collect()
+}
+
+/// Rows in several blocks, the last one full or not, have the charge and the lines of one row for each status.
+#[test]
+fn blocks_add_up() {
+    for count in [49, 50, 51, 99, 100, 101, 950, 951, 1_000] {
+        let rows = unit_rows(count);
+        let of_status = |status| {
+            let units = rows.iter().filter(|row| row[3] == status).count() as u64;
+            [units, units, 100, status]
+        };
+        let tranches = [tranche(count / 2, 1, 1), tranche(count / 3, 2, 0)];
+        let by_status = sheet(&FACTS, &[0, 1, 2].map(of_status), &tranches);
+        assert_eq!(
+            weighed(&sheet(&FACTS, &rows, &tranches)),
+            weighed(&by_status),
+            "{count}"
+        );
+    }
+}
+
+/// A bad word of a later block and one that is missing there are refused at their places.
+#[test]
+fn later_blocks_are_judged() {
+    let words = sheet(&FACTS, &unit_rows(101), &[tranche(1, 1, 1)]);
+    for (row, word, bad, number) in [(49, 0, 0, 5), (50, 1, 0, 5), (99, 2, 1_251, 6), (100, 3, 3, 7)] {
+        let place = 6 + 4 * row + word;
+        let mut changed = words.clone();
+        changed[place] = bad;
+        refused(&changed, LINE_WORDS, number, place as u64);
+        refused(&words[..place], LINE_WORDS, 1, place as u64);
+    }
 }
 
 /// K = 0: the raw weight is 0 where D is above 0, so floor and cap decide; where D is 0 too it is 125,000.

@@ -1,10 +1,11 @@
-//! What can be asked of the library: the answer to any words, the answer to a file, a file's report.
+//! What can be asked of the library: the answer to any words, the answer to a file, a file's report, a block's sums.
 
 use crate::deal::{Deal, Line};
 use crate::library;
 use crate::limits::{LINE_WORDS, MOST_TRANCHES, TEXT_ROOM};
 use crate::refusal::Refusal;
-use crate::reply::{Reply, Weighed};
+use crate::reply::{BlockReply, Reply, Weighed};
+use crate::sums::BlockSums;
 use crate::text_room_error::TextRoomError;
 
 /// Weighs as [`weigh_words`] does, and gives the four numbers as the C function gives them; number 0 where the sheet is
@@ -144,4 +145,56 @@ pub fn report_into(file: &[u8], text: &mut [u8]) -> Result<usize, TextRoomError>
     } else {
         Err(TextRoomError::new(length))
     }
+}
+
+/// Reads the sums of a block as [`block_sums`] does, and gives number, place and the seven words as the C function
+/// gives them; number 0 where the sheet is not refused.
+///
+/// ```
+/// use tranche_weights::{reply_to_block, BlockReply};
+///
+/// // One loan of 100 at 50%, nominal 120, one tranche of 80 that is held in full, five years, AAA.
+/// let sheet = [4, 0, 0, 1, 1, 1, 100, 120, 50, 0, 1, 80, 1, 60, 80, 1, 0, 0];
+/// let sums = [100, 120, 5_000, 100, 120, 5_000, 0];
+/// assert_eq!(reply_to_block(&sheet, 0), BlockReply::summing(sums));
+///
+/// assert_eq!(reply_to_block(&sheet[..7], 0), BlockReply::refusing(1, 7));
+/// ```
+pub fn reply_to_block(sheet: &[u64], block: u64) -> BlockReply {
+    library::block_sums(sheet, block)
+}
+
+/// Reads the sums of a block of the pool's rows from the sheet that any words state. Blocks of
+/// [`BLOCK_ROWS`](crate::BLOCK_ROWS) rows are counted from 0; past the last one every sum is 0, whatever the number.
+///
+/// # Errors
+///
+/// The [`Refusal`] of the sheet's words or of words that follow its last section, also for a block past the last. No
+/// result words are lent and no tranche is weighed here, so [`Reason::Room`](crate::Reason::Room) and
+/// [`Reason::ThinTranche`](crate::Reason::ThinTranche) are not given.
+///
+/// ```
+/// use tranche_weights::{block_sums, BlockSums, Reason};
+///
+/// // 120 loans of 100 at 50% with a nominal of 120, one tranche of 80 that is held in full, five years, AAA.
+/// let loans = [100, 120, 50, 0].repeat(120);
+/// let sheet = [&[4, 0, 0, 1, 1, 120][..], &loans, &[1, 80, 1, 60, 80, 1, 0, 0]].concat();
+///
+/// // Every exposure is at least 1, so that the first block whose sums are 0 is past the last.
+/// let mut exposures = Vec::new();
+/// for block in 0.. {
+///     match block_sums(&sheet, block)?.all.exposure {
+///         0 => break,
+///         exposure => exposures.push(exposure),
+///     }
+/// }
+/// assert_eq!(exposures, [5_000, 5_000, 2_000]);
+/// assert_eq!(block_sums(&sheet, u64::MAX)?, BlockSums::default());
+///
+/// let refusal = block_sums(&sheet[..7], u64::MAX).unwrap_err();
+/// assert_eq!((refusal.reason(), refusal.place()), (Reason::MissingWord, 7));
+/// # Ok::<(), tranche_weights::Refusal>(())
+/// ```
+pub fn block_sums(sheet: &[u64], block: u64) -> Result<BlockSums, Refusal> {
+    reply_to_block(sheet, block).outcome()
 }

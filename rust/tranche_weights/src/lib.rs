@@ -10,6 +10,9 @@
 //! - [`weigh_words`], [`weigh_file`], [`report`] and [`report_into`] take any words or any bytes; [`reply_to_words`]
 //!   and [`reply_to_file`] give the four numbers of the C functions.
 //!
+//! Both also give the pool's sums by portfolio: [`Sheet::block_sums`] and [`block_sums`] read those of a block of
+//! [`BLOCK_ROWS`] rows, and [`reply_to_block`] gives them as the C function does.
+//!
 //! # A deal from end to end
 //!
 //! Amounts are in whole units of one currency, points and charge in millionths of the pool, weights in hundredths of a
@@ -85,8 +88,8 @@
 //! `TRANCHE_WEIGHTS_LIB` names another folder; a relative one counts from the crate's folder. Without the archive,
 //! checking and documenting work, with a warning; building does not.
 //!
-//! The crate calls version 6 of the library's interface. Every symbol of the archive carries its version, as in
-//! `tranche_weights_weigh_v6`, so that an archive of another version fails to link.
+//! The crate calls version 7 of the library's interface. Every symbol of the archive carries its version, as in
+//! `tranche_weights_weigh_v7`, so that an archive of another version fails to link.
 //!
 //! The library keeps no state, so threads can call it at the same time. Of the calling thread's stack 64 KB are enough.
 //!
@@ -114,24 +117,28 @@ mod refusal;
 mod reply;
 mod sheet;
 mod sheet_error;
+mod sums;
 mod text_room_error;
 mod tranche;
 
-pub use calls::{reply_to_file, reply_to_words, report, report_into, weigh_file, weigh_words};
+pub use calls::{
+    block_sums, reply_to_block, reply_to_file, reply_to_words, report, report_into, weigh_file, weigh_words,
+};
 pub use date::Date;
 pub use deal::{Approach, Deal, Line};
 pub use facts::Facts;
 pub use limits::{
-    BYTES_PER_WORD, FEWEST_FACTS, FILE_BYTES, IRB_WORDS, LINE_WORDS, MOST_FACTS, MOST_RATINGS, MOST_ROWS,
-    MOST_TRANCHES, NUMBER_DIGITS, RESULT_WORDS, ROW_WORDS, SHEET_WORDS, TEXT_ROOM, TRANCHE_WORDS,
+    BLOCK_ROWS, BYTES_PER_WORD, FEWEST_FACTS, FILE_BYTES, IRB_WORDS, LINE_WORDS, MOST_BLOCKS, MOST_FACTS, MOST_RATINGS,
+    MOST_ROWS, MOST_TRANCHES, NUMBER_DIGITS, RESULT_WORDS, ROW_WORDS, SHEET_WORDS, SUM_WORDS, TEXT_ROOM, TRANCHE_WORDS,
 };
 pub use numbers::{AverageWeight, Loans, Millionths, Months, PoolAmount, RiskWeight, TrancheAmount};
 pub use pool::{Row, Status};
 pub use pool_kind::{IrbFigures, PoolKind};
 pub use rating::{LongTerm, Rating, ShortTerm};
 pub use refusal::{Reason, Refusal};
-pub use reply::{Reply, Weighed};
+pub use reply::{BlockReply, Reply, Weighed};
 pub use sheet::{Ordinary, Resecuritisation, Sheet, SheetBuilder};
 pub use sheet_error::SheetError;
+pub use sums::{BlockSums, Totals};
 pub use text_room_error::TextRoomError;
 pub use tranche::Tranche;

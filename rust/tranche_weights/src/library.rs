@@ -1,12 +1,13 @@
-//! The three C functions of the static library, version 6, and the crate's only unsafe code.
+//! The four C functions of the static library, version 7, and the crate's only unsafe code.
 
 #![allow(unsafe_code)]
 
-use crate::reply::Reply;
+use crate::limits::SUM_WORDS;
+use crate::reply::{BlockReply, Reply};
 
 extern "C" {
     /// Weighs the sheet; returns the refusal's number, 0 where weighed.
-    #[link_name = "tranche_weights_weigh_v6"]
+    #[link_name = "tranche_weights_weigh_v7"]
     fn tranche_weights_weigh(
         sheet: *const u64,
         words: usize,
@@ -18,7 +19,7 @@ extern "C" {
     ) -> u64;
 
     /// Weighs the sheet that the file's bytes state; returns the refusal's number, 0 where weighed.
-    #[link_name = "tranche_weights_weigh_file_v6"]
+    #[link_name = "tranche_weights_weigh_file_v7"]
     fn tranche_weights_weigh_file(
         file: *const u8,
         size: usize,
@@ -30,12 +31,16 @@ extern "C" {
     ) -> u64;
 
     /// Writes the report's text where it fits the room, else nothing; returns the text's length.
-    #[link_name = "tranche_weights_report_v6"]
+    #[link_name = "tranche_weights_report_v7"]
     fn tranche_weights_report(file: *const u8, size: usize, text: *mut u8, room: usize) -> u64;
+
+    /// Writes the seven sums of a block of the sheet's rows; returns the refusal's number, 0 where there is none.
+    #[link_name = "tranche_weights_block_sums_v7"]
+    fn tranche_weights_block_sums(sheet: *const u64, words: usize, block: u64, place: *mut u64, sums: *mut u64) -> u64;
 }
 
-/// What the three lent words hold before the call. No place, count or charge is as high, so a word that the library
-/// leaves unwritten shows.
+/// What each lent word of an answer holds before the call. No place, count, charge or sum is as high, so a word that
+/// the library leaves unwritten shows.
 const UNWRITTEN: u64 = u64::MAX;
 
 /// Lends three separate words for place, count and charge to a call that returns the number, and puts the four
@@ -82,4 +87,16 @@ pub(crate) fn report(file: &[u8], text: &mut [u8]) -> u64 {
     // SAFETY: as for `weigh`: two slices that do not overlap, each pointer valid for the length given with it, the
     // file's for reading, the text's for reading and writing, and nothing else is touched or kept.
     unsafe { tranche_weights_report(file.as_ptr(), file.len(), text.as_mut_ptr(), text.len()) }
+}
+
+/// Lends the library a sheet and room for the sums of a block, and hands back its answer as it is.
+pub(crate) fn block_sums(sheet: &[u64], block: u64) -> BlockReply {
+    let (mut place, mut sums) = (UNWRITTEN, [UNWRITTEN; SUM_WORDS]);
+    // SAFETY: as for `weigh`: the sheet's pointer is valid for the length given with it, for reading; the other two are
+    // from mutable borrows of a word and of an array of the words that the sums have, and nothing overlaps.
+    let number = unsafe {
+        let (sheet, words) = (sheet.as_ptr(), sheet.len());
+        tranche_weights_block_sums(sheet, words, block, &mut place, sums.as_mut_ptr())
+    };
+    BlockReply { number, place, sums }
 }

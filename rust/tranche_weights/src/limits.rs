@@ -1,5 +1,5 @@
 //! The parts of a sheet, of a line and of a report, with the sizes that follow from them, and the limits of a sheet's
-//! numbers (document 01, "The deal sheet" and "Checked deals"; document 02, S-1, S-3, S-5 and S-6).
+//! numbers (document 01, "The deal sheet" and "Checked deals"; document 02, S-1, S-3 and S-5 to S-7).
 //!
 //! A size that has parts is worked out from them, so that each number stands here once.
 
@@ -14,6 +14,12 @@ pub const MOST_ROWS: usize = 1000;
 
 /// The words of a pool row: exposure amount, nominal amount, risk weight, status.
 pub const ROW_WORDS: usize = 4;
+
+/// The rows of a block, in the order of the sheet; only the last block of a pool can have fewer.
+pub const BLOCK_ROWS: usize = 50;
+
+/// The most blocks that a pool has.
+pub const MOST_BLOCKS: usize = MOST_ROWS.div_ceil(BLOCK_ROWS);
 
 /// The most tranches that a deal has; the fewest is 1.
 pub const MOST_TRANCHES: usize = 32;
@@ -50,6 +56,9 @@ pub const LINE_WORDS: usize = 7;
 
 /// Result words that are enough for every sheet: the lines of the most tranches.
 pub const RESULT_WORDS: usize = MOST_TRANCHES * LINE_WORDS;
+
+/// The words of a block's sums, in the order of the fields of [`BlockSums`](crate::BlockSums).
+pub const SUM_WORDS: usize = 7;
 
 /// The most digits of a number of 64 bits.
 pub const NUMBER_DIGITS: usize = u64::MAX.ilog10() as usize + 1;

@@ -1,6 +1,8 @@
 //! What the library answers to a sheet, as its C functions give it.
 
+use crate::limits::SUM_WORDS;
 use crate::refusal::Refusal;
+use crate::sums::BlockSums;
 
 /// The four numbers that the library answers to a sheet, as its C functions give them.
 #[derive(Debug, Clone, Copy, PartialEq, Eq, Hash)]
@@ -61,4 +63,48 @@ pub struct Weighed {
     pub count: u64,
     /// The pool charge, in millionths.
     pub charge: u64,
+}
+
+/// What the library answers to a sheet and the number of a block of its rows, as its C function gives it.
+#[derive(Debug, Clone, Copy, PartialEq, Eq, Hash)]
+#[non_exhaustive]
+pub struct BlockReply {
+    /// The refusal's number; 0 where the sheet has none.
+    pub number: u64,
+    /// The refusal's place; 0 where the sheet has none.
+    pub place: u64,
+    /// The words of the sums: the fields of [`BlockSums`], in their order and units; each 0 on a refusal.
+    pub sums: [u64; SUM_WORDS],
+}
+
+impl BlockReply {
+    /// The reply with the sums of a block: number and place are 0.
+    pub const fn summing(sums: [u64; SUM_WORDS]) -> BlockReply {
+        BlockReply {
+            number: 0,
+            place: 0,
+            sums,
+        }
+    }
+
+    /// The reply that refuses a sheet: every sum is 0.
+    pub const fn refusing(number: u64, place: u64) -> BlockReply {
+        BlockReply {
+            number,
+            place,
+            sums: [0; SUM_WORDS],
+        }
+    }
+
+    /// The sums of the block.
+    ///
+    /// # Errors
+    ///
+    /// The [`Refusal`] where the number is not 0.
+    pub const fn outcome(self) -> Result<BlockSums, Refusal> {
+        match self.number {
+            0 => Ok(BlockSums::of(self.sums)),
+            number => Err(Refusal::new(number, self.place)),
+        }
+    }
 }

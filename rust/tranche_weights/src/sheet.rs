@@ -1,8 +1,8 @@
-//! The sheet of a deal and its builder (document 01, "The deal sheet"; document 02, S-1, S-3 and S-5).
+//! The sheet of a deal and its builder (document 01, "The deal sheet"; document 02, S-1, S-3, S-5 and S-7).
 
 use std::marker::PhantomData;
 
-use crate::calls::weigh_sheet;
+use crate::calls::{block_sums, weigh_sheet};
 use crate::date::Date;
 use crate::deal::Deal;
 use crate::facts::Facts;
@@ -10,6 +10,7 @@ use crate::limits::{FEWEST_FACTS, IRB_WORDS, MOST_FACTS, MOST_ROWS, MOST_TRANCHE
 use crate::pool::{Row, Status};
 use crate::refusal::Refusal;
 use crate::sheet_error::SheetError;
+use crate::sums::BlockSums;
 use crate::tranche::Tranche;
 
 /// Marks the builder of an ordinary deal, STC or not, whose rows have a [`Status`].
@@ -277,5 +278,40 @@ impl Sheet {
     /// ```
     pub fn weigh(&self) -> Result<Deal, Refusal> {
         weigh_sheet(&self.words)
+    }
+
+    /// The sums of a block of the pool's rows, as [`block_sums`] reads them: blocks are counted from 0, and past the last
+    /// one every sum is 0.
+    ///
+    /// # Errors
+    ///
+    /// None that the library gives to such a sheet: its words are within their limits, and 13 is not judged here.
+    ///
+    /// ```
+    /// use tranche_weights::{
+    ///     Facts, Months, PoolAmount, RiskWeight, Row, SheetBuilder, Status, Tranche, TrancheAmount, BLOCK_ROWS,
+    /// };
+    ///
+    /// # fn main() -> Result<(), Box<dyn std::error::Error>> {
+    /// let hundred = PoolAmount::new(100)?;
+    /// let loan = Row::new(hundred, hundred, RiskWeight::new(75)?);
+    /// let senior = Tranche::new(TrancheAmount::new(80)?, Months::new(60)?, 80)?;
+    ///
+    /// let mut deal = SheetBuilder::ordinary(Facts::new());
+    /// for _ in 0..BLOCK_ROWS {
+    ///     deal.row(loan, Status::Paying)?;
+    /// }
+    /// deal.row(loan, Status::Delinquent)?.row(loan, Status::NotKnown)?.next_class(senior)?;
+    /// let sheet = deal.build()?;
+    ///
+    /// let [first, last, past] = [sheet.block_sums(0)?, sheet.block_sums(1)?, sheet.block_sums(2)?];
+    /// assert_eq!((first.all.exposure, first.known.exposure, first.late_nominal), (5_000, 5_000, 0));
+    /// assert_eq!((last.all.exposure, last.known.exposure, last.late_nominal), (200, 100, 100));
+    /// assert_eq!((last.all.weighted_exposure, past.all.exposure), (15_000, 0));
+    /// # Ok(())
+    /// # }
+    /// ```
+    pub fn block_sums(&self, block: u64) -> Result<BlockSums, Refusal> {
+        block_sums(&self.words, block)
     }
 }

@@ -1,10 +1,11 @@
 -- `report`: the whole text is composed first, and copied where there is room. No axioms.
-use mathlib.Core.Path.{refl, sym}
-use native.Mathlib.Omega.{arith}
+use mathlib.Core.Path.{_≡_, sym}
+use Prim.Native.Nat.{_≤_}
 use borrow.Author.Needs.{needs}
+use lib.ListN.{length, take}
 use lib.Seq.{length-take-le}
 use Rattle.report.specs.ReportText.{fileText}
-use Rattle.report.proofs.ReportLaws.{file-text-fits, composed-fits, text-refused, text-copied}
+use Rattle.report.proofs.ReportLaws.{file-text-fits, composed, composed-copied}
 use Rattle.report.proofs.report.Statement.{statement}
 use Rattle.report.proofs.report.Tie as tie
 
@@ -14,38 +15,31 @@ slice-aggregate-compose c = search needs
 compose-requires : tie.Need-compose-requires
 compose-requires c κs = search needs
 
-returns : tie.Need-returns
-returns c =
-    let file = c .before .before .before .before .before .before .args .file .now in
-    let text = c .before .before .before .before .before .before .args .text .now in
-    let refused = text-refused (fileText file) text _ (c .before .before .compose .ensures .0) (omega arith) in
-    (refused .0, (refused .1, file-text-fits file))
+-- what is composed is the file's text
+text-composed :
+    (c : tie.After-compose) →
+    (c .compose .result ≤ length (c .compose .last .1 .0)) × (take (c .compose .result) (c .compose .last .1 .0) ≡ fileText (c .before .before .before .before .args .file .now))
+text-composed c = composed _ _ _ (file-text-fits _) (c .compose .ensures .0) (c .compose .ensures .1)
 
 array-share-prefix-whole : tie.Need-array-share-prefix-whole
-array-share-prefix-whole c =
-    composed-fits _ _ _ refl (c .before .before .compose .ensures .0) (c .before .before .compose .ensures .1)
+array-share-prefix-whole c = text-composed (c .before) .0
 
-slice-aggregate-put-bytes : tie.Need-slice-aggregate-put-bytes
-slice-aggregate-put-bytes c =
-    let made = c .before .before .before .compose in
-    sym (length-take-le _ _ (composed-fits _ _ _ refl (made .ensures .0) (made .ensures .1)))
+slice-aggregate-copied : tie.Need-slice-aggregate-copied
+slice-aggregate-copied c = sym (length-take-le _ _ (text-composed (c .before .before) .0))
 
-put-bytes-requires : tie.Need-put-bytes-requires
-put-bytes-requires c κs =
-    let made = c .before .before .before .before .compose in
-    let fits = composed-fits _ _ _ refl (made .ensures .0) (made .ensures .1) in
-    omega (arith, length-take-le (made .result) (made .last .1 .0) fits)
+copied-requires : tie.Need-copied-requires
+copied-requires c κs = search needs
 
 same-length : tie.Need-same-length
 same-length c = search needs
 
-returns-2 : tie.Need-returns-2
-returns-2 c =
-    let made = c .before .before .before .before .before .before .before in
-    let file = made .before .before .before .before .args .file .now in
-    let text = made .before .before .before .before .args .text .now in
-    let copied = text-copied (fileText file) text _ _ (made .compose .ensures .0) (made .compose .ensures .1) (file-text-fits file) (omega arith) (c .before .before .put-bytes .ensures .1) in
-    (copied .0, (copied .1, file-text-fits file))
+returns : tie.Need-returns
+returns c =
+    let call = c .before .before in
+    let made = call .before .before .before .before in
+    let x = made .before .before .before .before .args in
+    let written = composed-copied (fileText (x .file .now)) (x .text .now) _ (text-composed made .1) (call .copied .ensures) in
+    (written .0, (written .1, file-text-fits (x .file .now)))
 
 pub report-spec : {M : Type 1} → statement M
 report-spec =
@@ -53,9 +47,8 @@ report-spec =
     (tie.spec
     slice-aggregate-compose
     compose-requires
-    returns
     array-share-prefix-whole
-    slice-aggregate-put-bytes
-    put-bytes-requires
+    slice-aggregate-copied
+    copied-requires
     same-length
-    returns-2)
+    returns)

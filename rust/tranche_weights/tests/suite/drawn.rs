@@ -1,9 +1,10 @@
 //! Sheets drawn by a seeded generator: each is built, and the library refuses none of them but by 13; the least weights
-//! of its lines lie near the weights (document 02, S-6).
+//! of its lines lie near the weights (document 02, S-6); the sums of its blocks are those of their rows (S-7).
 
+use crate::block_sums::hold_blocks;
 use crate::checked_deal::file_of;
 use crate::places::{
-    affirmed, affirmed_on, affirms, fact, first_row, first_tranche, irb_count, tranche_count, COMPOSITION,
+    affirmed, affirmed_on, affirms, fact, first_row, first_tranche, irb_count, rows, tranche_count, COMPOSITION,
     DUE_DILIGENCE, POOL_KIND, REPORTING_DATE, RESECURITISATION, STC,
 };
 use crate::texts::text_of;
@@ -220,7 +221,7 @@ fn built(words: &[u64]) -> Result<Sheet, SheetError> {
         .with_due_diligence_held(affirms(words, DUE_DILIGENCE))
         .with_pool_composition_known(affirms(words, COMPOSITION))
         .with_reporting_date(reporting_date);
-    let rows = words[first_row(words)..tranche_count(words)].chunks(ROW_WORDS);
+    let rows = rows(words);
     let tranches = &words[first_tranche(words)..irb_count(words)];
     if affirms(words, RESECURITISATION) {
         let mut builder = SheetBuilder::resecuritisation(facts);
@@ -346,5 +347,25 @@ fn a_least_weight_is_near_its_weight() -> Result<(), SheetError> {
     }
     let counts = seen.as_flattened();
     assert_eq!(counts.iter().filter(|count| **count >= 20).count(), 7, "{seen:?}");
+    Ok(())
+}
+
+/// Every built sheet has the sums of its blocks, also where a tranche is too thin to be weighed.
+#[test]
+fn a_built_sheet_has_its_block_sums() -> Result<(), SheetError> {
+    let mut generator = Generator(0x626c_6f63_6b73_0001);
+    let [mut weighed, mut refused] = [0; 2];
+    for _ in 0..900 {
+        let words = generator.words();
+        let sheet = built(&words)?;
+        hold_blocks(&words, |block| sheet.block_sums(block));
+        let count = if sheet.weigh().is_ok() {
+            &mut weighed
+        } else {
+            &mut refused
+        };
+        *count += 1;
+    }
+    assert!(weighed >= 100 && refused >= 20, "{weighed} {refused}");
     Ok(())
 }

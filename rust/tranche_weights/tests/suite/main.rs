@@ -2,6 +2,7 @@
 
 #![forbid(unsafe_code)]
 
+mod block_sums;
 mod build_script;
 mod builder;
 mod checked_deal;

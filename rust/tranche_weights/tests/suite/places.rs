@@ -113,6 +113,11 @@ pub fn first_figure(words: &[u64]) -> usize {
     irb_count(words) + 1
 }
 
+/// The rows of a sheet.
+pub fn rows(words: &[u64]) -> impl Iterator<Item = &[u64]> {
+    words[first_row(words)..tranche_count(words)].chunks(ROW_WORDS)
+}
+
 /// The places of the rows' statuses.
 pub fn statuses(words: &[u64]) -> impl Iterator<Item = usize> {
     (first_row(words) + STATUS..tranche_count(words)).step_by(ROW_WORDS)

@@ -168,8 +168,13 @@ fn refused_dates() -> Vec<(Vec<u64>, u64, u64, Reason)> {
     all.collect()
 }
 
+/// Words refused by the library, each with number, place and reason: all of those above.
+pub fn refused() -> Vec<(Vec<u64>, u64, u64, Reason)> {
+    [refused_words(), refused_dates(), refused_sections(), refused_deals()].concat()
+}
+
 /// Holds a refusal to number, place and reason, and its print to the report's.
-fn hold(refusal: Refusal, number: u64, place: u64, reason: Reason) {
+pub fn hold(refusal: Refusal, number: u64, place: u64, reason: Reason) {
     assert_eq!(
         (refusal.number(), refusal.place(), refusal.reason()),
         (number, place, reason)
@@ -182,9 +187,7 @@ fn hold(refusal: Refusal, number: u64, place: u64, reason: Reason) {
 #[test]
 fn refused_words_leave_the_results() {
     let before: Vec<u64> = (900..).take(RESULT_WORDS).collect();
-    for (words, number, place, reason) in
-        [refused_words(), refused_dates(), refused_sections(), refused_deals()].concat()
-    {
+    for (words, number, place, reason) in refused() {
         let mut results = before.clone();
         hold(weigh_words(&words, &mut results).unwrap_err(), number, place, reason);
         assert_eq!(reply_to_words(&words, &mut results), Reply::refusing(number, place));

@@ -38,9 +38,9 @@ fn the_report_on_a_refused_file_names_number_and_place() {
     assert_eq!(report(&file[..file.len() - 1]), "refused 15 at 0\n");
 }
 
-/// The file of a deal with the most facts, rows and tranches and an IRB section, every amount, maturity and figure at its
-/// limit and all of it held.
-pub fn largest_file() -> Vec<u8> {
+/// The words of a deal with the most facts, rows and tranches and an IRB section, every amount, maturity and figure at
+/// its limit and all of it held.
+pub fn largest_sheet() -> Vec<u64> {
     let [reporting_date, maturity] = [2000, 2100].map(|year| Date::new(year, 1, 1).expect("a day of these years"));
     let rows: [[u64; ROW_WORDS]; MOST_ROWS] = [[10_000_000_000, 10_000_000_000, 1250, 0]; MOST_ROWS];
     let tranche: [u64; TRANCHE_WORDS] = [10_000_000_000_000, 1, maturity.word(), 10_000_000_000_000, 0, 0, 0];
@@ -49,11 +49,12 @@ pub fn largest_file() -> Vec<u8> {
     let facts = affirmed_on(reporting_date, &[DUE_DILIGENCE, COMPOSITION, STC]);
     let pool = [&facts[..], &counts[..1], rows.as_flattened()].concat();
     let sections = [&pool, &counts[1..], tranches.as_flattened()].concat();
-    file_of(&with_irb(
-        &sections,
-        1,
-        [1_000_000, 1_000_000, 1_000_000, 1, 1_000_000, 125_000],
-    ))
+    with_irb(&sections, 1, [1_000_000, 1_000_000, 1_000_000, 1, 1_000_000, 125_000])
+}
+
+/// Its file.
+pub fn largest_file() -> Vec<u8> {
+    file_of(&largest_sheet())
 }
 
 /// The largest deal's file is the longest that is read.

@@ -1,0 +1,39 @@
+-- `sum_block`: where the words are good the sums are the block's, and a refusal by the words is handed on. No axioms.
+use borrow.Author.Needs.{needs}
+use Rattle.judgement.proofs.WordsLaw.{laid-out}
+use Rattle.pool.proofs.SummedPoolLaw.{good-words, bad-words, summed-block, refused-block}
+use Rattle.pool.proofs.sum_block.Statement.{statement}
+use Rattle.pool.proofs.sum_block.Tie as tie
+
+judge-words-requires : tie.Need-judge-words-requires
+judge-words-requires c κs = search needs
+
+enum-known-words : tie.Need-enum-known-words
+enum-known-words c = search needs
+
+block-or-none-requires : tie.Need-block-or-none-requires
+block-or-none-requires c κs =
+    let both = good-words _ _ _ (c .before .before .before .judge-words .ensures .0) (c .before .words .given .1) in
+    laid-out _ _ (both .0) (both .1)
+
+enum-known-words-2 : tie.Need-enum-known-words-2
+enum-known-words-2 c = search needs
+
+returns : tie.Need-returns
+returns c =
+    let both = good-words _ _ _ (c .before .before .before .before .judge-words .ensures .0) (c .before .before .words .given .1) in
+    summed-block _ _ _ (both .0) (c .block-or-none .ensures)
+
+returns-2 : tie.Need-returns-2
+returns-2 c = refused-block _ _ _ (bad-words _ _ _ (c .before .before .before .judge-words .ensures .0) (c .before .words2 .given .1))
+
+pub sum-block-spec : {M : Type 1} → statement M
+sum-block-spec =
+    tie.close
+    (tie.spec
+    judge-words-requires
+    enum-known-words
+    block-or-none-requires
+    enum-known-words-2
+    returns
+    returns-2)

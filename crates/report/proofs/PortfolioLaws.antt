@@ -1,0 +1,124 @@
+-- The text of totals by portfolio: what each line is made of, and that no text is longer than its room. No axioms.
+use mathlib.Core.Bool.{Bool, true, false}
+use mathlib.Core.List.{List, [], _∷_, _++_}
+use mathlib.Core.Path.{_≡_, refl, sym, ap, _∙_}
+use Prim.Native.Nat.{ℕ, zero, suc, _+_, _*_, min, _≤_, _<_}
+use native.Mathlib.Nat.{zero-add}
+use native.Mathlib.Omega.{arith}
+use lib.ListN.{length, length-append}
+use lib.Seq.{sets}
+use Rattle.limits.specs.SheetSize.{blockSize, blocksMost}
+use Rattle.numbers.specs.Rounding.{roundedUp}
+use Rattle.numbers.proofs.Tests.{at-cond}
+use Rattle.files.specs.FileForm.{goodLength, fileWords}
+use Rattle.charge.specs.declared.Sums.{Sums}
+use Rattle.judgement.specs.DealSheet.{rows}
+use Rattle.judgement.specs.Refusals.{wordsVerdict}
+use Rattle.judgement.specs.declared.Refusal.{Refusal}
+use Rattle.judgement.specs.declared.Verdict.{Verdict}
+use Rattle.judgement.specs.declared.Verdict.the-variants.{Sound, Faulty}
+use Rattle.judgement.specs.declared.Layout.{Layout}
+use Rattle.judgement.proofs.JudgeSteps.{needed-sound}
+use Rattle.judgement.proofs.LayoutLaws.{rows-is}
+use Rattle.judgement.proofs.WordsLaw.{laid-out}
+use Rattle.pool.specs.PoolSums.{poolSums}
+use Rattle.pool.specs.BlockSums.{blockSums, blocks, sumWords}
+use Rattle.pool.specs.SummedBlock.{blockNumbers, sumsRead}
+use Rattle.pool.specs.SummedPool.{OpenPool}
+use Rattle.pool.proofs.BlockLaws.{blocks-within}
+use Rattle.report.specs.ReportText.{ascii, spaced, refusalLine, spacedRoom}
+use Rattle.report.specs.PortfolioText.{blockLine, blockLines, poolLine, totalsText, totalsFor, fileTotals, totalsRoom}
+use Rattle.report.proofs.TextLaws.{put-behind, length-spaced, length-labelled}
+
+-- ---- lines
+
+-- a block's line is that of its number, its rows and its sums
+pub block-line-put :
+    (old : List ℕ) (n b at first last : ℕ) (q : Sums) {end : ℕ} {new : List ℕ} →
+    (end ≡ at + length (spaced b (first ∷ last ∷ sumWords q))) × (new ≡ sets old at (spaced b (first ∷ last ∷ sumWords q))) →
+    first ≡ suc (blockSize * b) → last ≡ min n (blockSize * b + blockSize) →
+    (end ≡ at + length (blockLine n b q)) × (new ≡ sets old at (blockLine n b q))
+block-line-put old n b at first last q put f l = rw (f, l) at put
+
+-- of an opened pool the rows and the sums of a block are the sheet's
+module _ (s : List ℕ) (l : Layout) (sums : Sums) (opened : OpenPool s l sums) where
+  pub rows-read : l .rows ≡ rows s
+  rows-read = rows-is s l (laid-out s l (opened .sound) (opened .is-layout))
+
+  pub blocks-read : (k : ℕ) → k ≡ roundedUp (l .rows) blockSize → (k ≡ blocks s) × (k ≤ blocksMost)
+  blocks-read k is =
+      let all = is ∙ ap (λ (n : ℕ). roundedUp n blockSize) rows-read in
+      (all, rw all (blocks-within s (needed-sound s (opened .sound)) .0))
+
+  sums-are : (b : ℕ) → sumsRead (blockNumbers s b) ≡ blockSums s b
+  unfolding blockNumbers
+  sums-are b = rw (opened .sound) refl
+
+  pub block-read : (b : ℕ) (q : Sums) → q ≡ sumsRead (blockNumbers s b) → blockLine (l .rows) b q ≡ blockLine (rows s) b (blockSums s b)
+  block-read b q is = rw (rows-read, is ∙ sums-are b) refl
+
+-- ---- how long a text can be
+
+pub length-block-lines : (s : List ℕ) (n : ℕ) → length (blockLines s n) ≤ spacedRoom 9 * n
+unfolding blockLines
+length-block-lines s zero = omega arith
+length-block-lines s (suc n) =
+    let line = blockLine (rows s) n (blockSums s n) in
+    omega (arith, length-append (blockLines s n) line, length-block-lines s n, length-spaced n (suc (blockSize * n) ∷ min (rows s) (blockSize * n + blockSize) ∷ sumWords (blockSums s n)))
+
+length-pool-line : (q : Sums) → length (poolLine q) ≤ 6 + spacedRoom 6
+unfolding ascii
+length-pool-line q =
+    omega (arith, length-spaced (q .all .exposure) (q .all .nominal ∷ q .all .weighted ∷ q .known .exposure ∷ q .known .nominal ∷ q .known .weighted ∷ q .late ∷ []))
+
+pub length-totals-text : (s : List ℕ) → wordsVerdict s ≡ Sound → length (totalsText s) ≤ totalsRoom
+unfolding totalsText
+length-totals-text s sound =
+    omega (
+      arith,
+      length-append (blockLines s (blocks s)) (poolLine (poolSums s)),
+      length-block-lines s (blocks s),
+      blocks-within s (needed-sound s sound) .0,
+      length-pool-line (poolSums s),
+    )
+
+length-totals-for : (s : List ℕ) (v : Verdict) → wordsVerdict s ≡ v → length (totalsFor s v) ≤ totalsRoom
+unfolding ascii
+length-totals-for s Sound sound = length-totals-text s sound
+length-totals-for s (Faulty r) faulty = omega (arith, length-labelled "refused " " at " (r .number) (r .place))
+
+pub file-totals-fit : (file : List ℕ) → length (fileTotals file) ≤ totalsRoom
+unfolding fileTotals ascii
+file-totals-fit file =
+    at-cond (λ (t : List ℕ). length t ≤ totalsRoom) (goodLength file) _ _
+    (λ _. length-totals-for (fileWords file) (wordsVerdict (fileWords file)) refl)
+    (λ _. omega (arith, length-labelled "refused " " at " 15 0))
+
+-- ---- the text of a sheet
+
+-- the blocks' lines and the pool's, one after the other
+pub totals-put :
+    (s old : List ℕ) {m end : ℕ} {middle new : List ℕ} →
+    (m ≡ length (blockLines s (blocks s))) × (middle ≡ sets old 0 (blockLines s (blocks s))) →
+    (end ≡ m + length (poolLine (poolSums s))) × (new ≡ sets middle m (poolLine (poolSums s))) →
+    (end ≡ length (totalsText s)) × (new ≡ sets old 0 (totalsText s))
+unfolding totalsText
+totals-put s old first second =
+    let both = put-behind old 0 (blockLines s (blocks s)) (poolLine (poolSums s)) (first .0 ∙ sym (zero-add _), first .1) second in
+    (both .0 ∙ zero-add _, both .1)
+
+pub sound-text : (s : List ℕ) → wordsVerdict s ≡ Sound → totalsText s ≡ totalsFor s (wordsVerdict s)
+sound-text s sound = rw sound refl
+
+pub faulty-text : (s : List ℕ) (r : Refusal) → wordsVerdict s ≡ Faulty r → refusalLine (r .number) (r .place) ≡ totalsFor s (wordsVerdict s)
+faulty-text s r faulty = rw faulty refl
+
+-- ---- the text of a file
+
+pub bad-length-totals : (file : List ℕ) → goodLength file ≡ false → refusalLine 15 0 ≡ fileTotals file
+unfolding fileTotals
+bad-length-totals file bad = rw bad refl
+
+pub loaded-totals : (file words : List ℕ) → goodLength file ≡ true → words ≡ fileWords file → totalsFor words (wordsVerdict words) ≡ fileTotals file
+unfolding fileTotals
+loaded-totals file words good is = rw (good, is) refl
