@@ -138,11 +138,11 @@ block-filled s each b q among before is = record {
 -- ---- the blocks of an accepted sheet
 
 module _ (s : List ℕ) (accepted : judged s (needed s) ≡ Sound) where
-  -- they are at most 20, and reach the last row
-  pub blocks-within : (blocks s ≤ blocksMost) × (rows s ≤ blockSize * blocks s)
+  -- they reach the last row, and are at most 20
+  pub blocks-within : (rows s ≤ blockSize * blocks s) × (blocks s ≤ blocksMost)
   blocks-within =
       let few = rows-within s (pool-counted s accepted) in
-      (rounded-up-at-most (rows s) blockSize blocksMost (omega arith), omega (arith, rounded-up-at-least (rows s) blockSize (omega arith)))
+      (omega (arith, rounded-up-at-least (rows s) blockSize (omega arith)), rounded-up-at-most (rows s) blockSize blocksMost (omega arith))
 
   pub block-limits : (b : ℕ) → SumsLimits (blockSums s b) blockSize
   unfolding blockSums
@@ -158,10 +158,10 @@ module _ (s : List ℕ) (accepted : judged s (needed s) ≡ Sound) where
   -- an array that holds the sums of all n blocks: they are at most 20, within their limits, and over the blocks they are the pool's
   module _ (n : ℕ) (each : List Sums) (all : n ≡ blocks s) (filled : Subtotals s n each) where
     pub filled-few : n ≤ blocksMost
-    filled-few = rw all (blocks-within .0)
+    filled-few = rw all (blocks-within .1)
 
     pub filled-limits : (b : ℕ) → b < n → SumsLimits (getD each b noSums) blockSize
     filled-limits b l = rw (filled .at-block b l) (block-limits b)
 
     pub filled-total : overBlocks (λ b. getD each b noSums) n ≡ poolSums s
-    filled-total = over-same (λ b. getD each b noSums) (λ b. blockSums s b) n (filled .at-block) ∙ every-total s n (rw all (blocks-within .1))
+    filled-total = over-same (λ b. getD each b noSums) (λ b. blockSums s b) n (filled .at-block) ∙ every-total s n (rw all (blocks-within .0))

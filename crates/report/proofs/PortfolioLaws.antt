@@ -9,7 +9,6 @@ use lib.ListN.{length, length-append}
 use lib.Seq.{sets}
 use Rattle.limits.specs.SheetSize.{blockSize, blocksMost}
 use Rattle.numbers.specs.Rounding.{roundedUp}
-use Rattle.numbers.proofs.Tests.{at-cond}
 use Rattle.files.specs.FileForm.{goodLength, fileWords}
 use Rattle.charge.specs.declared.Sums.{Sums}
 use Rattle.judgement.specs.DealSheet.{rows}
@@ -30,6 +29,16 @@ use Rattle.report.specs.ReportText.{ascii, spaced, refusalLine, spacedRo
 use Rattle.report.specs.PortfolioText.{blockLine, blockLines, poolLine, totalsText, totalsFor, fileTotals, totalsRoom}
 use Rattle.report.proofs.TextLaws.{put-behind, length-spaced, length-labelled}
 
+-- ---- the text of a file
+
+pub bad-length-totals : (file : List ℕ) → goodLength file ≡ false → refusalLine 15 0 ≡ fileTotals file
+unfolding fileTotals
+bad-length-totals file bad = rw bad refl
+
+pub loaded-totals : (file words : List ℕ) → goodLength file ≡ true → words ≡ fileWords file → totalsFor words (wordsVerdict words) ≡ fileTotals file
+unfolding fileTotals
+loaded-totals file words good is = rw (good, is) refl
+
 -- ---- lines
 
 -- a block's line is that of its number, its rows and its sums
@@ -48,7 +57,7 @@ module _ (s : List ℕ) (l : Layout) (sums : Sums) (opened : OpenPool s l sums) 
   pub blocks-read : (k : ℕ) → k ≡ roundedUp (l .rows) blockSize → (k ≡ blocks s) × (k ≤ blocksMost)
   blocks-read k is =
       let all = is ∙ ap (λ (n : ℕ). roundedUp n blockSize) rows-read in
-      (all, rw all (blocks-within s (needed-sound s (opened .sound)) .0))
+      (all, rw all (blocks-within s (needed-sound s (opened .sound)) .1))
 
   sums-are : (b : ℕ) → sumsRead (blockNumbers s b) ≡ blockSums s b
   unfolding blockNumbers
@@ -78,21 +87,26 @@ length-totals-text s sound =
       arith,
       length-append (blockLines s (blocks s)) (poolLine (poolSums s)),
       length-block-lines s (blocks s),
-      blocks-within s (needed-sound s sound) .0,
+      blocks-within s (needed-sound s sound) .1,
       length-pool-line (poolSums s),
     )
 
-length-totals-for : (s : List ℕ) (v : Verdict) → wordsVerdict s ≡ v → length (totalsFor s v) ≤ totalsRoom
+length-refusal-totals : (number place : ℕ) → length (refusalLine number place) ≤ totalsRoom
 unfolding ascii
+length-refusal-totals number place = omega (arith, length-labelled "refused " " at " number place)
+
+length-totals-for : (s : List ℕ) (v : Verdict) → wordsVerdict s ≡ v → length (totalsFor s v) ≤ totalsRoom
 length-totals-for s Sound sound = length-totals-text s sound
-length-totals-for s (Faulty r) faulty = omega (arith, length-labelled "refused " " at " (r .number) (r .place))
+length-totals-for s (Faulty r) faulty = length-refusal-totals (r .number) (r .place)
 
 pub file-totals-fit : (file : List ℕ) → length (fileTotals file) ≤ totalsRoom
-unfolding fileTotals ascii
-file-totals-fit file =
-    at-cond (λ (t : List ℕ). length t ≤ totalsRoom) (goodLength file) _ _
-    (λ _. length-totals-for (fileWords file) (wordsVerdict (fileWords file)) refl)
-    (λ _. omega (arith, length-labelled "refused " " at " 15 0))
+file-totals-fit file = by-length (goodLength file) refl
+  where
+    by-length : (b : Bool) → goodLength file ≡ b → length (fileTotals file) ≤ totalsRoom
+    by-length true e =
+        let words = fileWords file in
+        rw (← loaded-totals file words e refl) (length-totals-for words (wordsVerdict words) refl)
+    by-length false e = rw (← bad-length-totals file e) (length-refusal-totals 15 0)
 
 -- ---- the text of a sheet
 
@@ -112,13 +126,3 @@ sound-text s sound = rw sound refl
 
 pub faulty-text : (s : List ℕ) (r : Refusal) → wordsVerdict s ≡ Faulty r → refusalLine (r .number) (r .place) ≡ totalsFor s (wordsVerdict s)
 faulty-text s r faulty = rw faulty refl
-
--- ---- the text of a file
-
-pub bad-length-totals : (file : List ℕ) → goodLength file ≡ false → refusalLine 15 0 ≡ fileTotals file
-unfolding fileTotals
-bad-length-totals file bad = rw bad refl
-
-pub loaded-totals : (file words : List ℕ) → goodLength file ≡ true → words ≡ fileWords file → totalsFor words (wordsVerdict words) ≡ fileTotals file
-unfolding fileTotals
-loaded-totals file words good is = rw (good, is) refl

@@ -19,8 +19,8 @@ blockReply number place words = record { number = number; place = place; words =
 
 -- by what the block came to
 abbrev pub replyFor : Outcome Sums → BlockReply
-replyFor (refusedWith number place) = blockReply number place (sumWords (sumsRead (refusedWith number place)))
-replyFor (found q) = blockReply 0 0 (sumWords q)
+replyFor (refusedWith number place) = record { number = number; place = place; words = sumWords (sumsRead (refusedWith number place)) }
+replyFor (found q) = record { number = 0; place = 0; words = sumWords q }
 
 -- the reply that block b of a sheet is due
 abbrev pub blockReplyTo : List ℕ → ℕ → BlockReply

@@ -32,7 +32,7 @@ blocks-are c = c .rounded-up .ensures ∙ ap (λ (n : ℕ). roundedUp n blockSiz
 subtotals-requires : tie.Need-subtotals-requires Inv-loop μ-loop
 subtotals-requires c κs =
     let start = c .before .before in
-    (start .pre, rw (blocks-are c) (blocks-within _ (start .pre .good) .0))
+    (start .pre, rw (blocks-are c) (blocks-within _ (start .pre .good) .1))
 
 -- what was made before the loop: the sums of all blocks
 module _ (c : tie.After-subtotals Inv-loop μ-loop) where
