@@ -63,7 +63,7 @@ sum-replaced f g k (suc n) l h =
 -- ---- parts of a sum
 
 -- the first a terms, and those behind them
-pub sum-parted : (f : ℕ → ℕ) (a n : ℕ) → sum f (a + n) ≡ sum f a + sum (λ j. f (a + j)) n
+sum-parted : (f : ℕ → ℕ) (a n : ℕ) → sum f (a + n) ≡ sum f a + sum (λ j. f (a + j)) n
 unfolding sum
 sum-parted f a zero = rw (add-zero a) (omega arith)
 sum-parted f a (suc n) = rw (add-suc a n) (omega (arith, sum-parted f a n))
@@ -83,7 +83,7 @@ sum-from-none f a e l = let none : e - a ≡ 0 = omega arith in rw none refl
 pub sum-from-at-most : (f : ℕ → ℕ) (m a e n : ℕ) → e - a ≤ n → ((i : ℕ) → i < e → f i ≤ m) → sumFrom f a e ≤ m * n
 sum-from-at-most f m a e n few h = omega (arith, sum-at-most (λ j. f (a + j)) m (e - a) (λ j l. h (a + j) (omega arith)), mul-le-mul-left m few)
 
--- the terms up to a, of which there are n, and m more
+-- of n terms those before a, and the next m of them
 next-block : (f : ℕ → ℕ) (m n a : ℕ) → sum f (min n a) + sumFrom f a (min n (a + m)) ≡ sum f (min n (a + m))
 next-block f m n a =
     ⊎-elim

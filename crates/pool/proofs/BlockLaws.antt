@@ -1,28 +1,31 @@
--- The sums of the blocks: over all blocks they are the pool's, past the last they are 0, and what is within the limits of a block. No axioms.
-use mathlib.Core.Bool.{Bool, true}
+-- The sums of the blocks: over all blocks they are the pool's, past the last they are 0, and each is within the limits of its rows. No axioms.
+use mathlib.Core.Bool.{true}
 use mathlib.Core.List.{List}
 use mathlib.Core.Logic.{⊎-elim}
-use mathlib.Core.Path.{_≡_, refl, ap, _∙_}
-use Prim.Native.Nat.{ℕ, _+_, _*_, _-_, min, _≤_, _<_}
+use mathlib.Core.Path.{_≡_, refl, sym, ap, _∙_}
+use Prim.Native.Nat.{ℕ, _+_, _*_, _≤_, _<_}
 use native.Mathlib.Nat.{eq-or-lt-of-le, mul-le-mul-left, not-suc-le-zero, zero-add}
 use native.Mathlib.Omega.{arith}
 use lib.ListN.{length, getD, set}
 use lib.Seq.{getD-set-same, getD-set-other}
 use Rattle.limits.specs.SheetSize.{blockSize, blocksMost}
-use Rattle.numbers.specs.Sum.{sum, blockSum, whereCounted}
+use Rattle.numbers.specs.Rounding.{roundedUp}
+use Rattle.numbers.specs.Sum.{sum, blockStart, blockEnd, blockSum}
 use Rattle.numbers.proofs.RoundingLaws.{rounded-up-at-least, rounded-up-at-most}
-use Rattle.numbers.proofs.SumLaws.{sum-next, sum-same, sum-at-most, sum-of-blocks}
+use Rattle.numbers.proofs.SumLaws.{sum-next, sum-same, sum-at-most, sum-from-none, sum-of-blocks}
 use Rattle.charge.specs.declared.Sums.{Sums}
-use Rattle.charge.specs.declared.Totals.{Totals}
-use Rattle.judgement.specs.DealSheet.{rows, exposure, nominal, needed}
+use Rattle.judgement.specs.DealSheet.{rows, needed}
+use Rattle.judgement.specs.LaidOut.{LaidOut}
 use Rattle.judgement.specs.Refusals.{judged}
+use Rattle.judgement.specs.declared.Layout.{Layout}
 use Rattle.judgement.specs.declared.Verdict.the-variants.{Sound}
+use Rattle.judgement.proofs.LayoutLaws.{rows-is}
 use Rattle.judgement.proofs.SheetLimits.{rows-within, pool-counted}
-use Rattle.pool.specs.PoolSums.{known, delinquent, weightedExposure, totalsBy, poolSums}
-use Rattle.pool.specs.BlockSums.{blockSums, blocks, overBlocks, noTotals, noSums}
-use Rattle.pool.specs.RowTotals.{sumsFrom, withBlock, Subtotals, SumsLimits}
+use Rattle.pool.specs.PoolSums.{known, delinquent, poolSums}
+use Rattle.pool.specs.BlockSums.{blockSums, blocks, overBlocks, noSums}
+use Rattle.pool.specs.RowTotals.{amountMost, weightedMost, sumsFrom, withBlock, Subtotals, SumsOfRows}
 use Rattle.pool.proofs.PoolLaws.{total-limits}
-use Rattle.pool.proofs.TotalsLaws.{totals-none}
+use Rattle.pool.proofs.TotalsLaws.{sums-by-same}
 
 -- ---- block by block
 
@@ -33,7 +36,7 @@ over-none q = refl
 pub over-next : (q : ℕ → Sums) (b : ℕ) → withBlock (overBlocks q b) (q b) ≡ overBlocks q (b + 1)
 over-next q b = simp sum-next
 
-pub over-one : (q : ℕ → Sums) → q 0 ≡ overBlocks q 1
+over-one : (q : ℕ → Sums) → q 0 ≡ overBlocks q 1
 unfolding sum
 over-one q = simp zero-add
 
@@ -56,45 +59,27 @@ part-at-most :
     (q : ℕ → Sums) (part : Sums → ℕ) (limit m n k : ℕ) → m * n ≤ k → ((b : ℕ) → b < n → part (q b) ≤ limit * m) → sum (λ b. part (q b)) n ≤ limit * k
 part-at-most q part limit m n k enough h = omega (arith, sum-at-most (λ b. part (q b)) (limit * m) n h, mul-le-mul-left limit enough)
 
-pub over-limits : (q : ℕ → Sums) (m n k : ℕ) → m * n ≤ k → ((b : ℕ) → b < n → SumsLimits (q b) m) → SumsLimits (overBlocks q n) k
+pub over-limits : (q : ℕ → Sums) (m n k : ℕ) → m * n ≤ k → ((b : ℕ) → b < n → SumsOfRows (q b) m) → SumsOfRows (overBlocks q n) k
 over-limits q m n k enough each = record {
   all-within = record {
-    exposure-most = part-at-most q (λ x. x .all .exposure) 10000000000 m n k enough (λ b l. each b l .all-within .exposure-most);
-    nominal-most = part-at-most q (λ x. x .all .nominal) 10000000000 m n k enough (λ b l. each b l .all-within .nominal-most);
-    weighted-most = part-at-most q (λ x. x .all .weighted) 12500000000000 m n k enough (λ b l. each b l .all-within .weighted-most);
+    exposure-most = part-at-most q (λ x. x .all .exposure) amountMost m n k enough (λ b l. each b l .all-within .exposure-most);
+    nominal-most = part-at-most q (λ x. x .all .nominal) amountMost m n k enough (λ b l. each b l .all-within .nominal-most);
+    weighted-most = part-at-most q (λ x. x .all .weighted) weightedMost m n k enough (λ b l. each b l .all-within .weighted-most);
   };
   known-within = record {
-    exposure-most = part-at-most q (λ x. x .known .exposure) 10000000000 m n k enough (λ b l. each b l .known-within .exposure-most);
-    nominal-most = part-at-most q (λ x. x .known .nominal) 10000000000 m n k enough (λ b l. each b l .known-within .nominal-most);
-    weighted-most = part-at-most q (λ x. x .known .weighted) 12500000000000 m n k enough (λ b l. each b l .known-within .weighted-most);
+    exposure-most = part-at-most q (λ x. x .known .exposure) amountMost m n k enough (λ b l. each b l .known-within .exposure-most);
+    nominal-most = part-at-most q (λ x. x .known .nominal) amountMost m n k enough (λ b l. each b l .known-within .nominal-most);
+    weighted-most = part-at-most q (λ x. x .known .weighted) weightedMost m n k enough (λ b l. each b l .known-within .weighted-most);
   };
-  late-most = part-at-most q (λ x. x .late) 10000000000 m n k enough (λ b l. each b l .late-most);
+  late-most = part-at-most q (λ x. x .late) amountMost m n k enough (λ b l. each b l .late-most);
 }
 
 -- ---- "Every total equals the old one."
 
--- the totals of rows that count, per block and then over k blocks that reach the last row
-totals-over-blocks :
-    (s : List ℕ) (counts : ℕ → Bool) (k : ℕ) → rows s ≤ blockSize * k →
-    totalsBy s (λ f. sum (λ b. blockSum f blockSize (rows s) b) k) counts ≡ totalsBy s (λ f. sum f (rows s)) counts
-totals-over-blocks s counts k reach =
-    rw (
-      sum-of-blocks (λ i. whereCounted (counts i) (exposure s i)) blockSize (rows s) k reach,
-      sum-of-blocks (λ i. whereCounted (counts i) (nominal s i)) blockSize (rows s) k reach,
-      sum-of-blocks (λ i. whereCounted (counts i) (weightedExposure s i)) blockSize (rows s) k reach,
-    ) refl
-
--- sums whose parts are equal
-same-parts : (q p : Sums) → q .all ≡ p .all → q .known ≡ p .known → q .late ≡ p .late → q ≡ p
-same-parts q p all known late = rw (all, known, late) refl
-
 pub every-total : (s : List ℕ) (k : ℕ) → rows s ≤ blockSize * k → overBlocks (λ b. blockSums s b) k ≡ poolSums s
 unfolding blockSums poolSums
 every-total s k reach =
-    same-parts (overBlocks (λ b. blockSums s b) k) (poolSums s)
-    (totals-over-blocks s (λ i. true) k reach)
-    (totals-over-blocks s (λ i. known s i) k reach)
-    (ap (λ (t : Totals). t .nominal) (totals-over-blocks s (λ i. delinquent s i) k reach))
+    sums-by-same s (λ f. sum (λ b. blockSum f blockSize (rows s) b) k) (λ f. sum f (rows s)) (λ f. sum-of-blocks f blockSize (rows s) k reach)
 
 -- a pool that its first block holds has that block's sums
 pub one-block : (s : List ℕ) → rows s ≤ blockSize → blockSums s 0 ≡ poolSums s
@@ -102,21 +87,19 @@ one-block s few = over-one (λ b. blockSums s b) ∙ every-total s 1 (omega arit
 
 -- ---- "past the last the sums read 0"
 
-totals-past-the-last :
-    (s : List ℕ) (counts : ℕ → Bool) (b : ℕ) → rows s ≤ blockSize * b → noTotals ≡ totalsBy s (λ f. blockSum f blockSize (rows s) b) counts
-totals-past-the-last s counts b past = totals-none s counts (blockSize * b) (min (rows s) (blockSize * b + blockSize)) (omega arith)
-
-pub past-the-last : (s : List ℕ) (b : ℕ) → rows s ≤ blockSize * b → noSums ≡ blockSums s b
+-- a block that begins behind the last row
+pub no-rows-left : (s : List ℕ) (b : ℕ) → rows s ≤ blockSize * b → noSums ≡ blockSums s b
 unfolding blockSums
-past-the-last s b past =
-    same-parts noSums (blockSums s b)
-    (totals-past-the-last s (λ i. true) b past)
-    (totals-past-the-last s (λ i. known s i) b past)
-    (ap (λ (t : Totals). t .nominal) (totals-past-the-last s (λ i. delinquent s i) b past))
+no-rows-left s b past =
+    sums-by-same s (λ f. 0) (λ f. blockSum f blockSize (rows s) b)
+    (λ f. sym (sum-from-none f (blockStart blockSize b) (blockEnd blockSize (rows s) b) (omega arith)))
+
+pub past-the-last : (s : List ℕ) (b : ℕ) → blocks s ≤ b → noSums ≡ blockSums s b
+past-the-last s b past = no-rows-left s b (omega (arith, rounded-up-at-least (rows s) blockSize (omega arith)))
 
 -- the sums over a block's rows
 pub block-made :
-    (s : List ℕ) (b first end : ℕ) (q : Sums) → first ≡ blockSize * b → end ≡ min (rows s) (blockSize * b + blockSize) → q ≡ sumsFrom s first end → q ≡ blockSums s b
+    (s : List ℕ) (b first end : ℕ) (q : Sums) → first ≡ blockStart blockSize b → end ≡ blockEnd blockSize (rows s) b → q ≡ sumsFrom s first end → q ≡ blockSums s b
 unfolding blockSums
 block-made s b first end q from to is = is ∙ rw (from, to) refl
 
@@ -144,24 +127,29 @@ module _ (s : List ℕ) (accepted : judged s (needed s) ≡ Sound) where
       let few = rows-within s (pool-counted s accepted) in
       (omega (arith, rounded-up-at-least (rows s) blockSize (omega arith)), rounded-up-at-most (rows s) blockSize blocksMost (omega arith))
 
-  pub block-limits : (b : ℕ) → SumsLimits (blockSums s b) blockSize
+  pub block-limits : (b : ℕ) → SumsOfRows (blockSums s b) blockSize
   unfolding blockSums
   block-limits b =
-      let first = blockSize * b in
-      let end = min (rows s) (first + blockSize) in
+      let first = blockStart blockSize b in
+      let end = blockEnd blockSize (rows s) b in
       record {
         all-within = total-limits s accepted (λ i. true) first end blockSize (omega arith) (omega arith);
         known-within = total-limits s accepted (λ i. known s i) first end blockSize (omega arith) (omega arith);
         late-most = total-limits s accepted (λ i. delinquent s i) first end blockSize (omega arith) (omega arith) .nominal-most;
       }
 
-  -- an array that holds the sums of all n blocks: they are at most 20, within their limits, and over the blocks they are the pool's
-  module _ (n : ℕ) (each : List Sums) (all : n ≡ blocks s) (filled : Subtotals s n each) where
-    pub filled-few : n ≤ blocksMost
-    filled-few = rw all (blocks-within .1)
-
-    pub filled-limits : (b : ℕ) → b < n → SumsLimits (getD each b noSums) blockSize
+  -- an array that holds the sums of the first n blocks: each is within its limits, and where these are all blocks, over them they are the pool's
+  module _ (n : ℕ) (each : List Sums) (filled : Subtotals s n each) where
+    pub filled-limits : (b : ℕ) → b < n → SumsOfRows (getD each b noSums) blockSize
     filled-limits b l = rw (filled .at-block b l) (block-limits b)
 
-    pub filled-total : overBlocks (λ b. getD each b noSums) n ≡ poolSums s
-    filled-total = over-same (λ b. getD each b noSums) (λ b. blockSums s b) n (filled .at-block) ∙ every-total s n (rw all (blocks-within .0))
+    pub filled-total : n ≡ blocks s → overBlocks (λ b. getD each b noSums) n ≡ poolSums s
+    filled-total all =
+        over-same (λ b. getD each b noSums) (λ b. blockSums s b) n (filled .at-block) ∙ every-total s n (rw all (blocks-within .0))
+
+-- the blocks counted from the layout
+pub blocks-counted :
+    (s : List ℕ) (l : Layout) → LaidOut s l → (k : ℕ) → k ≡ roundedUp (l .rows) blockSize → (k ≡ blocks s) × (k ≤ blocksMost)
+blocks-counted s l laid k is =
+    let all = is ∙ ap (λ (n : ℕ). roundedUp n blockSize) (rows-is s l laid) in
+    (all, rw all (blocks-within s (laid .good) .1))

@@ -3,7 +3,7 @@
 use mathlib.Core.Bool.{Bool, true, false, not}
 use mathlib.Core.List.{List}
 use mathlib.Core.Path.{_≡_, refl, ap}
-use Prim.Native.Nat.{ℕ, _+_, _*_, _-_, _≤_, _<_}
+use Prim.Native.Nat.{ℕ, _*_, _-_, _≤_, _<_}
 use native.Mathlib.Nat.{le-refl, mul-le-mul-left}
 use native.Mathlib.Omega.{arith}
 use borrow.Author.Tests.{leb-true, eqb-true, ne-eqb}
@@ -16,7 +16,7 @@ use Rattle.judgement.specs.Refusals.{judged}
 use Rattle.judgement.specs.declared.Verdict.the-variants.{Sound}
 use Rattle.judgement.proofs.SheetLimits.{good-row, rows-within, pool-counted}
 use Rattle.pool.specs.PoolSums.{known, delinquent, weightedExposure, poolSums}
-use Rattle.pool.specs.RowTotals.{totalsFrom, unknown, markedFrom, TotalLimits, MarkedLimits}
+use Rattle.pool.specs.RowTotals.{amountMost, weightedMost, totalsFrom, unknown, markedFrom, TotalsOfRows, MarkedOfRows}
 
 -- ---- a number where it counts
 
@@ -47,22 +47,22 @@ module _ (s : List ℕ) (accepted : judged s (needed s) ≡ Sound) where
       ap not (ne-eqb (status s i) 2 (λ two. omega arith))
 
   -- the totals of those of the rows from a to before e that count, which are at most n rows
-  pub total-limits : (counts : ℕ → Bool) (a e n : ℕ) → e ≤ rows s → e - a ≤ n → TotalLimits (totalsFrom s counts a e) n
+  pub total-limits : (counts : ℕ → Bool) (a e n : ℕ) → e ≤ rows s → e - a ≤ n → TotalsOfRows (totalsFrom s counts a e) n
   total-limits counts a e n within few = record {
     exposure-most =
-        sum-from-at-most (λ i. whereCounted (counts i) (exposure s i)) 10000000000 a e n few
-        (λ i l. counted-within (counts i) (exposure s i) 10000000000 (good-row s i accepted (omega arith) .exposure-most));
+        sum-from-at-most (λ i. whereCounted (counts i) (exposure s i)) amountMost a e n few
+        (λ i l. counted-within (counts i) (exposure s i) amountMost (good-row s i accepted (omega arith) .exposure-most));
     nominal-most =
-        sum-from-at-most (λ i. whereCounted (counts i) (nominal s i)) 10000000000 a e n few
-        (λ i l. counted-within (counts i) (nominal s i) 10000000000 (good-row s i accepted (omega arith) .nominal-most));
+        sum-from-at-most (λ i. whereCounted (counts i) (nominal s i)) amountMost a e n few
+        (λ i l. counted-within (counts i) (nominal s i) amountMost (good-row s i accepted (omega arith) .nominal-most));
     weighted-most =
-        sum-from-at-most (λ i. whereCounted (counts i) (weightedExposure s i)) 12500000000000 a e n few
+        sum-from-at-most (λ i. whereCounted (counts i) (weightedExposure s i)) weightedMost a e n few
         (λ i l.
-        counted-within (counts i) (weightedExposure s i) 12500000000000
+        counted-within (counts i) (weightedExposure s i) weightedMost
         (omega (arith, row-weighted i (omega arith), good-row s i accepted (omega arith) .exposure-most)));
   }
 
-  pub marked-limits : (a e n : ℕ) → e ≤ rows s → e - a ≤ n → MarkedLimits (markedFrom s a e) n
+  pub marked-limits : (a e n : ℕ) → e ≤ rows s → e - a ≤ n → MarkedOfRows (markedFrom s a e) n
   marked-limits a e n within few = record {
     unknown-within = total-limits (λ i. unknown s i) a e n within few;
     late-most = total-limits (λ i. delinquent s i) a e n within few .nominal-most;

@@ -1,7 +1,7 @@
 -- Totals over some rows that count: none, one row more, and how the seven sums over these rows are made of three of them. No axioms.
 use mathlib.Core.Bool.{Bool, true, false, not, cond}
 use mathlib.Core.List.{List}
-use mathlib.Core.Path.{_≡_, refl, sym, ap, _∙_}
+use mathlib.Core.Path.{_≡_, refl, sym, ap}
 use Prim.Native.Nat.{ℕ, zero, suc, _+_, _-_, _≤_}
 use native.Mathlib.Nat.{add-zero, le-refl}
 use native.Mathlib.Omega.{arith}
@@ -9,22 +9,37 @@ use borrow.Author.Tests.{eq-eqb, ne-eqb}
 use Rattle.judgement.specs.DealSheet.{exposure, nominal, status}
 use Rattle.numbers.specs.Sum.{sum, sumFrom, whereCounted}
 use Rattle.numbers.proofs.SumLaws.{sum-from-next, sum-from-none}
-use Rattle.pool.specs.PoolSums.{delinquent, weightedExposure}
+use Rattle.pool.specs.PoolSums.{known, delinquent, weightedExposure, totalsBy, sumsBy}
 use Rattle.pool.specs.BlockSums.{noTotals}
 use Rattle.pool.specs.RowTotals.{totalsFrom, sumsFrom, unknown, markedFrom, withRow, withMarked}
 use Rattle.pool.specs.declared.Marked.{Marked}
 use Rattle.charge.specs.declared.Sums.{Sums}
 use Rattle.charge.specs.declared.Totals.{Totals}
 
+-- ---- two ways to sum that agree on every number give the same totals, and the same sums
+module _ (s : List ℕ) (t u : (ℕ → ℕ) → ℕ) (same : (f : ℕ → ℕ) → t f ≡ u f) where
+  totals-by-same : (counts : ℕ → Bool) → totalsBy s t counts ≡ totalsBy s u counts
+  totals-by-same counts =
+      rw (
+        same (λ i. whereCounted (counts i) (exposure s i)),
+        same (λ i. whereCounted (counts i) (nominal s i)),
+        same (λ i. whereCounted (counts i) (weightedExposure s i)),
+      ) refl
+
+  pub sums-by-same : sumsBy s t ≡ sumsBy s u
+  sums-by-same =
+      rw (
+        totals-by-same (λ i. true),
+        totals-by-same (λ i. known s i),
+        ap (λ (x : Totals). x .nominal) (totals-by-same (λ i. delinquent s i)),
+      ) refl
+
+-- ---- row by row
+
 module _ (s : List ℕ) (counts : ℕ → Bool) (a : ℕ) where
   -- rows up to one that is not above the first are none
   pub totals-none : (e : ℕ) → e ≤ a → noTotals ≡ totalsFrom s counts a e
-  totals-none e l =
-      rw (
-        sum-from-none (λ i. whereCounted (counts i) (exposure s i)) a e l,
-        sum-from-none (λ i. whereCounted (counts i) (nominal s i)) a e l,
-        sum-from-none (λ i. whereCounted (counts i) (weightedExposure s i)) a e l,
-      ) refl
+  totals-none e l = totals-by-same s (λ f. 0) (λ f. sumFrom f a e) (λ f. sym (sum-from-none f a e l)) counts
 
   -- the same number of rows from the same row on
   pub totals-as-far : (i e : ℕ) → i - a ≡ e - a → totalsFrom s counts a i ≡ totalsFrom s counts a e
@@ -54,7 +69,7 @@ module _ (s : List ℕ) (counts : ℕ → Bool) (a : ℕ) where
   totals-left i l e = rw (add-zero _, add-zero _, add-zero _) at (rw e at (totals-step i l))
 
   -- a row that counts is added, and one that does not leaves the totals
-  pub totals-where :
+  totals-where :
       (i : ℕ) → a ≤ i → cond (counts i) (withRow s (totalsFrom s counts a i) i) (totalsFrom s counts a i) ≡ totalsFrom s counts a (i + 1)
   totals-where i l = by-test (counts i) refl
     where
@@ -62,7 +77,7 @@ module _ (s : List ℕ) (counts : ℕ → Bool) (a : ℕ) where
       by-test true e = rw e (totals-next i l e)
       by-test false e = rw e (totals-left i l e)
 
-  pub nominal-step : (i : ℕ) → a ≤ i → totalsFrom s counts a i .nominal + whereCounted (counts i) (nominal s i) ≡ totalsFrom s counts a (i + 1) .nominal
+  nominal-step : (i : ℕ) → a ≤ i → totalsFrom s counts a i .nominal + whereCounted (counts i) (nominal s i) ≡ totalsFrom s counts a (i + 1) .nominal
   nominal-step i l = ap (λ (t : Totals). t .nominal) (totals-step i l)
 
 -- ---- what is marked, by the row's status
@@ -108,10 +123,15 @@ module _ (s : List ℕ) (first end : ℕ) (a u : Totals) (a-is : a ≡ totalsFro
   abbrev k : Totals
   k = sumsFrom s first end .known
 
+  part-and-rest :
+      (f : ℕ → ℕ) →
+      sumFrom f first end ≡
+      sumFrom (λ i. whereCounted (unknown s i) (f i)) first end + sumFrom (λ i. whereCounted (known s i) (f i)) first end
+  part-and-rest f = two-parts (λ j. f (first + j)) (λ j. unknown s (first + j)) (end - first)
+
   parts : (a .exposure ≡ u .exposure + k .exposure) × ((a .nominal ≡ u .nominal + k .nominal) × (a .weighted ≡ u .weighted + k .weighted))
   parts =
-      let part : (f : ℕ → ℕ) → sumFrom f first end ≡ sumFrom (λ i. whereCounted (unknown s i) (f i)) first end + sumFrom (λ i. whereCounted (not (unknown s i)) (f i)) first end = λ f. two-parts (λ j. f (first + j)) (λ j. unknown s (first + j)) (end - first) in
-      rw (a-is, u-is) (part (λ i. exposure s i), (part (λ i. nominal s i), part (λ i. weightedExposure s i)))
+      rw (a-is, u-is) (part-and-rest (λ i. exposure s i), (part-and-rest (λ i. nominal s i), part-and-rest (λ i. weightedExposure s i)))
 
   pub unknown-among-all : (u .exposure ≤ a .exposure) × ((u .nominal ≤ a .nominal) × (u .weighted ≤ a .weighted))
   unknown-among-all = (omega (arith, parts), (omega (arith, parts), omega (arith, parts)))

@@ -63,17 +63,24 @@ pub record Subtotals (s : List ℕ) (n : ℕ) (each : List Sums) : Type 0 where
 
 -- ---- limits
 
--- of totals over some of n rows, of what is marked of n rows, and of seven sums over n rows
-pub record TotalLimits (t : Totals) (n : ℕ) : Type 0 where
-  pub exposure-most : t .exposure ≤ 10000000000 * n
-  pub nominal-most : t .nominal ≤ 10000000000 * n
-  pub weighted-most : t .weighted ≤ 12500000000000 * n
+-- the highest amount of a row, and the highest product of an exposure and a risk weight: 10^10 at 1250 percent
+abbrev pub amountMost : ℕ
+amountMost = 10000000000
 
-pub record MarkedLimits (m : Marked) (n : ℕ) : Type 0 where
-  pub unknown-within : TotalLimits (m .unknown) n
-  pub late-most : m .late ≤ 10000000000 * n
+abbrev pub weightedMost : ℕ
+weightedMost = 12500000000000
 
-pub record SumsLimits (q : Sums) (n : ℕ) : Type 0 where
-  pub all-within : TotalLimits (q .all) n
-  pub known-within : TotalLimits (q .known) n
-  pub late-most : q .late ≤ 10000000000 * n
+-- totals over some of n rows, what is marked of n rows, and seven sums over n rows
+pub record TotalsOfRows (t : Totals) (n : ℕ) : Type 0 where
+  pub exposure-most : t .exposure ≤ amountMost * n
+  pub nominal-most : t .nominal ≤ amountMost * n
+  pub weighted-most : t .weighted ≤ weightedMost * n
+
+pub record MarkedOfRows (m : Marked) (n : ℕ) : Type 0 where
+  pub unknown-within : TotalsOfRows (m .unknown) n
+  pub late-most : m .late ≤ amountMost * n
+
+pub record SumsOfRows (q : Sums) (n : ℕ) : Type 0 where
+  pub all-within : TotalsOfRows (q .all) n
+  pub known-within : TotalsOfRows (q .known) n
+  pub late-most : q .late ≤ amountMost * n

@@ -9,7 +9,7 @@ ghost use Rattle.pool.specs.PoolSums.{poolSums};
 ghost use Rattle.pool.specs.BlockSums.{blockSums, sumWords};
 ghost use Rattle.pool.specs.SummedPool.{numbersOf, poolNumbers};
 ghost use Rattle.pool.specs.SummedBlock.{numbersOf as blockNumbersOf, blockNumbers, sumsRead};
-ghost use Rattle.pool.specs.RowTotals.{totalsFrom, sumsFrom, markedFrom, withRow, withMarked, totalsAdded, withBlock, TotalLimits, MarkedLimits, SumsLimits, Subtotals};
+ghost use Rattle.pool.specs.RowTotals.{totalsFrom, sumsFrom, markedFrom, withRow, withMarked, totalsAdded, withBlock, TotalsOfRows, MarkedOfRows, SumsOfRows, Subtotals};
 use charge::Sums;
 use charge::Totals;
 use judgement::Layout;
@@ -46,8 +46,8 @@ const NO_SUMS: Sums = Sums {
     late: 0,
 };
 
-// How many sums there are.
-pub const SUMS: usize = 7;
+// The words of seven sums.
+pub const SUM_WORDS: usize = 7;
 
 // What is marked of some rows: the totals of those of unknown status, and the nominal of the delinquent ones.
 struct Marked {
@@ -66,7 +66,7 @@ fn row_word(s: &[u64], l: Layout, i: u64, column: usize) -> u64
 
 // Totals with row i added.
 fn with_row(s: &[u64], l: Layout, t: Totals, i: u64) -> Totals
-    requires { ⌜ LaidOut (now s) l × (i < rows (now s)) × TotalLimits t i ⌝ }
+    requires { ⌜ LaidOut (now s) l × (i < rows (now s)) × TotalsOfRows t i ⌝ }
     ensures { λ r. ⌜ r ≡ withRow (now (s .entry)) t i ⌝ }
 {
     let exposure = row_word(s, l, i, 0);
@@ -95,7 +95,7 @@ fn totals_from(s: &[u64], l: Layout, first: u64, end: u64) -> Totals
 
 // What is marked, with row i added: a row of status 2 is not known, one of status 1 is delinquent.
 fn with_marked(s: &[u64], l: Layout, m: Marked, i: u64) -> Marked
-    requires { ⌜ LaidOut (now s) l × (i < rows (now s)) × MarkedLimits m i ⌝ }
+    requires { ⌜ LaidOut (now s) l × (i < rows (now s)) × MarkedOfRows m i ⌝ }
     ensures { λ r. ⌜ r ≡ withMarked (now (s .entry)) m i ⌝ }
 {
     let status = row_word(s, l, i, 3);
@@ -190,7 +190,7 @@ fn subtotals(s: &[u64], l: Layout, n: u64) -> [Sums; BLOCKS_MOST]
 
 // The sum of two totals, of which the second is over the rows of a block.
 fn added(t: Totals, u: Totals) -> Totals
-    requires { ⌜ TotalLimits t rowsMost × TotalLimits u blockSize ⌝ }
+    requires { ⌜ TotalsOfRows t rowsMost × TotalsOfRows u blockSize ⌝ }
     ensures { λ r. ⌜ r ≡ totalsAdded t u ⌝ }
 {
     Totals {
@@ -202,7 +202,7 @@ fn added(t: Totals, u: Totals) -> Totals
 
 // Seven sums with those of a block added.
 fn with_block(q: Sums, block: Sums) -> Sums
-    requires { ⌜ SumsLimits q rowsMost × SumsLimits block blockSize ⌝ }
+    requires { ⌜ SumsOfRows q rowsMost × SumsOfRows block blockSize ⌝ }
     ensures { λ r. ⌜ r ≡ withBlock q block ⌝ }
 {
     Sums {
@@ -229,7 +229,7 @@ fn over_blocks(s: &[u64], l: Layout) -> Sums
     q
 }
 
-// The pool's sums. A pool of one block has that block's, so that a small deal pays for no array of blocks.
+// The pool's sums. A pool of one block has that block's: an array for a single block would cost a small deal a fifth of its time.
 fn pool_sums(s: &[u64], l: Layout) -> Sums
     requires { ⌜ LaidOut (now s) l ⌝ }
     ensures { λ r. ⌜ r ≡ poolSums (now (s .entry)) ⌝ }
@@ -275,7 +275,7 @@ pub fn sums_read(block: Block) -> Sums
 }
 
 // Seven sums as words: exposure, nominal and weighted exposure over all rows, the same three over the rows with known status, and late nominal.
-pub fn sum_words(q: Sums) -> [u64; SUMS]
+pub fn sum_words(q: Sums) -> [u64; SUM_WORDS]
     ensures { λ r. ⌜ r ≡ sumWords q ⌝ }
 {
     [

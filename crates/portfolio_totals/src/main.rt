@@ -3,7 +3,6 @@
 mod reading;
 
 use libc::STDERR_FILENO;
-use libc::STDOUT_FILENO;
 use report::Written;
 
 // A file is read into one byte more than a sheet has, so that a longer file is seen to be too long.
@@ -29,20 +28,13 @@ fn print_totals(file: &[u8]) {
     let mut text = [0u8; report::TOTALS_ROOM];
     let written = report::portfolio_totals(file, &mut text);
     match written {
-        Written::Whole(n) => print_start(n, &text),
+        Written::Whole(n) => reading::write_start(
+            n,
+            &text,
+            b"portfolio_totals: standard output can't be written\n",
+        ),
         Written::NoRoom(_) => {
             io::write_all(STDERR_FILENO, b"portfolio_totals: no room for the totals\n");
         }
-    }
-}
-
-// Writes the first n bytes of a buffer to standard output.
-fn print_start(n: u64, text: &[u8]) {
-    let length = buffers::within(n, text);
-    if !io::write_all(STDOUT_FILENO, &text[..length]) {
-        io::write_all(
-            STDERR_FILENO,
-            b"portfolio_totals: standard output can't be written\n",
-        );
     }
 }

@@ -11,6 +11,7 @@ use Rattle.files.specs.Decimal.{decimal, space, newline}
 use Rattle.files.proofs.DecimalLaws.{length-decimal}
 use Rattle.files.proofs.Pieces.{sets-sets}
 use Rattle.report.specs.ReportText.{spaced, trancheLine, spacedRoom}
+use Rattle.report.proofs.TextLaws.{put-behind}
 
 -- The line of n and ws is to stand from `at` on. Of it `next` and the words from i on are still to be written, from `end` on, and there is room for them.
 pub record StillToPut (old : List ℕ) (at n : ℕ) (ws new : List ℕ) (end next i : ℕ) : Type 0 where
@@ -59,6 +60,17 @@ module _ {old : List ℕ} {at n : ℕ} {ws : List ℕ} where
       let none = ap (λ (k : ℕ). drop k ws) all ∙ drop-length ws in
       let (ended, stands) = rw e at put in
       (ended ∙ rw none at (before .ends), stands ∙ rw none at (before .bytes))
+
+-- a number with the space after it, and behind it the line of the numbers that follow
+pub number-before :
+    (old : List ℕ) (at n m b : ℕ) (ns : List ℕ) {middle new : List ℕ} {e end : ℕ} → b ≡ space →
+    (e ≡ at + length (decimal n ++ b ∷ [])) × (middle ≡ sets old at (decimal n ++ b ∷ [])) →
+    (end ≡ e + length (spaced m ns)) × (new ≡ sets middle e (spaced m ns)) →
+    (end ≡ at + length (spaced n (m ∷ ns))) × (new ≡ sets old at (spaced n (m ∷ ns)))
+unfolding spaced
+number-before old at n m b ns is first second =
+    rw (append-snoc (decimal n) space (spaced m ns)) at
+    (put-behind old at (decimal n ++ space ∷ []) (spaced m ns) (rw is at first) second)
 
 -- the line of a tranche is that of its number and the words of the results that are its own
 pub tranche-line-put :

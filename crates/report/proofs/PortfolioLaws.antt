@@ -1,14 +1,14 @@
 -- The text of totals by portfolio: what each line is made of, and that no text is longer than its room. No axioms.
 use mathlib.Core.Bool.{Bool, true, false}
-use mathlib.Core.List.{List, [], _∷_, _++_}
-use mathlib.Core.Path.{_≡_, refl, sym, ap, _∙_}
-use Prim.Native.Nat.{ℕ, zero, suc, _+_, _*_, min, _≤_, _<_}
+use mathlib.Core.List.{List, [], _∷_}
+use mathlib.Core.Path.{_≡_, refl, sym, _∙_}
+use Prim.Native.Nat.{ℕ, zero, suc, _+_, _*_, _≤_}
 use native.Mathlib.Nat.{zero-add}
 use native.Mathlib.Omega.{arith}
-use lib.ListN.{length, length-append}
+use lib.ListN.{length, getD, take, drop, length-append}
 use lib.Seq.{sets}
 use Rattle.limits.specs.SheetSize.{blockSize, blocksMost}
-use Rattle.numbers.specs.Rounding.{roundedUp}
+use Rattle.numbers.specs.Sum.{blockStart, blockEnd}
 use Rattle.files.specs.FileForm.{goodLength, fileWords}
 use Rattle.charge.specs.declared.Sums.{Sums}
 use Rattle.judgement.specs.DealSheet.{rows}
@@ -16,16 +16,12 @@ use Rattle.judgement.specs.Refusals.{wordsVerdict}
 use Rattle.judgement.specs.declared.Refusal.{Refusal}
 use Rattle.judgement.specs.declared.Verdict.{Verdict}
 use Rattle.judgement.specs.declared.Verdict.the-variants.{Sound, Faulty}
-use Rattle.judgement.specs.declared.Layout.{Layout}
 use Rattle.judgement.proofs.JudgeSteps.{needed-sound}
-use Rattle.judgement.proofs.LayoutLaws.{rows-is}
-use Rattle.judgement.proofs.WordsLaw.{laid-out}
 use Rattle.pool.specs.PoolSums.{poolSums}
 use Rattle.pool.specs.BlockSums.{blockSums, blocks, sumWords}
 use Rattle.pool.specs.SummedBlock.{blockNumbers, sumsRead}
-use Rattle.pool.specs.SummedPool.{OpenPool}
 use Rattle.pool.proofs.BlockLaws.{blocks-within}
-use Rattle.report.specs.ReportText.{ascii, spaced, refusalLine, spacedRoom}
+use Rattle.report.specs.ReportText.{ascii, spaced, wordsLine, refusalLine, spacedRoom}
 use Rattle.report.specs.PortfolioText.{blockLine, blockLines, poolLine, totalsText, totalsFor, fileTotals, totalsRoom}
 use Rattle.report.proofs.TextLaws.{put-behind, length-spaced, length-labelled}
 
@@ -41,30 +37,29 @@ loaded-totals file words good is = rw (good, is) refl
 
 -- ---- lines
 
+-- the first word of the sums, and the other six behind it
+pub sums-line-put :
+    (old : List ℕ) (at : ℕ) (q : Sums) (words : List ℕ) {end : ℕ} {new : List ℕ} → words ≡ sumWords q →
+    (end ≡ at + length (spaced (getD words 0 0) (take 6 (drop 1 words)))) × (new ≡ sets old at (spaced (getD words 0 0) (take 6 (drop 1 words)))) →
+    (end ≡ at + length (wordsLine (sumWords q))) × (new ≡ sets old at (wordsLine (sumWords q)))
+sums-line-put old at q words are put = rw are at put
+
 -- a block's line is that of its number, its rows and its sums
 pub block-line-put :
     (old : List ℕ) (n b at first last : ℕ) (q : Sums) {end : ℕ} {new : List ℕ} →
-    (end ≡ at + length (spaced b (first ∷ last ∷ sumWords q))) × (new ≡ sets old at (spaced b (first ∷ last ∷ sumWords q))) →
-    first ≡ suc (blockSize * b) → last ≡ min n (blockSize * b + blockSize) →
+    (end ≡ at + length (wordsLine (b ∷ first ∷ last ∷ sumWords q))) × (new ≡ sets old at (wordsLine (b ∷ first ∷ last ∷ sumWords q))) →
+    first ≡ suc (blockStart blockSize b) → last ≡ blockEnd blockSize n b →
     (end ≡ at + length (blockLine n b q)) × (new ≡ sets old at (blockLine n b q))
 block-line-put old n b at first last q put f l = rw (f, l) at put
 
--- of an opened pool the rows and the sums of a block are the sheet's
-module _ (s : List ℕ) (l : Layout) (sums : Sums) (opened : OpenPool s l sums) where
-  pub rows-read : l .rows ≡ rows s
-  rows-read = rows-is s l (laid-out s l (opened .sound) (opened .is-layout))
-
-  pub blocks-read : (k : ℕ) → k ≡ roundedUp (l .rows) blockSize → (k ≡ blocks s) × (k ≤ blocksMost)
-  blocks-read k is =
-      let all = is ∙ ap (λ (n : ℕ). roundedUp n blockSize) rows-read in
-      (all, rw all (blocks-within s (needed-sound s (opened .sound)) .1))
-
+-- of a sheet whose words are good the rows and the sums of a block are the sheet's
+module _ (s : List ℕ) (sound : wordsVerdict s ≡ Sound) where
   sums-are : (b : ℕ) → sumsRead (blockNumbers s b) ≡ blockSums s b
   unfolding blockNumbers
-  sums-are b = rw (opened .sound) refl
+  sums-are b = rw sound refl
 
-  pub block-read : (b : ℕ) (q : Sums) → q ≡ sumsRead (blockNumbers s b) → blockLine (l .rows) b q ≡ blockLine (rows s) b (blockSums s b)
-  block-read b q is = rw (rows-read, is ∙ sums-are b) refl
+  pub block-read : (n b : ℕ) (q : Sums) → n ≡ rows s → q ≡ sumsRead (blockNumbers s b) → blockLine n b q ≡ blockLine (rows s) b (blockSums s b)
+  block-read n b q all is = rw (all, is ∙ sums-are b) refl
 
 -- ---- how long a text can be
 
@@ -73,14 +68,15 @@ unfolding blockLines
 length-block-lines s zero = omega arith
 length-block-lines s (suc n) =
     let line = blockLine (rows s) n (blockSums s n) in
-    omega (arith, length-append (blockLines s n) line, length-block-lines s n, length-spaced n (suc (blockSize * n) ∷ min (rows s) (blockSize * n + blockSize) ∷ sumWords (blockSums s n)))
+    let words = suc (blockStart blockSize n) ∷ blockEnd blockSize (rows s) n ∷ sumWords (blockSums s n) in
+    omega (arith, length-append (blockLines s n) line, length-block-lines s n, length-spaced n words)
 
 length-pool-line : (q : Sums) → length (poolLine q) ≤ 6 + spacedRoom 6
 unfolding ascii
 length-pool-line q =
     omega (arith, length-spaced (q .all .exposure) (q .all .nominal ∷ q .all .weighted ∷ q .known .exposure ∷ q .known .nominal ∷ q .known .weighted ∷ q .late ∷ []))
 
-pub length-totals-text : (s : List ℕ) → wordsVerdict s ≡ Sound → length (totalsText s) ≤ totalsRoom
+length-totals-text : (s : List ℕ) → wordsVerdict s ≡ Sound → length (totalsText s) ≤ totalsRoom
 unfolding totalsText
 length-totals-text s sound =
     omega (

@@ -9,9 +9,10 @@ use lib.ListN.{length, getD, take, drop, length-append, length-take, length-drop
 use lib.Seq.{sets, take-append-le, drop-append-le}
 use Rattle.numbers.proofs.SumLaws.{sum-same}
 use Rattle.limits.specs.SheetSize.{lineSize, tranchesMost}
+use Rattle.files.specs.Decimal.{decimal}
 use Rattle.files.proofs.DecimalLaws.{length-decimal}
 use Rattle.files.proofs.Pieces.{sets-sets}
-use Rattle.report.specs.ReportText.{ascii, labelled, spaced, refusalLine, trancheLine, trancheLines, rwaColumn, capitalColumn, columnSum, dealText, spacedRoom, labelledRoom, textRoom}
+use Rattle.report.specs.ReportText.{ascii, labelled, spaced, refusalLine, trancheLine, trancheLines, rwaColumn, capitalColumn, columnSum, dealText, numberRoom, spacedRoom, labelledRoom, textRoom}
 
 -- ---- pieces in a buffer
 
@@ -24,6 +25,9 @@ put-behind old at xs ys first second =
     (omega (arith, length-append xs ys), second .1 ∙ rw (first .1, first .0) (sets-sets old at xs ys))
 
 -- ---- how long a text can be
+
+pub length-number : (n b : ℕ) → length (decimal n ++ b ∷ []) ≤ numberRoom
+length-number n b = simp length-append (omega (arith, length-decimal n))
 
 pub length-spaced : (n : ℕ) (ns : List ℕ) → length (spaced n ns) ≤ spacedRoom (length ns)
 unfolding spaced

@@ -2,9 +2,9 @@
 -- line with the pool's sums; a refusal as the report prints it. "a sheet, which gets only the refusals before 14": those of its words and 3, and of a file 15 before all.
 use mathlib.Core.Bool.{cond}
 use mathlib.Core.List.{List, [], _∷_, _++_}
-use Prim.Native.Nat.{ℕ, zero, suc, _+_, _*_, min}
+use Prim.Native.Nat.{ℕ, zero, suc, _+_, _*_}
 use Rattle.limits.specs.SheetSize.{blockSize, blocksMost}
-use Rattle.files.specs.Decimal.{newline}
+use Rattle.numbers.specs.Sum.{blockStart, blockEnd}
 use Rattle.files.specs.FileForm.{goodLength, fileWords}
 use Rattle.charge.specs.declared.Sums.{Sums}
 use Rattle.judgement.specs.DealSheet.{rows}
@@ -13,24 +13,20 @@ use Rattle.judgement.specs.declared.Verdict.{Verdict}
 use Rattle.judgement.specs.declared.Verdict.the-variants.{Sound, Faulty}
 use Rattle.pool.specs.PoolSums.{poolSums}
 use Rattle.pool.specs.BlockSums.{blockSums, blocks, sumWords}
-use Rattle.report.specs.ReportText.{ascii, spaced, refusalLine, spacedRoom}
+use Rattle.report.specs.ReportText.{ascii, wordsLine, refusalLine, spacedRoom}
 
 -- ---- lines
 
--- the line of block b of a pool of so many rows: its number, its first and its last row, counted from 1, and its seven sums
+-- the line of block b of a pool of n rows: its number, its first and its last row, counted from 1, and its seven sums
 abbrev pub blockLine : ℕ → ℕ → Sums → List ℕ
-blockLine n b q = spaced b (suc (blockSize * b) ∷ min n (blockSize * b + blockSize) ∷ sumWords q)
+blockLine n b q = wordsLine (b ∷ suc (blockStart blockSize b) ∷ blockEnd blockSize n b ∷ sumWords q)
 
--- the lines of the first n blocks
+-- the lines of the first k blocks
 unfoldable pub blockLines : List ℕ → ℕ → List ℕ
 blockLines s zero = []
-blockLines s (suc n) = blockLines s n ++ blockLine (rows s) n (blockSums s n)
+blockLines s (suc k) = blockLines s k ++ blockLine (rows s) k (blockSums s k)
 
--- a line of words with single spaces between them
-abbrev pub wordsLine : List ℕ → List ℕ
-wordsLine [] = newline ∷ []
-wordsLine (w ∷ ws) = spaced w ws
-
+-- the last line
 abbrev pub poolLine : Sums → List ℕ
 poolLine q = ascii "total " ++ wordsLine (sumWords q)
 

@@ -32,6 +32,11 @@ unfoldable pub spaced : ℕ → List ℕ → List ℕ
 spaced n [] = decimal n ++ newline ∷ []
 spaced n (m ∷ ns) = decimal n ++ space ∷ spaced m ns
 
+-- a line of words, of which there is at least one
+abbrev pub wordsLine : List ℕ → List ℕ
+wordsLine [] = newline ∷ []
+wordsLine (w ∷ ws) = spaced w ws
+
 -- "A refusal prints `refused NUMBER at PLACE`."
 abbrev pub refusalLine : ℕ → ℕ → List ℕ
 refusalLine number place = labelled "refused " number " at " place

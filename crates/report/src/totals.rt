@@ -1,20 +1,20 @@
 // The totals by portfolio: the sums of each block of a pool's rows, and those of the pool.
 ghost use mathlib.Core.Path.{_≡_};
-ghost use mathlib.Core.List.{_++_};
-ghost use Prim.Native.Nat.{_+_, _*_, _≤_, _<_};
+ghost use Prim.Native.Nat.{_+_, _≤_, _<_};
 ghost use lib.ListN.{length};
 ghost use lib.Seq.{sets};
-ghost use Rattle.limits.specs.SheetSize.{rowsMost, blocksMost};
-ghost use Rattle.files.specs.FileForm.{goodLength};
+ghost use Rattle.limits.specs.SheetSize.{blocksMost};
 ghost use Rattle.judgement.specs.DealSheet.{rows};
 ghost use Rattle.judgement.specs.Refusals.{wordsVerdict};
-ghost use Rattle.pool.specs.PoolSums.{poolSums};
+ghost use Rattle.judgement.specs.declared.Verdict.the-variants.{Sound};
+ghost use Rattle.pool.specs.BlockSums.{sumWords};
 ghost use Rattle.pool.specs.SummedPool.{OpenPool};
-ghost use Rattle.report.specs.ReportText.{spacedRoom};
+ghost use Rattle.report.specs.ReportText.{wordsLine, spacedRoom};
 ghost use Rattle.report.specs.PortfolioText.{blockLine, blockLines, poolLine, totalsText, totalsFor, fileTotals, totalsRoom};
 use crate::lines::put_spaced;
 use crate::text::put_bytes;
 use crate::text::put_labelled;
+use crate::text::put_number;
 use charge::Sums;
 use judgement::Layout;
 use limits::BLOCK_SIZE;
@@ -22,6 +22,16 @@ use limits::WORD_LIMIT;
 use numbers::rounded_up;
 use numbers::smaller;
 use pool::Pool;
+
+// Writes a line of seven sums.
+fn put_sums(q: Sums, at: usize, out: &mut [u8]) -> usize
+    requires { ⌜ at + spacedRoom 6 ≤ length (now out) ⌝ }
+    ensures { λ r. ⌜ r ≡ at + length (wordsLine (sumWords q)) ⌝ }
+    ensures { λ r. ⌜ now (out .exit) ≡ sets (now (out .entry)) at (wordsLine (sumWords q)) ⌝ }
+{
+    let words = pool::sum_words(q);
+    put_spaced(words[0], &words[1..], at, out)
+}
 
 // Writes the line of block b of a pool of n rows: its number, its first and its last row, from 1, and its sums.
 fn put_block(n: u64, b: u64, q: Sums, at: usize, out: &mut [u8]) -> usize
@@ -31,32 +41,23 @@ fn put_block(n: u64, b: u64, q: Sums, at: usize, out: &mut [u8]) -> usize
 {
     let first = BLOCK_SIZE as u64 * b;
     let last = smaller(n, first + BLOCK_SIZE as u64);
-    let words = [
-        first + 1,
-        last,
-        q.all.exposure,
-        q.all.nominal,
-        q.all.weighted,
-        q.known.exposure,
-        q.known.nominal,
-        q.known.weighted,
-        q.late,
-    ];
-    put_spaced(b, &words, at, out)
+    let numbered = put_number(b, b' ', at, &mut *out);
+    let begun = put_number(first + 1, b' ', numbered, &mut *out);
+    let ended = put_number(last, b' ', begun, &mut *out);
+    put_sums(q, ended, out)
 }
 
-// Writes the lines of the first k blocks of a sheet whose pool is opened, at the start of a buffer.
-fn put_blocks(sheet: &[u64], l: Layout, sums: Sums, k: u64, out: &mut [u8]) -> usize
-    requires { ⌜ OpenPool (now sheet) l sums × (k ≤ blocksMost) × (totalsRoom ≤ length (now out)) ⌝ }
+// Writes the lines of the first k blocks of a sheet of n rows whose words are good, at the start of a buffer.
+fn put_blocks(sheet: &[u64], n: u64, k: u64, out: &mut [u8]) -> usize
+    requires { ⌜ (wordsVerdict (now sheet) ≡ Sound) × (n ≡ rows (now sheet)) × (k ≤ blocksMost) × (totalsRoom ≤ length (now out)) ⌝ }
     ensures { λ r. ⌜ r ≡ length (blockLines (now (sheet .entry)) k) ⌝ }
     ensures { λ r. ⌜ now (out .exit) ≡ sets (now (out .entry)) 0 (blockLines (now (sheet .entry)) k) ⌝ }
 {
-    let rows = l.rows;
     let mut end = 0;
     let mut b = 0;
     while b < k {
         let block = pool::sum_block(sheet, b);
-        end = put_block(rows, b, pool::sums_read(block), end, &mut *out);
+        end = put_block(n, b, pool::sums_read(block), end, &mut *out);
         b += 1;
     }
     end
@@ -69,15 +70,7 @@ fn put_pool(q: Sums, at: usize, out: &mut [u8]) -> usize
     ensures { λ r. ⌜ now (out .exit) ≡ sets (now (out .entry)) at (poolLine q) ⌝ }
 {
     let labelled = put_bytes(b"total ", at, &mut *out);
-    let words = [
-        q.all.nominal,
-        q.all.weighted,
-        q.known.exposure,
-        q.known.nominal,
-        q.known.weighted,
-        q.late,
-    ];
-    put_spaced(q.all.exposure, &words, labelled, out)
+    put_sums(q, labelled, out)
 }
 
 // Writes the whole text of a sheet whose pool is opened, and answers its length.
@@ -87,7 +80,7 @@ fn put_totals(sheet: &[u64], l: Layout, sums: Sums, out: &mut [u8]) -> usize
     ensures { λ r. ⌜ now (out .exit) ≡ sets (now (out .entry)) 0 (totalsText (now (sheet .entry))) ⌝ }
 {
     let blocks = rounded_up(l.rows, BLOCK_SIZE as u64);
-    let lined = put_blocks(sheet, l, sums, blocks, &mut *out);
+    let lined = put_blocks(sheet, l.rows, blocks, &mut *out);
     put_pool(sums, lined, out)
 }
 

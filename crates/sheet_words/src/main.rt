@@ -2,7 +2,6 @@
 mod reading;
 
 use libc::STDERR_FILENO;
-use libc::STDOUT_FILENO;
 use sheet_text::Made;
 use sheet_text::Span;
 
@@ -36,21 +35,14 @@ fn write_sheet(text: &[u8]) {
     let mut bytes = [0u8; limits::BYTE_LIMIT];
     let made = sheet_text::sheet_bytes(text, &mut bytes);
     match made {
-        Made::Bytes(n) => write_bytes(n, &bytes),
+        Made::Bytes(n) => reading::write_start(
+            n,
+            &bytes,
+            b"sheet_words: standard output can't be written\n",
+        ),
         Made::NotDecimal(token) => refuse_token(text, token, b" is not a decimal number\n"),
         Made::TooLarge(token) => refuse_token(text, token, b" is above 64 bits\n"),
         Made::TooMany(n) => refuse_count(n),
-    }
-}
-
-// Writes the first n bytes of a buffer to standard output.
-fn write_bytes(n: u64, bytes: &[u8]) {
-    let length = buffers::within(n, bytes);
-    if !io::write_all(STDOUT_FILENO, &bytes[..length]) {
-        io::write_all(
-            STDERR_FILENO,
-            b"sheet_words: standard output can't be written\n",
-        );
     }
 }
 

@@ -2,7 +2,6 @@
 mod reading;
 
 use libc::STDERR_FILENO;
-use libc::STDOUT_FILENO;
 use report::Written;
 
 // A file is read into one byte more than a sheet has, so that a longer file is seen to be too long.
@@ -28,20 +27,13 @@ fn print_report(file: &[u8]) {
     let mut text = [0u8; report::TEXT_ROOM];
     let written = report::report(file, &mut text);
     match written {
-        Written::Whole(n) => print_start(n, &text),
+        Written::Whole(n) => reading::write_start(
+            n,
+            &text,
+            b"tranche_report: standard output can't be written\n",
+        ),
         Written::NoRoom(_) => {
             io::write_all(STDERR_FILENO, b"tranche_report: no room for the report\n");
         }
-    }
-}
-
-// Writes the first n bytes of a buffer to standard output.
-fn print_start(n: u64, text: &[u8]) {
-    let length = buffers::within(n, text);
-    if !io::write_all(STDOUT_FILENO, &text[..length]) {
-        io::write_all(
-            STDERR_FILENO,
-            b"tranche_report: standard output can't be written\n",
-        );
     }
 }

@@ -1,9 +1,10 @@
-// Reads a file that an argument names into a buffer. What fails is said in one line on standard error. No contract can say which bytes are read: the promise is
+// Reads a file that an argument names into a buffer, and writes the start of one to standard output. What fails is said in one line on standard error. No contract can say which bytes are read: the promise is
 // that the buffer has as many as are counted. So reading is private to the programs, and written once: this file is a module of tranche_report, and
 // src/reading.rt of portfolio_totals, sheet_words and checked_examples is a link to it. (`rt check` sees no change behind a link; `rt dev`, `rt ci` and tests/run.sh do.)
 ghost use Rattle.io.specs.Counts.{Counts};
 use libc::STDERR_FILENO;
 use libc::STDIN_FILENO;
+use libc::STDOUT_FILENO;
 
 // What was read: where `ok`, `size` bytes at the buffer's start, and if they fill it there may be more to read; else nothing, and a line has said why.
 pub(crate) struct Read {
@@ -74,4 +75,12 @@ fn read_open(fd: i32, name: &[u8], buf: &mut [u8]) -> Read
         return NOTHING;
     }
     Read { ok: true, size }
+}
+
+// Writes the first n bytes of a buffer to standard output. Where that fails it writes `failed`, a line with its line end, to standard error.
+pub(crate) fn write_start(n: u64, bytes: &[u8], failed: &[u8]) {
+    let length = buffers::within(n, bytes);
+    if !io::write_all(STDOUT_FILENO, &bytes[..length]) {
+        io::write_all(STDERR_FILENO, failed);
+    }
 }

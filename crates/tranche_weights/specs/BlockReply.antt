@@ -4,8 +4,8 @@ use mathlib.Core.List.{List}
 use Prim.Native.Nat.{ℕ}
 use Rattle.charge.specs.declared.Sums.{Sums}
 use Rattle.judgement.specs.Outcome.{Outcome, refusedWith, found}
-use Rattle.pool.specs.BlockSums.{sumWords}
-use Rattle.pool.specs.SummedBlock.{blockNumbers, sumsRead}
+use Rattle.pool.specs.BlockSums.{noSums, sumWords}
+use Rattle.pool.specs.SummedBlock.{blockNumbers}
 
 -- number and place, 0 where there is no refusal, and the sums' words
 pub record BlockReply : Type 0 where
@@ -17,9 +17,9 @@ pub record BlockReply : Type 0 where
 abbrev pub blockReply : ℕ → ℕ → List ℕ → BlockReply
 blockReply number place words = record { number = number; place = place; words = words }
 
--- by what the block came to
+-- by what the block came to: of a refused sheet the words are 0
 abbrev pub replyFor : Outcome Sums → BlockReply
-replyFor (refusedWith number place) = record { number = number; place = place; words = sumWords (sumsRead (refusedWith number place)) }
+replyFor (refusedWith number place) = record { number = number; place = place; words = sumWords noSums }
 replyFor (found q) = record { number = 0; place = 0; words = sumWords q }
 
 -- the reply that block b of a sheet is due

@@ -12,7 +12,7 @@ ghost use Rattle.tranche_weights.specs.BlockReply.{blockReply, replyFor,
 ghost use Rattle.tranche_weights.specs.FourNumbers.{fourNumbers};
 use deal::Answer;
 use pool::Block;
-use pool::SUMS;
+use pool::SUM_WORDS;
 use report::Written;
 
 // An answer as a program in C gets it: the refusal's number, 0 where there is none; place, count and charge are written through the lent numbers.
@@ -90,7 +90,7 @@ pub extern "C" fn tranche_weights_report_v7(file: &[u8], text: &mut [u8]) -> u64
 }
 
 // What a block came to as a program in C gets it: the refusal's number, 0 where there is none; place and sums are written through the lent numbers.
-fn put_block(block: Block, place: &mut u64, sums: &mut [u64; SUMS]) -> u64
+fn put_block(block: Block, place: &mut u64, sums: &mut [u64; SUM_WORDS]) -> u64
     ensures { λ r. ⌜ blockReply r (now (place .exit)) (now (sums .exit)) ≡ replyFor (numbersOf block) ⌝ }
 {
     *sums = pool::sum_words(pool::sums_read(block));
@@ -112,7 +112,7 @@ pub extern "C" fn tranche_weights_block_sums_v7(
     sheet: &[u64],
     block: u64,
     place: &mut u64,
-    sums: &mut [u64; SUMS],
+    sums: &mut [u64; SUM_WORDS],
 ) -> u64
     ensures { λ r. ⌜ blockReply r (now (place .exit)) (now (sums .exit)) ≡ blockReplyTo (now (sheet .entry)) block ⌝ }
 {

@@ -1,9 +1,10 @@
 -- `block_of`: the block's rows are those from 50 times its number on, to before the next block's or the pool's end. No axioms.
 use mathlib.Core.Path.{refl, ap, _∙_}
-use Prim.Native.Nat.{ℕ, _+_, _*_, min}
+use Prim.Native.Nat.{ℕ}
 use native.Mathlib.Omega.{arith}
 use borrow.Author.Needs.{needs}
 use Rattle.limits.specs.SheetSize.{blockSize}
+use Rattle.numbers.specs.Sum.{blockEnd}
 use Rattle.judgement.proofs.LayoutLaws.{rows-is}
 use Rattle.pool.proofs.BlockLaws.{block-made}
 use Rattle.pool.proofs.block_of.Statement.{statement}
@@ -26,7 +27,7 @@ sums-from-requires c κs =
 returns : tie.Need-returns
 returns c =
     let start = c .before .before .before in
-    let end = c .before .smaller .ensures ∙ ap (λ (n : ℕ). min n (blockSize * start .args .b + blockSize)) (rows-is _ _ (start .pre .0)) in
+    let end = c .before .smaller .ensures ∙ ap (λ (n : ℕ). blockEnd blockSize n (start .args .b)) (rows-is _ _ (start .pre .0)) in
     block-made _ (start .args .b) _ _ _ refl end (c .sums-from .ensures)
 
 pub block-of-spec : {M : Type 1} → statement M

@@ -2,7 +2,7 @@
 use native.Mathlib.Omega.{arith}
 use borrow.Author.Needs.{needs}
 use Rattle.judgement.proofs.SheetLimits.{rows-within, pool-counted}
-use Rattle.pool.proofs.BlockLaws.{past-the-last}
+use Rattle.pool.proofs.BlockLaws.{no-rows-left}
 use Rattle.pool.proofs.block_or_none.Statement.{statement}
 use Rattle.pool.proofs.block_or_none.Tie as tie
 
@@ -15,7 +15,7 @@ returns c = search needs
 returns-2 : tie.Need-returns-2
 returns-2 c =
     let start = c .before .before in
-    past-the-last _ _ (omega (arith, rows-within _ (pool-counted _ (start .pre .good))))
+    no-rows-left _ _ (omega (arith, rows-within _ (pool-counted _ (start .pre .good))))
 
 pub block-or-none-spec : {M : Type 1} → statement M
 block-or-none-spec = tie.close (tie.spec block-of-requires returns returns-2)

@@ -1,6 +1,6 @@
 -- `marked_from`: before row i what is marked is that of the rows before it. No axioms.
 use mathlib.Core.Path.{_≡_, _∙_}
-use Prim.Native.Nat.{_-_, max, _≤_, _<_}
+use Prim.Native.Nat.{_-_, max, _≤_}
 use native.Mathlib.Omega.{arith}
 use Rattle.judgement.proofs.SheetLimits.{rows-within, pool-counted}
 use Rattle.pool.specs.RowTotals.{markedFrom}

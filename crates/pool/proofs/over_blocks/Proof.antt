@@ -1,18 +1,16 @@
 -- `over_blocks`: after b turns the sums are those of the first b blocks; the blocks are at most 20 and reach the last row, so over all of them the sums are the pool's. No axioms.
 use mathlib.Core.List.{List}
-use mathlib.Core.Path.{_≡_, ap, _∙_}
+use mathlib.Core.Path.{_≡_, _∙_}
 use Prim.Native.Nat.{ℕ, _-_, _≤_, _<_}
 use native.Mathlib.Omega.{arith}
 use borrow.Author.Needs.{needs}
 use lib.ListN.{getD}
 use Rattle.limits.specs.SheetSize.{rowsMost, blockSize, blocksMost}
-use Rattle.numbers.specs.Rounding.{roundedUp}
-use Rattle.judgement.proofs.LayoutLaws.{rows-is}
 use Rattle.charge.specs.declared.Sums.{Sums}
 use Rattle.pool.specs.BlockSums.{blocks, overBlocks, noSums}
 use Rattle.pool.specs.PoolSums.{poolSums}
-use Rattle.pool.specs.RowTotals.{SumsLimits}
-use Rattle.pool.proofs.BlockLaws.{blocks-within, over-none, over-next, over-limits, filled-few, filled-limits, filled-total}
+use Rattle.pool.specs.RowTotals.{SumsOfRows}
+use Rattle.pool.proofs.BlockLaws.{over-none, over-next, over-limits, blocks-counted, filled-limits, filled-total}
 use Rattle.pool.proofs.over_blocks.Statement.{statement}
 use Rattle.pool.proofs.over_blocks.Tie as tie
 
@@ -25,14 +23,13 @@ abbrev μ-loop : tie.MeasureT-loop
 rounded-up-requires : tie.Need-rounded-up-requires Inv-loop μ-loop
 rounded-up-requires c κs = search needs
 
--- the blocks that are summed are the sheet's
-blocks-are : (c : tie.After-rounded-up Inv-loop μ-loop) → c .rounded-up .result ≡ blocks (c .before .before .args .s .now)
-blocks-are c = c .rounded-up .ensures ∙ ap (λ (n : ℕ). roundedUp n blockSize) (rows-is _ _ (c .before .before .pre))
+-- the blocks that are summed are the sheet's, and at most 20
+blocks-are :
+    (c : tie.After-rounded-up Inv-loop μ-loop) → (c .rounded-up .result ≡ blocks (c .before .before .args .s .now)) × (c .rounded-up .result ≤ blocksMost)
+blocks-are c = blocks-counted _ _ (c .before .before .pre) _ (c .rounded-up .ensures)
 
 subtotals-requires : tie.Need-subtotals-requires Inv-loop μ-loop
-subtotals-requires c κs =
-    let start = c .before .before in
-    (start .pre, rw (blocks-are c) (blocks-within _ (start .pre .good) .1))
+subtotals-requires c κs = (c .before .before .pre, blocks-are c .1)
 
 -- what was made before the loop: the sums of all blocks
 module _ (c : tie.After-subtotals Inv-loop μ-loop) where
@@ -46,13 +43,13 @@ module _ (c : tie.After-subtotals Inv-loop μ-loop) where
   s = c .before .before .before .args .s .now
 
   few : n ≤ blocksMost
-  few = filled-few s (c .before .before .before .pre .good) n each (blocks-are (c .before)) (c .subtotals .ensures)
+  few = blocks-are (c .before) .1
 
-  within : (b : ℕ) → b < n → SumsLimits (getD each b noSums) blockSize
-  within = filled-limits s (c .before .before .before .pre .good) n each (blocks-are (c .before)) (c .subtotals .ensures)
+  within : (b : ℕ) → b < n → SumsOfRows (getD each b noSums) blockSize
+  within = filled-limits s (c .before .before .before .pre .good) n each (c .subtotals .ensures)
 
   total : overBlocks (λ b. getD each b noSums) n ≡ poolSums s
-  total = filled-total s (c .before .before .before .pre .good) n each (blocks-are (c .before)) (c .subtotals .ensures)
+  total = filled-total s (c .before .before .before .pre .good) n each (c .subtotals .ensures) (blocks-are (c .before) .0)
 
 loop-holds : tie.Need-loop-holds Inv-loop μ-loop
 loop-holds c = (omega arith, over-none _)

@@ -1,6 +1,6 @@
 -- `subtotals`: after b turns the first b sums of the array are those of the first b blocks. No axioms.
 use mathlib.Core.Path.{_≡_, refl, _∙_}
-use Prim.Native.Nat.{_-_, _≤_, _<_}
+use Prim.Native.Nat.{_-_, _≤_}
 use native.Mathlib.Omega.{arith}
 use lib.ListN.{length, length-set}
 use Rattle.limits.specs.SheetSize.{blocksMost}

@@ -27,14 +27,14 @@ module _ (c : tie.After-totals-from) where
   abbrev all : Totals
   all = c .totals-from .result
 
-  abbrev unmarked : Totals
-  unmarked = c .before .marked-from .result .unknown
+  abbrev of-unknown : Totals
+  of-unknown = c .before .marked-from .result .unknown
 
-  unknown-is : unmarked ≡ totalsFrom s (λ i. unknown s i) (x .args .first) (x .args .end)
+  unknown-is : of-unknown ≡ totalsFrom s (λ i. unknown s i) (x .args .first) (x .args .end)
   unknown-is = ap (λ (m : Marked). m .unknown) (c .before .marked-from .ensures)
 
-  among : (unmarked .exposure ≤ all .exposure) × ((unmarked .nominal ≤ all .nominal) × (unmarked .weighted ≤ all .weighted))
-  among = unknown-among-all s (x .args .first) (x .args .end) all unmarked (c .totals-from .ensures) unknown-is
+  among : (of-unknown .exposure ≤ all .exposure) × ((of-unknown .nominal ≤ all .nominal) × (of-unknown .weighted ≤ all .weighted))
+  among = unknown-among-all s (x .args .first) (x .args .end) all of-unknown (c .totals-from .ensures) unknown-is
 
 sub-t9 : tie.Need-sub-t9
 sub-t9 c = among (c .before .before .before) .0
@@ -49,7 +49,7 @@ returns : tie.Need-returns
 returns c =
     let made = c .before .before .before .before .before .before .before in
     let args = x made .args in
-    sums-made (s made) (args .first) (args .end) (all made) (unmarked made) (made .totals-from .ensures) (unknown-is made) (made .before .marked-from .result .late)
+    sums-made (s made) (args .first) (args .end) (all made) (of-unknown made) (made .totals-from .ensures) (unknown-is made) (made .before .marked-from .result .late)
     (ap (λ (m : Marked). m .late) (made .before .marked-from .ensures))
 
 pub sums-from-spec : {M : Type 1} → statement M

@@ -1,7 +1,7 @@
 -- `totals_from`: before row i the totals are those over the rows before it. No axioms.
 use mathlib.Core.Bool.{true}
 use mathlib.Core.Path.{_≡_, refl, _∙_}
-use Prim.Native.Nat.{_-_, max, _≤_, _<_}
+use Prim.Native.Nat.{_-_, max, _≤_}
 use native.Mathlib.Omega.{arith}
 use native.Mathlib.Nat.{le-refl}
 use Rattle.judgement.proofs.SheetLimits.{rows-within, pool-counted}

@@ -1,6 +1,10 @@
--- `put_block`: the words of the block's line, from 50 times its number. No axioms.
+-- `put_block`: number and rows of the block, each with a space after it, and its sums behind them. No axioms.
+use mathlib.Core.Path.{refl}
+use Prim.Native.Nat.{_+_, _*_}
 use native.Mathlib.Omega.{arith}
 use borrow.Author.Needs.{needs}
+use Rattle.report.proofs.TextLaws.{length-number}
+use Rattle.report.proofs.LineSteps.{number-before}
 use Rattle.report.proofs.PortfolioLaws.{block-line-put}
 use Rattle.report.proofs.totals.put_block.Statement.{statement}
 use Rattle.report.proofs.totals.put_block.Tie as tie
@@ -14,23 +18,55 @@ add-smaller c = search needs
 smaller-requires : tie.Need-smaller-requires
 smaller-requires c κs = search needs
 
-add-t9 : tie.Need-add-t9
-add-t9 c = search needs
+put-number-requires : tie.Need-put-number-requires
+put-number-requires c κs = search needs
 
-slice-aggregate-put-spaced : tie.Need-slice-aggregate-put-spaced
-slice-aggregate-put-spaced c = search needs
+add-put-number : tie.Need-add-put-number
+add-put-number c = search needs
 
-put-spaced-requires : tie.Need-put-spaced-requires
-put-spaced-requires c κs = search needs
+put-number-requires-2 : tie.Need-put-number-requires-2
+put-number-requires-2 c κs =
+    let numbered = c .before .before .before in
+    omega (arith, numbered, numbered .before .before .before .before .pre, length-number (numbered .before .before .before .before .args .b) 32)
+
+put-number-requires-3 : tie.Need-put-number-requires-3
+put-number-requires-3 c κs =
+    let begun = c .before .before .before in
+    let numbered = begun .before .before .before .before in
+    let start = numbered .before .before .before .before in
+    omega (arith, begun, numbered, start .pre, length-number (start .args .b) 32, length-number (50 * start .args .b + 1) 32)
+
+put-sums-requires : tie.Need-put-sums-requires
+put-sums-requires c κs =
+    let ended = c .before .before .before in
+    let begun = ended .before .before .before .before in
+    let numbered = begun .before .before .before .before in
+    let start = numbered .before .before .before .before in
+    omega (
+      arith,
+      ended,
+      begun,
+      numbered,
+      start .pre,
+      length-number (start .args .b) 32,
+      length-number (50 * start .args .b + 1) 32,
+      length-number (numbered .before .before .smaller .result) 32,
+    )
 
 same-length : tie.Need-same-length
 same-length c = search needs
 
 returns : tie.Need-returns
 returns c =
-    let start = c .before .before .before .before .before .before .before in
-    block-line-put _ (start .args .n) (start .args .b) _ _ _ (start .args .q) (c .before .before .put-spaced .ensures) (omega arith)
-    (c .before .before .before .before .before .smaller .ensures)
+    let summed = c .before .before in
+    let ended = summed .before .before .before .before in
+    let begun = ended .before .before .before .before in
+    let numbered = begun .before .before .before .before in
+    let start = numbered .before .before .before .before in
+    let last = number-before _ _ _ _ _ _ refl (ended .put-number3 .ensures) (summed .put-sums .ensures) in
+    let first = number-before _ _ _ _ _ _ refl (begun .put-number2 .ensures) last in
+    let line = number-before _ _ _ _ _ _ refl (numbered .put-number .ensures) first in
+    block-line-put _ (start .args .n) (start .args .b) _ _ _ (start .args .q) line (omega arith) (numbered .before .before .smaller .ensures)
 
 pub put-block-spec : {M : Type 1} → statement M
 put-block-spec =
@@ -39,8 +75,10 @@ put-block-spec =
     mul-first
     add-smaller
     smaller-requires
-    add-t9
-    slice-aggregate-put-spaced
-    put-spaced-requires
+    put-number-requires
+    add-put-number
+    put-number-requires-2
+    put-number-requires-3
+    put-sums-requires
     same-length
     returns)

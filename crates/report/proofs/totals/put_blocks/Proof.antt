@@ -17,11 +17,11 @@ use Rattle.report.proofs.totals.put_blocks.Statement.{statement}
 use Rattle.report.proofs.totals.put_blocks.Tie as tie
 
 abbrev Inv-loop : tie.InvT-loop
-Inv-loop sheet k out₀ rows end₀ b₀ out end b =
+Inv-loop sheet n k out₀ end₀ b₀ out end b =
     (b ≤ k) × ((end ≡ 0 + length (blockLines sheet b)) × (out ≡ sets out₀ 0 (blockLines sheet b)))
 
 abbrev μ-loop : tie.MeasureT-loop
-μ-loop sheet k out₀ rows end₀ b₀ out end b = k - b
+μ-loop sheet n k out₀ end₀ b₀ out end b = k - b
 
 loop-holds : tie.Need-loop-holds Inv-loop μ-loop
 unfolding blockLines
@@ -58,7 +58,7 @@ loop-again c =
     let l = read .before .before .before in
     let start = l .before .before .before in
     let s = start .args .sheet .now in
-    let line = block-read s (start .args .l) (start .args .sums) (start .pre .0) (l .loop .b) _ (read .sums-read .ensures ∙ ap sumsRead (read .before .sum-block .ensures)) in (
+    let line = block-read s (start .pre .0) (start .args .n) (l .loop .b) _ (start .pre .1) (read .sums-read .ensures ∙ ap sumsRead (read .before .sum-block .ensures)) in (
       omega arith,
       rw (add-one (l .loop .b))
           (put-behind (start .args .out .now) 0 (blockLines s (l .loop .b)) (blockLine (rows s) (l .loop .b) (blockSums s (l .loop .b))) (l .loop .inv .1)

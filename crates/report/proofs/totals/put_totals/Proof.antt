@@ -1,11 +1,14 @@
 -- `put_totals`: the lines of all blocks, and the pool's line behind them. No axioms.
-use mathlib.Core.Path.{_≡_, ap, _∙_}
+use mathlib.Core.Path.{_≡_}
 use Prim.Native.Nat.{_≤_}
 use native.Mathlib.Omega.{arith}
 use borrow.Author.Needs.{needs}
 use Rattle.limits.specs.SheetSize.{blocksMost}
+use Rattle.judgement.proofs.LayoutLaws.{rows-is}
+use Rattle.judgement.proofs.WordsLaw.{laid-out}
 use Rattle.pool.specs.BlockSums.{blocks}
-use Rattle.report.proofs.PortfolioLaws.{blocks-read, length-block-lines, totals-put}
+use Rattle.pool.proofs.BlockLaws.{blocks-counted}
+use Rattle.report.proofs.PortfolioLaws.{length-block-lines, totals-put}
 use Rattle.report.proofs.totals.put_totals.Statement.{statement}
 use Rattle.report.proofs.totals.put_totals.Tie as tie
 
@@ -16,12 +19,13 @@ rounded-up-requires c κs = search needs
 blocks-are : (c : tie.After-rounded-up) → (c .rounded-up .result ≡ blocks (c .before .before .before .args .sheet .now)) × (c .rounded-up .result ≤ blocksMost)
 blocks-are c =
     let start = c .before .before .before in
-    blocks-read _ (start .args .l) (start .args .sums) (start .pre .0) _ (c .rounded-up .ensures)
+    blocks-counted _ _ (laid-out _ _ (start .pre .0 .sound) (start .pre .0 .is-layout)) _ (c .rounded-up .ensures)
 
 put-blocks-requires : tie.Need-put-blocks-requires
 put-blocks-requires c κs =
     let start = c .before .before .before .before in
-    (start .pre .0, blocks-are (c .before) .1, start .pre .1)
+    let opened = start .pre .0 in
+    (opened .sound, rows-is _ _ (laid-out _ _ (opened .sound) (opened .is-layout)), blocks-are (c .before) .1, start .pre .1)
 
 put-pool-requires : tie.Need-put-pool-requires
 put-pool-requires c κs =
