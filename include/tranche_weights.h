@@ -20,10 +20,11 @@
  * Versions
  * - Within a version of the interface no name or sentence here changes its meaning (names may be added), and every sheet keeps its answer.
  * - A later version may add facts, sections, refusals and approaches, and words at the end of a line, and so change the limits and lengths below; it may no longer
- *   give a refusal that is listed here, and it may give a sheet another weight where the rules have changed. A refusal's number, an approach's word and the place of a
- *   word in the line or in a block's sums keep their meaning in all versions, and a number that is no longer given is not used again. So a program that goes by the
- *   names below, and takes a refusal or an approach that it does not know for what it is, need only be compiled anew. Two things it must look after: the name of a
- *   refusal that is no longer given goes with it, and the unit of weighted exposure may become finer than percent.
+ *   give a refusal that is listed here, and it may give a sheet another weight where the rules have changed. A refusal's number, an approach's word and the place
+ *   of a word in the line and of a sum keep their meaning in all versions, but for the unit of weighted exposure, which may become finer than percent; and a number
+ *   that is no longer given is not used again. So a program that goes by the names below, and takes a refusal or an approach that it does not know for what it is,
+ *   need only be compiled anew; one that reads weighted exposure must see to its unit too. The name of a refusal that is no longer given goes with it; a program
+ *   that has it must leave it out.
  * - Each function's name in the archive ends in the version. A header and an archive of two versions do not link: the linker names the function that is missing.
  */
 #ifndef TRANCHE_WEIGHTS_H
@@ -92,8 +93,9 @@ enum {
 #define TRANCHE_WEIGHTS_LINE_WORDS 7
 #define TRANCHE_WEIGHTS_RESULT_WORDS (TRANCHE_WEIGHTS_MOST_TRANCHES * TRANCHE_WEIGHTS_LINE_WORDS)
 
-/* The rows of a block: the pool's rows in the sheet's order, so many to each block; only the last one may have fewer. */
+/* The rows of a block: the pool's rows in the sheet's order, so many to each block; only the last one may have fewer. The most blocks of a pool. */
 #define TRANCHE_WEIGHTS_BLOCK_ROWS 50
+#define TRANCHE_WEIGHTS_MOST_BLOCKS ((TRANCHE_WEIGHTS_MOST_ROWS + TRANCHE_WEIGHTS_BLOCK_ROWS - 1) / TRANCHE_WEIGHTS_BLOCK_ROWS)
 
 /*
  * The places of the words in a block's sums. Every status but 2 is known; a row of status 1 is delinquent. Weighted exposure is exposure times risk weight in percent: an
@@ -215,9 +217,10 @@ static inline uint64_t tranche_weights_report(const uint8_t *file, size_t size, 
  * block            the block's number, counted from 0; any number is allowed
  * place, sums      one word, and TRANCHE_WEIGHTS_SUM_WORDS words, written in every case
  *
- * Returns TRANCHE_WEIGHTS_ACCEPTED where the sheet is accepted: the sums over the block's rows stand in sums, *place is 0. Past the last block every sum is 0; up to it
- * no exposure is, since every row has one.
- * Returns the refusal's number where it is refused, whatever the block: *place is the place of the faulty word, counted from 0, and every sum is 0. The refusals are
+ * Returns TRANCHE_WEIGHTS_ACCEPTED where the sheet gets none of the refusals below: the sums over the block's rows stand in sums, *place is 0. Past the last block
+ * every sum is 0; up to it TRANCHE_WEIGHTS_SUM_EXPOSURE and TRANCHE_WEIGHTS_SUM_NOMINAL are at least 1, since every row has both amounts, and any other sum may be
+ * 0, as the known exposure where all rows have status 2.
+ * Returns the refusal's number where it gets one, whatever the block: *place is the place of the faulty word, counted from 0, and every sum is 0. The refusals are
  * those of tranche_weights_weigh but TRANCHE_WEIGHTS_REFUSED_THIN_TRANCHE and TRANCHE_WEIGHTS_REFUSED_ROOM, which are not judged here.
  */
 static inline uint64_t tranche_weights_block_sums(const uint64_t *sheet, size_t words, uint64_t block, uint64_t *place, uint64_t *sums)

@@ -1,8 +1,8 @@
 /*
  * Calls the functions of the header as a program in C does, on threads with small stacks, and prints the report on a file's bytes. Held here: lent memory that must
- * be as it was, the answer where the room is one byte or word short and where it is just enough, the four numbers of an accepted and of a refused sheet and file, the
- * least weight, the STC mark, the reporting date, the IRB section, the sums of blocks, and a null pointer for every list of length 0. Stops with status 1 and one line
- * where something is not what is due. tests/c_example.sh runs it.
+ * be as it was, the answer where the room is one byte or word short and where it is just enough, the four numbers of an accepted and of a refused sheet and file,
+ * the least weight, the STC mark, the reporting date, the IRB section, the sums of blocks, pools of two blocks and of the most rows, and a null pointer for every
+ * list of length 0. Stops with status 1 and one line where something is not what is due. tests/c_example.sh runs it.
  */
 #include <pthread.h>
 #include <stdio.h>
@@ -19,7 +19,7 @@
 #define WORD_BEFORE 7
 #define BYTE_BEFORE 0xA5
 
-/* A sheet that is accepted, its line, and the word after it as it was. */
+/* A sheet that is accepted, its line, and the word after it as it was; its charge. */
 static const uint64_t sheet[] = {4, 0, 0, 1, 1, 1, 100, 100, 100, 0, 1, 80, 1, 60, 80, 1, 0, 0};
 static const uint64_t lines[TRANCHE_WEIGHTS_LINE_WORDS + 1] = {
     [TRANCHE_WEIGHTS_WORD_APPROACH] = TRANCHE_WEIGHTS_BY_SEC_ERBA,
@@ -32,6 +32,7 @@ static const uint64_t lines[TRANCHE_WEIGHTS_LINE_WORDS + 1] = {
     [TRANCHE_WEIGHTS_LINE_WORDS] = WORD_BEFORE,
 };
 #define WORDS (sizeof sheet / sizeof *sheet)
+#define CHARGE 80000
 
 /* The place of its maturity, and another one, at which AAA has 15 + 5 * 8 / 240 = 15.1667%; the weight and the least weight that it gives. */
 #define MONTHS_PLACE 13
@@ -94,8 +95,31 @@ static const uint64_t last_row[TRANCHE_WEIGHTS_ROW_WORDS] = {7, 8, 30, 2};
 static const uint64_t first_block[TRANCHE_WEIGHTS_SUM_WORDS] = {5000, 6000, 250000, 5000, 6000, 250000, 120};
 static const uint64_t last_block[TRANCHE_WEIGHTS_SUM_WORDS] = {7, 8, 210, 0, 0, 0, 0};
 #define ROW_COUNT_PLACE 5
-#define BLOCKS_SHEET_WORDS (WORDS + TRANCHE_WEIGHTS_BLOCK_ROWS * TRANCHE_WEIGHTS_ROW_WORDS)
-static uint64_t blocks_sheet[BLOCKS_SHEET_WORDS];
+#define WORDS_WITH_ROWS(rows) (WORDS + ((rows) - 1) * TRANCHE_WEIGHTS_ROW_WORDS)
+#define TWO_BLOCKS_WORDS WORDS_WITH_ROWS(TRANCHE_WEIGHTS_BLOCK_ROWS + 1)
+static uint64_t two_blocks[TWO_BLOCKS_WORDS];
+
+/*
+ * Its charge and line. Over the rows with known status the base charge is 800 * 250000 / 5000 = 40000 and the late share 120 / 6000, 20000 millionths, which gives
+ * 0.98 * 40000 + 0.02 * 500000 = 49200; with 7 of 5007 not known (5000 * 49200 + 7 * 1000000) / 5007 = 50529.3, rounded up. The attachment point is 5928 / 6008 =
+ * 0.9866844, rounded down. The rest is as in the first line: AAA has 19% there, above the floor of 15% and below the cap of 250210 / 5007 = 49.97%.
+ */
+#define TWO_BLOCKS_CHARGE 50530
+static const uint64_t two_blocks_line[TRANCHE_WEIGHTS_LINE_WORDS + 1] = {TRANCHE_WEIGHTS_BY_SEC_ERBA, 986684, 1000000, 1900, 16, 2, 1900, WORD_BEFORE};
+
+/*
+ * A sheet of the most rows, 20 blocks of 50. Each row of the n-th has exposure n, nominal 2 * n and a risk weight of n%; the first is delinquent, the last not
+ * known. main puts it together as the one before.
+ *
+ * Its charge and line: 1 to 20 add up to 210, and their squares to 2870. The base charge is 800 * 2870 / 210 = 10933.3, rounded up to 10934, and the late share
+ * 1 / 49, 20408.2 millionths, up to 20409; together (979591 * 10934 + 20409 * 500000) / 1000000 = 20915.3, up to 20916; with 1 of 50 not known
+ * (49 * 20916 + 1000000) / 50 = 40497.7, rounded up. The attachment point is 20920 / 21000 = 0.9961905, rounded down. The 19% of AAA are lowered to the cap of
+ * 2870 / 210 = 13.667%, rounded up. That makes of the 80 held a risk-weighted amount of 10.9 and a capital of 0.9, both rounded up.
+ */
+#define MOST_ROWS_WORDS WORDS_WITH_ROWS(TRANCHE_WEIGHTS_MOST_ROWS)
+static uint64_t most_rows[MOST_ROWS_WORDS];
+#define MOST_ROWS_CHARGE 40498
+static const uint64_t most_rows_line[TRANCHE_WEIGHTS_LINE_WORDS + 1] = {TRANCHE_WEIGHTS_BY_SEC_ERBA, 996190, 1000000, 1367, 11, 1, 1367, WORD_BEFORE};
 
 /*
  * A sheet with a tranche that is too thin for the formula: of a nominal of 10000000 the class before it leaves 1000009, and it leaves 1000004, so both its points are
@@ -109,8 +133,8 @@ static const uint64_t thin_sums[TRANCHE_WEIGHTS_SUM_WORDS] = {6000000, 10000000,
 /* The sums past the last block and of a refused sheet. */
 static const uint64_t no_sums[TRANCHE_WEIGHTS_SUM_WORDS];
 
-/* Blocks past the last of every sheet here. The third, cut to 32 bits, is 0; the fourth, times the rows of a block and cut to 64 bits, is 34. */
-static const uint64_t past[] = {2, 20, 4294967296, 368934881474191033, UINT64_MAX};
+/* Blocks past the last of every pool. The second, cut to 32 bits, is 0; the third, times the rows of a block and cut to 64 bits, is 34. */
+static const uint64_t past[] = {TRANCHE_WEIGHTS_MOST_BLOCKS, 4294967296, 368934881474191033, UINT64_MAX};
 #define PAST_BLOCKS (sizeof past / sizeof *past)
 
 /* Result words that are lent: those of two lines, the most that a sheet here has. */
@@ -173,11 +197,11 @@ static struct given weigh(const uint64_t *from, size_t words, size_t room)
     return g;
 }
 
-/* One call on so many bytes of the sheet's file, with so much room. x86-64 keeps the lowest byte first, as the file does. */
-static struct given weigh_file(size_t bytes, size_t room)
+/* One call on so many bytes of a sheet's file, with so much room. x86-64 keeps the lowest byte first, as the file does. */
+static struct given weigh_file(const uint64_t *from, size_t bytes, size_t room)
 {
     struct given g = before;
-    g.number = tranche_weights_weigh_file((const uint8_t *)sheet, bytes, g.results, room, &g.place, &g.count, &g.charge);
+    g.number = tranche_weights_weigh_file((const uint8_t *)from, bytes, g.results, room, &g.place, &g.count, &g.charge);
     return g;
 }
 
@@ -188,11 +212,17 @@ static void refused(struct given g, uint64_t number, uint64_t place, const char 
     due(memcmp(g.results, before.results, sizeof g.results) == 0, "results of a refused sheet");
 }
 
-/* Holds the answer to the accepted sheet. */
+/* Holds the answer to an accepted sheet of one tranche: its charge, its line and the word after it. */
+static void weighed(struct given g, uint64_t charge, const uint64_t *line, const char *what)
+{
+    due(g.number == TRANCHE_WEIGHTS_ACCEPTED && g.place == 0 && g.count == 1 && g.charge == charge, what);
+    due(memcmp(g.results, line, sizeof lines) == 0, "the line and the word after it");
+}
+
+/* Holds the answer to the first sheet. */
 static void accepted(struct given g, const char *what)
 {
-    due(g.number == TRANCHE_WEIGHTS_ACCEPTED && g.place == 0 && g.count == 1 && g.charge == 80000, what);
-    due(memcmp(g.results, lines, sizeof lines) == 0, "the line and the word after it");
+    weighed(g, CHARGE, lines, what);
 }
 
 /* The sheet with just enough room, with a word too little, and with a word missing. */
@@ -295,9 +325,10 @@ static void summed(const uint64_t *from, size_t words, uint64_t block, const uin
     block_is(sum_block(from, words, block), TRANCHE_WEIGHTS_ACCEPTED, 0, sums, what);
 }
 
-/* Holds the sums of an accepted sheet past its last block. */
-static void nothing_past(const uint64_t *from, size_t words, const char *what)
+/* Holds the sums of an accepted sheet past its last block, from the first one there. */
+static void nothing_past(const uint64_t *from, size_t words, uint64_t first, const char *what)
 {
+    summed(from, words, first, no_sums, what);
     for (size_t i = 0; i < PAST_BLOCKS; i++)
         summed(from, words, past[i], no_sums, what);
 }
@@ -306,14 +337,26 @@ static void nothing_past(const uint64_t *from, size_t words, const char *what)
 static void *try_blocks(void *unused)
 {
     summed(rows_sheet, ROWS_SHEET_WORDS, 0, rows_sums, "the sums of a block");
-    summed(rows_sheet, ROWS_SHEET_WORDS, 1, no_sums, "the sums past the only block");
-    nothing_past(rows_sheet, ROWS_SHEET_WORDS, "the sums far past the only block");
+    nothing_past(rows_sheet, ROWS_SHEET_WORDS, 1, "the sums past the only block");
     summed(resecuritisation, WORDS, 0, resecuritisation_sums, "the sums of a re-securitisation");
-    summed(blocks_sheet, BLOCKS_SHEET_WORDS, 0, first_block, "the sums of a whole block");
-    summed(blocks_sheet, BLOCKS_SHEET_WORDS, 1, last_block, "the sums of a last block of one row");
-    nothing_past(blocks_sheet, BLOCKS_SHEET_WORDS, "the sums past the last of two blocks");
+    weighed(weigh(two_blocks, TWO_BLOCKS_WORDS, TRANCHE_WEIGHTS_LINE_WORDS), TWO_BLOCKS_CHARGE, two_blocks_line, "a pool of two blocks");
+    summed(two_blocks, TWO_BLOCKS_WORDS, 0, first_block, "the sums of a whole block");
+    summed(two_blocks, TWO_BLOCKS_WORDS, 1, last_block, "the sums of a last block of one row");
+    nothing_past(two_blocks, TWO_BLOCKS_WORDS, 2, "the sums past the last of two blocks");
     refused(weigh(thin_sheet, THIN_SHEET_WORDS, RESULTS), TRANCHE_WEIGHTS_REFUSED_THIN_TRANCHE, THIN_PLACE, "a tranche too thin to be weighed");
     summed(thin_sheet, THIN_SHEET_WORDS, 0, thin_sums, "the sums over a thin tranche");
+    return unused;
+}
+
+/* The most rows: the line, and the sums of every block, of whose 50 rows 49 have known status. */
+static void *try_most_rows(void *unused)
+{
+    weighed(weigh(most_rows, MOST_ROWS_WORDS, TRANCHE_WEIGHTS_LINE_WORDS), MOST_ROWS_CHARGE, most_rows_line, "a pool of the most rows");
+    for (uint64_t n = 1; n <= TRANCHE_WEIGHTS_MOST_BLOCKS; n++) {
+        const uint64_t sums[TRANCHE_WEIGHTS_SUM_WORDS] = {50 * n, 100 * n, 50 * n * n, 49 * n, 98 * n, 49 * n * n, 2 * n};
+        summed(most_rows, MOST_ROWS_WORDS, n - 1, sums, "the sums of a block of the most rows");
+    }
+    nothing_past(most_rows, MOST_ROWS_WORDS, TRANCHE_WEIGHTS_MOST_BLOCKS, "the sums past the most blocks");
     return unused;
 }
 
@@ -339,14 +382,15 @@ static void *try_refused_blocks(void *unused)
     return unused;
 }
 
-/* The file of the first sheet; and a bad length, which comes before too little room. */
+/* The file of the first sheet and of the one with the most rows; and a bad length, which comes before too little room. */
 static void *try_weigh_file(void *unused)
 {
     const size_t whole = TRANCHE_WEIGHTS_BYTES_PER_WORD * WORDS, less = whole - TRANCHE_WEIGHTS_BYTES_PER_WORD;
-    accepted(weigh_file(whole, TRANCHE_WEIGHTS_LINE_WORDS), "an accepted file");
-    refused(weigh_file(whole, TRANCHE_WEIGHTS_LINE_WORDS - 1), TRANCHE_WEIGHTS_REFUSED_ROOM, 0, "a file with too little room");
-    refused(weigh_file(less, TRANCHE_WEIGHTS_LINE_WORDS), TRANCHE_WEIGHTS_REFUSED_MISSING_WORD, WORDS - 1, "a file with a word missing");
-    refused(weigh_file(whole - 1, 0), TRANCHE_WEIGHTS_REFUSED_FILE_LENGTH, 0, "a file of a bad length");
+    accepted(weigh_file(sheet, whole, TRANCHE_WEIGHTS_LINE_WORDS), "an accepted file");
+    weighed(weigh_file(most_rows, sizeof most_rows, TRANCHE_WEIGHTS_LINE_WORDS), MOST_ROWS_CHARGE, most_rows_line, "a file with the most rows");
+    refused(weigh_file(sheet, whole, TRANCHE_WEIGHTS_LINE_WORDS - 1), TRANCHE_WEIGHTS_REFUSED_ROOM, 0, "a file with too little room");
+    refused(weigh_file(sheet, less, TRANCHE_WEIGHTS_LINE_WORDS), TRANCHE_WEIGHTS_REFUSED_MISSING_WORD, WORDS - 1, "a file with a word missing");
+    refused(weigh_file(sheet, whole - 1, 0), TRANCHE_WEIGHTS_REFUSED_FILE_LENGTH, 0, "a file of a bad length");
     return unused;
 }
 
@@ -382,16 +426,32 @@ static void on_stack(size_t stack, void *(*trial)(void *))
     due(pthread_create(&thread, &attributes, trial, NULL) == 0 && pthread_join(thread, NULL) == 0, "a trial on its thread");
 }
 
-/* Puts the sheet of two blocks together. */
-static void fill_blocks_sheet(void)
+/* Puts a sheet of so many rows together, with the facts and the tranche of the first sheet; a function makes each row from its number, counted from 0. */
+static void fill_sheet(uint64_t *to, uint64_t rows, void (*make_row)(uint64_t, uint64_t *))
 {
-    uint64_t *to = blocks_sheet + ROW_COUNT_PLACE;
-    memcpy(blocks_sheet, sheet, ROW_COUNT_PLACE * sizeof *sheet);
-    *to++ = TRANCHE_WEIGHTS_BLOCK_ROWS + 1;
-    for (size_t row = 0; row <= TRANCHE_WEIGHTS_BLOCK_ROWS; row++, to += TRANCHE_WEIGHTS_ROW_WORDS)
-        memcpy(to, row == 0 ? first_row : row < TRANCHE_WEIGHTS_BLOCK_ROWS ? next_row : last_row, sizeof next_row);
     const uint64_t *tranches = sheet + ROW_COUNT_PLACE + 1 + TRANCHE_WEIGHTS_ROW_WORDS;
+    memcpy(to, sheet, ROW_COUNT_PLACE * sizeof *sheet);
+    to += ROW_COUNT_PLACE;
+    *to++ = rows;
+    for (uint64_t row = 0; row < rows; row++, to += TRANCHE_WEIGHTS_ROW_WORDS)
+        make_row(row, to);
     memcpy(to, tranches, (size_t)(sheet + WORDS - tranches) * sizeof *sheet);
+}
+
+/* Makes a row of the sheet of two blocks. */
+static void make_row_of_two_blocks(uint64_t row, uint64_t *to)
+{
+    memcpy(to, row == 0 ? first_row : row < TRANCHE_WEIGHTS_BLOCK_ROWS ? next_row : last_row, sizeof next_row);
+}
+
+/* Makes a row of the sheet of the most rows. */
+static void make_row_of_most(uint64_t row, uint64_t *to)
+{
+    const uint64_t n = row / TRANCHE_WEIGHTS_BLOCK_ROWS + 1, in_block = row % TRANCHE_WEIGHTS_BLOCK_ROWS;
+    to[0] = n;
+    to[1] = 2 * n;
+    to[2] = n;
+    to[3] = in_block == 0 ? 1 : in_block == TRANCHE_WEIGHTS_BLOCK_ROWS - 1 ? 2 : 0;
 }
 
 int main(int argc, char **argv)
@@ -402,13 +462,15 @@ int main(int argc, char **argv)
     fclose(from);
     for (size_t i = 0; i < RESULTS; i++)
         before.results[i] = WORD_BEFORE;
-    fill_blocks_sheet();
+    fill_sheet(two_blocks, TRANCHE_WEIGHTS_BLOCK_ROWS + 1, make_row_of_two_blocks);
+    fill_sheet(most_rows, TRANCHE_WEIGHTS_MOST_ROWS, make_row_of_most);
     on_stack(SHEET_STACK, try_weigh);
     on_stack(SHEET_STACK, try_stc);
     on_stack(SHEET_STACK, try_dates);
     on_stack(SHEET_STACK, try_least_weight);
     on_stack(SHEET_STACK, try_irb);
     on_stack(SHEET_STACK, try_blocks);
+    on_stack(SHEET_STACK, try_most_rows);
     on_stack(SHEET_STACK, try_refused_blocks);
     on_stack(FILE_STACK, try_weigh_file);
     on_stack(FILE_STACK, try_null);

@@ -54,6 +54,18 @@ held() {
     echo "$1: ok"
 }
 
+# Holds a program that reads a sheet's file to what is due on the checked deal, given in four ways: held_checked_deal PROGRAM
+held_checked_deal() {
+    run "$1" deal
+    held "$1: the checked deal"
+    run "$1" - < deal
+    held "$1: the checked deal as standard input"
+    (dd bs=1 count=101 2> dd.log; sleep 1; cat) < deal | run "$1" -
+    held "$1: the checked deal from a slow pipe"
+    "$bin/sheet_words" deal.txt | run "$1" -
+    held "$1: the checked deal from sheet_words"
+}
+
 # So many bytes, all the same: bytes NUMBER CHARACTER
 bytes() {
     dd if=/dev/zero bs="$1" count=1 2> dd.log | tr '\000' "$2"
@@ -151,14 +163,7 @@ done
 # ---- the report
 
 due 'charge 101000 tranches 3\n1 1 200000 1000000 2000 160 13 2000\n2 1 50000 200000 26350 264 22 26350\n3 2 0 50000 125000 625 50 125000\ntotal 1049 85\n' ''
-run tranche_report deal
-held 'tranche_report: the checked deal'
-run tranche_report - < deal
-held 'tranche_report: the checked deal as standard input'
-(dd bs=1 count=101 2> dd.log; sleep 1; cat) < deal | run tranche_report -
-held 'tranche_report: the checked deal from a slow pipe'
-"$bin/sheet_words" deal.txt | run tranche_report -
-held 'tranche_report: the checked deal from sheet_words'
+held_checked_deal tranche_report
 
 # ---- the totals by portfolio
 
@@ -175,14 +180,7 @@ highest() {
 }
 
 due '0 1 2 1000 1000 100000 1000 1000 100000 50\ntotal 1000 1000 100000 1000 1000 100000 50\n' ''
-run portfolio_totals deal
-held 'portfolio_totals: the checked deal'
-run portfolio_totals - < deal
-held 'portfolio_totals: the checked deal as standard input'
-(dd bs=1 count=101 2> dd.log; sleep 1; cat) < deal | run portfolio_totals -
-held 'portfolio_totals: the checked deal from a slow pipe'
-"$bin/sheet_words" deal.txt | run portfolio_totals -
-held 'portfolio_totals: the checked deal from sheet_words'
+held_checked_deal portfolio_totals
 
 sums='500000000 503000000 29950000000 482000000 485000000 28150000000 12500000'
 due "0 1 6 $sums\ntotal $sums\n" ''

@@ -1,6 +1,7 @@
 #!/bin/sh
-# The README's examples: the C program is taken out of it, built and run, the Rust program is the file that it names, and what they, the programs of the report and of the totals
-# and the C example print stands in it, line for line. The programs and the static library are built first: rt check sheet_words tranche_report portfolio_totals, rt staticlib tranche_weights.
+# The README's examples: the C program is taken out of it, built and run, the Rust program is the file that it names, and what they, the programs of the report and
+# of the totals and the C example print stands in it, line for line. The programs and the static library are built first: rt check sheet_words tranche_report
+# portfolio_totals, rt staticlib tranche_weights.
 set -eu
 cd "$(dirname "$0")/.."
 room=$(mktemp -d)

@@ -70,7 +70,7 @@ fn different_sheet(rows: usize, resecuritisation: u64) -> [u64; WORD_LIMIT]
     sheet
 }
 
-// The words of a sheet of so many different rows, with so many more at its end. The lent list has them, so a caller's cut of it needs no proof file.
+// How many words a sheet of so many different rows has, with so many more at its end. Promised: the lent list has so many (`HasBytes`, here of words), so that a caller can cut it there.
 fn different_length(rows: usize, more: usize, sheet: &[u64]) -> usize
     requires { ⌜ (rows ≤ rowsMost) × (more ≤ 1) × (length (now sheet) ≡ wordLimit) ⌝ }
     ensures { λ r. ⌜ HasBytes r (now (sheet .entry)) ⌝ }

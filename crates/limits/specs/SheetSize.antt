@@ -1,5 +1,5 @@
 -- 01, "The deal sheet": how many words a sheet, its rows and its results have, and "Refusals": how long a sheet's file may be; 02, S-1 and S-3, for the fifth and the
--- sixth fact, S-5 for the fourth section, S-6 for the seventh word of a line, and S-7 for the blocks of a pool. Every limit that follows from another is worked out here from its parts.
+-- sixth fact, S-5 for the fourth section, S-6 for the seventh word of a line, and S-7 for the blocks of a pool. Every limit that follows from another, and that the papers do not state themselves, is worked out here from its parts.
 use Prim.Native.Nat.{ℕ, _+_, _*_}
 
 -- ---- "Facts, count 4"; S-1: "A fifth fact says so (0 no, 1 yes); a sheet with four facts counts as 0."; S-3: "A sixth fact is the reporting date, ...; 0 or absent
@@ -25,7 +25,7 @@ rowSize = 4
 abbrev pub blockSize : ℕ
 blockSize = 50
 
--- the blocks of the most rows: 01's list has "20 block subtotals", and `rows-in-blocks` (proofs/SheetSizeLaws.antt) that they hold just the rows of the largest pool
+-- 01, "Code places and language forms": "20 block subtotals". They hold just the rows of the largest pool: `rows-in-blocks` (proofs/SheetSizeLaws.antt)
 abbrev pub blocksMost : ℕ
 blocksMost = 20
 

@@ -1,4 +1,4 @@
--- The order of the pool's rows does not enter: what it is that a sheet is another with its pool rows in another order.
+-- The order of the pool's rows does not enter the pool's sums, nor anything that follows from them (it enters those of its blocks): what it is that a sheet is another with its pool rows in another order.
 use mathlib.Core.List.{List}
 use mathlib.Core.Path.{_≡_}
 use Prim.Native.Nat.{ℕ, _+_, _≤_, _<_}

@@ -28,7 +28,7 @@ totalsBy s total counts = record {
   weighted = total (λ i. whereCounted (counts i) (weightedExposure s i));
 }
 
--- the seven sums: exposure, nominal and weighted exposure over all rows and over the rows with known status, and delinquent nominal
+-- 02, S-7: "the pool's seven sums ... (exposure, nominal and weighted exposure, each over all rows and over the rows with known status, and late nominal)"
 abbrev pub sumsBy : List ℕ → ((ℕ → ℕ) → ℕ) → Sums
 sumsBy s total = record {
   all = totalsBy s total (λ i. true);

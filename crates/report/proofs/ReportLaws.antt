@@ -1,4 +1,4 @@
--- The text of a file, from what `deal_file::weigh_file` answers for it, and that it fits TEXT_ROOM bytes. No axioms.
+-- The text of a file, from what `deal_file::weigh_file` answers for it, that it fits TEXT_ROOM bytes, and what becomes of any text in a lent buffer. No axioms.
 use mathlib.Core.Bool.{Bool, true, false}
 use mathlib.Core.List.{List, _++_}
 use mathlib.Core.Path.{_≡_, refl, sym, ap, _∙_}

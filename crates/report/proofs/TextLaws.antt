@@ -26,8 +26,12 @@ put-behind old at xs ys first second =
 
 -- ---- how long a text can be
 
-pub length-number : (n b : ℕ) → length (decimal n ++ b ∷ []) ≤ numberRoom
+length-number : (n b : ℕ) → length (decimal n ++ b ∷ []) ≤ numberRoom
 length-number n b = simp length-append (omega (arith, length-decimal n))
+
+-- where a number that is written ends
+pub number-ends : (end at n b : ℕ) → end ≡ at + length (decimal n ++ b ∷ []) → end ≤ at + numberRoom
+number-ends end at n b is = omega (arith, is, length-number n b)
 
 pub length-spaced : (n : ℕ) (ns : List ℕ) → length (spaced n ns) ≤ spacedRoom (length ns)
 unfolding spaced

@@ -104,6 +104,18 @@ mod tests {
         line.least_weights.iter().flat_map(beside).collect()
     }
 
+    /// The proved and the plain answer to each sheet of the table are admitted, and so are the proved sums of its blocks
+    /// where it is not refused.
+    #[test]
+    fn compared_sheets_agree() {
+        for (name, sheet) in deals::compared() {
+            assert_eq!(check(name, &sheet), Ok(None), "{name}");
+            if independent::block_sums(&sheet, 0).is_ok() {
+                assert_eq!(check_blocks(name, &sheet), Ok(()), "{name}");
+            }
+        }
+    }
+
     /// The formula leaves open two weights and two least weights of the small deal's last line, and all pairs agree.
     #[test]
     fn every_admitted_form_agrees() {
@@ -145,6 +157,7 @@ mod tests {
         assert!(difference(&admitted, Err((11, 8)), &[]).is_some());
         assert!(difference(&admitted, Err((10, 7)), &[]).is_some());
     }
+
     /// Sums with any one of them changed are not the same.
     #[test]
     fn every_changed_sum_is_a_difference() {

@@ -1,6 +1,6 @@
 //! The sheets that are timed.
 
-use tranche_weights::{MOST_ROWS, MOST_TRANCHES, ROW_WORDS, TRANCHE_WORDS};
+use tranche_weights::{BLOCK_ROWS, MOST_ROWS, MOST_TRANCHES, ROW_WORDS, TRANCHE_WORDS};
 
 /// Result words for the most tranches that a sheet can hold.
 pub const ROOM: usize = tranche_weights::RESULT_WORDS;
@@ -31,7 +31,7 @@ type Tranche = [u64; TRANCHE_WORDS];
 const MATURITY: usize = 2;
 
 /// The sheets on which the versions are compared, with their names in the table.
-pub fn compared() -> [(&'static str, Vec<u64>); 12] {
+pub fn compared() -> [(&'static str, Vec<u64>); 13] {
     [
         ("small: 3 rows, 3 tranches, one unrated", small()),
         ("small, all tranches rated", small_rated()),
@@ -41,6 +41,7 @@ pub fn compared() -> [(&'static str, Vec<u64>); 12] {
         ("small STC deal: 3 rows, 3 tranches, one unrated", small_stc()),
         ("small STC deal, all tranches rated", small_stc_rated()),
         ("small SEC-IRBA deal: mixed pool, 3 rows, 3 tranches", small_irba()),
+        ("small, 51 rows: just past one block", past_one_block()),
         ("large: 1,000 rows, 32 tranches", large()),
         ("large, refused at its last word", large_refused()),
         ("formula: 3 rows, 32 SEC-SA tranches, 3 millionths each", thin()),
@@ -106,6 +107,11 @@ fn small_stc_rated() -> Vec<u64> {
 fn small_irba() -> Vec<u64> {
     let tranches = three_tranches(1_000_000_000, 0);
     [&sheet(MIXED, &few_rows(100), &tranches), IRB_SECTION].concat()
+}
+
+/// A pool of one row more than a block has, with three tranches.
+fn past_one_block() -> Vec<u64> {
+    with_rows(BLOCK_ROWS as u64 + 1)
 }
 
 /// The most rows and tranches; two tranches to a class here and there, and every second one unrated.
@@ -226,10 +232,10 @@ mod tests {
         by_formula && charge >= 1 && line.detachment > charge
     }
 
-    /// The unrated tranche takes the formula, with and without the STC mark.
+    /// The unrated tranche takes the formula, with and without the STC mark and with a second block.
     #[test]
     fn small_deals_are_as_named() {
-        for small in [small(), small_stc()] {
+        for small in [small(), small_stc(), past_one_block()] {
             let small = deal(&small);
             let approaches: Vec<Approach> = small.lines.iter().map(|line| line.approach.into()).collect();
             assert_eq!(approaches, [Approach::SecErba, Approach::SecErba, Approach::SecSa]);
@@ -299,6 +305,15 @@ mod tests {
             let mut lines = marked.lines.iter().zip(&unmarked.lines);
             assert!(lines.all(|(one, other)| one.amounts[0].weight < other.amounts[0].weight));
         }
+    }
+
+    /// The deal just past one block has 51 rows: a full block, and one of a single row.
+    #[test]
+    fn one_row_is_past_one_block() {
+        let (sheet, rows) = (past_one_block(), rows(51));
+        let of_block = |block| independent::block_sums(&sheet, block).map(|sums| sums.all.nominal);
+        let due = [&rows[..50], &rows[50..], &[]].map(|rows| Ok(nominal(rows)));
+        assert_eq!([0, 1, 2].map(of_block), due);
     }
 
     /// Half of the tranches are rated; the damage is found at the last word and not before.

@@ -53,14 +53,26 @@ impl<'a> AskedBlock<'a> {
         let inside = self.rows.is_empty() && row < self.pool.len() as u64;
         inside.then_some(row)
     }
+
+    /// Whether a block past the last one would be one of the pool's, where its number were cut to 32 bits.
+    fn cut(&self) -> bool {
+        let number = self.number & u64::from(u32::MAX);
+        self.rows.is_empty() && number < blocks_of(self.pool.len() as u64)
+    }
+
+    /// Whether the block is full and another one follows it.
+    fn followed(&self) -> bool {
+        let rows = self.rows.len() as u64;
+        rows == BLOCK_ROWS && (self.number + 1) * BLOCK_ROWS < self.pool.len() as u64
+    }
 }
 
 /// Where a sheet is refused.
 #[derive(Debug, Clone, Copy, PartialEq, Eq)]
 pub enum RefusedAt {
-    /// At a word of the facts or the pool, or at the count of the tranches.
+    /// At a word of the facts or the pool or at the count of the tranches, or for one of these missing.
     UpToPool,
-    /// At a later word of the sheet, or for a missing one.
+    /// At a later word, or for a later one missing.
     AfterPool,
     /// At a word that follows the last section.
     Follow,
@@ -88,15 +100,17 @@ pub enum BlockRowFeature {
     Rows(u64),
     /// The first row of a block after the first has this status.
     First(u64),
-    /// The last row of a full block has this status.
+    /// The last row of a full block that another one follows has this status.
     LastOfFull(u64),
     /// The last row of a block after the first that is not full has this status.
     LastOfPartial(u64),
+    /// No row of the block has a known status, and some row of another one has.
+    NoneKnown,
 }
 
 impl BlockRowFeature {
     /// All features with their names.
-    pub(crate) const TABLE: [(BlockRowFeature, &'static str); 22] = [
+    pub(crate) const TABLE: [(BlockRowFeature, &'static str); 23] = [
         (BlockRowFeature::Rows(1), "blocks: pool of 1 row"),
         (BlockRowFeature::Rows(49), "blocks: pool of 49 rows"),
         (BlockRowFeature::Rows(50), "blocks: pool of 50 rows"),
@@ -116,19 +130,19 @@ impl BlockRowFeature {
         (BlockRowFeature::First(status::TRANCHE), "blocks: first row a tranche"),
         (
             BlockRowFeature::LastOfFull(status::PAYING),
-            "blocks: fiftieth row paying",
+            "blocks: fiftieth row paying, more follow",
         ),
         (
             BlockRowFeature::LastOfFull(status::DELINQUENT),
-            "blocks: fiftieth row delinquent",
+            "blocks: fiftieth row delinquent, more follow",
         ),
         (
             BlockRowFeature::LastOfFull(status::NOT_KNOWN),
-            "blocks: fiftieth row not known",
+            "blocks: fiftieth row not known, more follow",
         ),
         (
             BlockRowFeature::LastOfFull(status::TRANCHE),
-            "blocks: fiftieth row a tranche",
+            "blocks: fiftieth row a tranche, more follow",
         ),
         (
             BlockRowFeature::LastOfPartial(status::PAYING),
@@ -146,6 +160,7 @@ impl BlockRowFeature {
             BlockRowFeature::LastOfPartial(status::TRANCHE),
             "blocks: not full, last row a tranche",
         ),
+        (BlockRowFeature::NoneKnown, "blocks: no known row, but in another block"),
     ];
 
     /// Whether a block shows the feature.
@@ -153,11 +168,13 @@ impl BlockRowFeature {
         let &AskedBlock { number, pool, rows, .. } = asked;
         let (later, full) = (number > 0, rows.len() as u64 == BLOCK_ROWS);
         let has = |row: Option<&Row>, status| row.is_some_and(|row| row[RowWord::Status as usize] == status);
+        let known = |rows: &[Row]| rows.iter().any(|row| !has(Some(row), status::NOT_KNOWN));
         match self {
             BlockRowFeature::Rows(count) => number == 0 && pool.len() as u64 == count,
             BlockRowFeature::First(status) => later && has(rows.first(), status),
-            BlockRowFeature::LastOfFull(status) => full && has(rows.last(), status),
+            BlockRowFeature::LastOfFull(status) => asked.followed() && has(rows.last(), status),
             BlockRowFeature::LastOfPartial(status) => later && !full && has(rows.last(), status),
+            BlockRowFeature::NoneKnown => !rows.is_empty() && !known(rows) && known(pool),
         }
     }
 }
@@ -171,6 +188,8 @@ pub enum BlockFeature {
     WrapsToFirst,
     /// The same with a later row of the pool.
     WrapsInside,
+    /// A block past the last one, whose number cut to 32 bits is that of a block of the pool, and which does not wrap.
+    CutInside,
     /// The highest number.
     Highest,
     /// A block that has rows, of a sheet whose lines are refused by this number.
@@ -186,10 +205,11 @@ pub enum BlockFeature {
 
 impl BlockFeature {
     /// All features with their names.
-    pub(crate) const TABLE: [(BlockFeature, &'static str); 12] = [
+    pub(crate) const TABLE: [(BlockFeature, &'static str); 13] = [
         (BlockFeature::JustPast, "blocks: just past the last"),
         (BlockFeature::WrapsToFirst, "blocks: product wraps to the first row"),
         (BlockFeature::WrapsInside, "blocks: product wraps to a later row"),
+        (BlockFeature::CutInside, "blocks: number small in 32 bits alone"),
         (BlockFeature::Highest, "blocks: the highest number"),
         (
             BlockFeature::LinesRefused(refusal::THIN),
@@ -220,6 +240,7 @@ impl BlockFeature {
             BlockFeature::JustPast => asked.past() == Some(number),
             BlockFeature::WrapsToFirst => asked.wrapped() == Some(0),
             BlockFeature::WrapsInside => asked.wrapped().is_some_and(|row| row > 0),
+            BlockFeature::CutInside => asked.cut() && asked.wrapped().is_none(),
             BlockFeature::Highest => asked.refused.is_none() && number == u64::MAX,
             BlockFeature::LinesRefused(refused) => !asked.rows.is_empty() && asked.lines_refused == refused,
             BlockFeature::Refused { at, past: true } => number >= BLOCKS && asked.refused == Some(at),
@@ -240,7 +261,8 @@ mod tests {
     use crate::blocks::{WRAPS_INSIDE, WRAPS_TO_FIRST};
     use crate::sheet::BLOCK_EDGES;
 
-    /// Pools must be met of the counts that the generator makes, and every status at each end of a block.
+    /// Pools must be met of the counts that the generator makes, every status at each end of a block, and a block without
+    /// a known row.
     #[test]
     fn counts_and_statuses_are_listed() {
         let ends = [
@@ -251,7 +273,8 @@ mod tests {
         let at_end = |end: fn(u64) -> BlockRowFeature| status::TABLE.iter().map(move |&(status, _)| end(status));
         let counts = BLOCK_EDGES.into_iter().map(BlockRowFeature::Rows);
         let listed = BlockRowFeature::TABLE.iter().map(|entry| entry.0);
-        assert!(listed.eq(counts.chain(ends.into_iter().flat_map(at_end))));
+        let all = counts.chain(ends.into_iter().flat_map(at_end));
+        assert!(listed.eq(all.chain([BlockRowFeature::NoneKnown])));
     }
 
     /// A sheet without due diligence, whose rows have these statuses.
@@ -272,7 +295,8 @@ mod tests {
         features.into_iter().filter(|feature| feature.shown(&asked)).collect()
     }
 
-    /// Blocks count by the status of their first row, but for that of the pool, and of their last; pools by their rows.
+    /// Blocks count by the status of their first row, but for that of the pool, and of their last, but for the last row
+    /// of a pool of full blocks; pools by their rows.
     #[test]
     fn rows_are_counted() {
         let mut statuses = [status::PAYING; 101];
@@ -287,8 +311,34 @@ mod tests {
         let tranches = [status::TRANCHE; 52];
         assert_eq!(shown_by_rows(&tranches, 0), [BlockRowFeature::LastOfFull(3)]);
         assert_eq!(shown_by_rows(&tranches, 1), both(status::TRANCHE));
+        assert_eq!(
+            shown_by_rows(&statuses[..100], 0),
+            [BlockRowFeature::Rows(100), fiftieth]
+        );
+        assert_eq!(shown_by_rows(&statuses[..100], 1), [first]);
+        assert_eq!(shown_by_rows(&statuses[..50], 0), [BlockRowFeature::Rows(50)]);
         assert_eq!(shown_by_rows(&[0; 48], 0), []);
         assert_eq!(shown_by_rows(&[9; 50], 0), []);
+    }
+
+    /// A block without a row of known status counts where another one has such a row, full or not, the first or a later
+    /// one.
+    #[test]
+    fn blocks_without_a_known_row_are_counted() {
+        let none_known = |statuses: &[u64], number| {
+            let shown = shown_by_rows(statuses, number);
+            shown.contains(&BlockRowFeature::NoneKnown)
+        };
+        let mut statuses = [status::NOT_KNOWN; 101];
+        assert!((0..3).all(|number| !none_known(&statuses, number)));
+        statuses[75] = status::DELINQUENT;
+        assert_eq!(
+            [0, 1, 2, 3].map(|number| none_known(&statuses, number)),
+            [true, false, true, false]
+        );
+        statuses[49] = status::PAYING;
+        assert!(!none_known(&statuses, 0) && none_known(&statuses, 2));
+        assert!((0..2).all(|number| !none_known(&[status::TRANCHE; 51], number)));
     }
 
     /// What a block of a sheet shows, with so much room for its lines.
@@ -304,7 +354,8 @@ mod tests {
         shown_with(sheet, MOST_RESULTS, number)
     }
 
-    /// Past the last block: the one just past it, numbers that wrap to a row of the pool, and the highest.
+    /// Past the last block: the one just past it, numbers that wrap to a row of the pool or are cut to a block of it, and
+    /// the highest.
     #[test]
     fn numbers_past_the_last_are_counted() {
         let [short, long, full] = [34, 35, 50].map(|rows| sheet(&vec![0; rows]));
@@ -316,6 +367,9 @@ mod tests {
         assert_eq!(shown(&long, WRAPS_TO_FIRST), [BlockFeature::WrapsToFirst]);
         assert_eq!(shown(&long, WRAPS_INSIDE), [BlockFeature::WrapsInside]);
         assert_eq!(shown(&short, WRAPS_INSIDE), []);
+        let cut = [1 << 32, (1 << 32) + 1].map(|number| shown(&long, number));
+        assert_eq!(cut, [vec![BlockFeature::CutInside], vec![]]);
+        assert_eq!(shown(&sheet(&[0; 51]), (1 << 32) + 1), [BlockFeature::CutInside]);
         assert_eq!(shown(&long, u64::MAX), [BlockFeature::Highest]);
     }
 

@@ -1,6 +1,6 @@
 //! The blocks of rows whose sums are asked for, and the comparison of those sums with the independent ones (S-7).
 
-use crate::answer::{sum_words, SumWord, SUM_WORDS};
+use crate::answer::{sum_words, SumWord};
 use crate::case::Case;
 use crate::difference::{same, Asked, Difference, Part};
 use crate::library::{BlockReply, SumBlock};
@@ -32,11 +32,11 @@ pub fn pool_of(read: &Result<Sheet, Refusal>) -> Result<&[Row], Refusal> {
     read.as_ref().map(|sheet| &sheet.pool[..]).map_err(|refusal| *refusal)
 }
 
-/// The numbers of the blocks that are asked for with a sheet, and how many of them, from the first, are blocks of its
-/// pool; a sheet that is refused has none.
-pub fn numbers(pool: Result<&[Row], Refusal>, drawn: [u64; DRAWN]) -> (Vec<u64>, usize) {
+/// The numbers of the blocks that are asked for with a sheet: those of its pool and the one past its last, then the
+/// others. A sheet that is refused has no pool.
+pub fn numbers(pool: Result<&[Row], Refusal>, drawn: [u64; DRAWN]) -> Vec<u64> {
     let own = pool.map_or(0, |rows| blocks_of(rows.len() as u64));
-    ((0..=own).chain(ALWAYS).chain(drawn).collect(), own as usize)
+    (0..=own).chain(ALWAYS).chain(drawn).collect()
 }
 
 /// The reply that is due to a block: the sums of its rows, or the refusal of the sheet with sums of 0.
@@ -47,19 +47,15 @@ pub fn due(pool: Result<&[Row], Refusal>, number: u64) -> BlockReply {
     }
 }
 
-/// Compares the sums of all blocks that are asked for with the independent ones, and those of the pool's blocks, added
-/// up, with the sums over the whole pool. Gives the numbers of the blocks.
+/// Compares the sums of all blocks that are asked for with the independent ones. Gives the numbers of the blocks.
 pub fn compare(block_sums: SumBlock, case: &Case) -> Result<Vec<u64>, Difference> {
     let read = sheet::read(&case.sheet);
     let pool = pool_of(&read);
-    let (numbers, own) = numbers(pool, case.blocks);
-    let mut said = Vec::with_capacity(numbers.len());
+    let numbers = numbers(pool, case.blocks);
     for &number in &numbers {
-        let reply = block_sums(&case.sheet, number);
-        compare_reply(&due(pool, number), &reply).map_err(|difference| difference.of(Asked::Block(number)))?;
-        said.push(reply.sums);
+        let said = block_sums(&case.sheet, number);
+        compare_reply(&due(pool, number), &said).map_err(|difference| difference.of(Asked::Block(number)))?;
     }
-    pool.map_or(Ok(()), |rows| compare_totals(rows, &said[..own]))?;
     Ok(numbers)
 }
 
@@ -74,15 +70,6 @@ fn compare_reply(due: &BlockReply, said: &BlockReply) -> Result<(), Difference> 
     words.try_for_each(|((word, _), (&due, said))| same(Part::Sum(*word), due, said))
 }
 
-/// The sums of the pool's blocks, added up, are those over the whole pool ("Every total equals the old one").
-fn compare_totals(pool: &[Row], said: &[[u64; SUM_WORDS]]) -> Result<(), Difference> {
-    let mut total = [0; SUM_WORDS];
-    for sums in said {
-        total.iter_mut().zip(sums).for_each(|(total, sum)| *total += sum);
-    }
-    same(Part::BlockTotals, sum_words(&block::sums_over(pool)), total)
-}
-
 #[cfg(test)]
 mod tests {
     use super::*;
@@ -92,10 +79,10 @@ mod tests {
     /// A pool of so many rows.
     fn pool(rows: usize) -> Vec<Row> {
         let row = Row {
-            exposure: 2,
-            nominal: 3,
-            risk_weight: 5,
-            status: Status::Delinquent,
+            exposure: 1,
+            nominal: 1,
+            risk_weight: 0,
+            status: Status::Paying,
         };
         vec![row; rows]
     }
@@ -113,31 +100,11 @@ mod tests {
     #[test]
     fn every_block_is_asked_for() {
         let others = [19, 20, 1 << 32, WRAPS_INSIDE, WRAPS_TO_FIRST, u64::MAX, 7, 8];
-        let asked = |rows| {
-            let (numbers, own) = numbers(Ok(&pool(rows)), [7, 8]);
-            assert_eq!(numbers[own + 1..], others);
-            numbers[..=own].to_vec()
-        };
-        assert_eq!([asked(1), asked(50)], [[0, 1]; 2]);
-        assert_eq!(asked(51), [0, 1, 2]);
-        assert_eq!(asked(1_000), (0..=20).collect::<Vec<_>>());
-        let refused = numbers(Err(Refusal { number: 1, place: 0 }), [7, 8]);
-        assert_eq!(refused, ([&[0], &others[..]].concat(), 0));
-    }
-
-    /// Sums of blocks that do not add up to those of the pool are found, in whichever word.
-    #[test]
-    fn totals_are_compared() {
-        let pool = pool(60);
-        let sums = |rows: u64| [2, 3, 10, 2, 3, 10, 3].map(|sum| rows * sum);
-        let part = |said: &[[u64; SUM_WORDS]]| compare_totals(&pool, said).map_err(|difference| difference.part);
-        assert_eq!(part(&[sums(50), sums(10)]), Ok(()));
-        assert_eq!(part(&[sums(50)]), Err(Part::BlockTotals));
-        assert_eq!(part(&[sums(50), sums(11)]), Err(Part::BlockTotals));
-        for word in 0..SUM_WORDS {
-            let mut last = sums(10);
-            last[word] += 1;
-            assert_eq!(part(&[sums(50), last]), Err(Part::BlockTotals));
+        let up_to = |past: u64| (0..=past).chain(others).collect::<Vec<_>>();
+        for (rows, past) in [(1, 1), (50, 1), (51, 2), (1_000, 20)] {
+            assert_eq!(numbers(Ok(&pool(rows)), [7, 8]), up_to(past), "{rows}");
         }
+        let refused = numbers(Err(Refusal { number: 1, place: 0 }), [7, 8]);
+        assert_eq!(refused, up_to(0));
     }
 }

@@ -20,8 +20,6 @@ pub enum Part {
     Line(LineWord),
     /// A word of a block's sums, also one above 0 on a refusal.
     Sum(SumWord),
-    /// The sums of all blocks, added up.
-    BlockTotals,
     /// A word after the lines was written.
     AfterLines,
     /// A result word was written on a refusal.
@@ -57,7 +55,6 @@ impl fmt::Display for Part {
             Part::Charge => "pool charge",
             Part::Line(word) => word.name(),
             Part::Sum(word) => word.name(),
-            Part::BlockTotals => "sums over the blocks",
             Part::AfterLines => "a word after the lines was written",
             Part::ResultsOnRefusal => "results were written on a refusal",
             Part::Text => "report text",

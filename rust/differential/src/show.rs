@@ -88,8 +88,7 @@ fn sums(reply: &BlockReply) -> String {
 fn block_answers(library: &Library, case: &Case) -> String {
     let read = independent::sheet::read(&case.sheet);
     let pool = blocks::pool_of(&read);
-    let (numbers, _) = blocks::numbers(pool, case.blocks);
-    let both = numbers.into_iter().map(|block| {
+    let both = blocks::numbers(pool, case.blocks).into_iter().map(|block| {
         let independent = sums(&blocks::due(pool, block));
         let proved = sums(&(library.block_sums)(&case.sheet, block));
         format!("independent, block {block}: {independent}proved, block {block}: {proved}")

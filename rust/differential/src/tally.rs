@@ -519,6 +519,8 @@ mod tests {
         tally.irb_features[IrbFeature::CapDecided as usize] = 1;
         tally.least_features[LeastFeature::Ends(Approach::Fallback, Ends::Any).place()] = 1;
         tally.room_features[RoomFeature::OneLessEach as usize] = 1;
+        tally.block_row_features[0] = 1;
+        tally.block_features[BlockFeature::TABLE.len() - 1] = 1;
         let missing = tally.missing();
         let noted = [
             "refusal 13",
@@ -528,6 +530,8 @@ mod tests {
             "SEC-IRBA: cap decided",
             "fallback ends: 125,000",
             "refusal 14 with one less for each tranche",
+            "blocks: pool of 1 row",
+            "blocks: refused by 3, past",
         ];
         assert_eq!(missing.len(), all - noted.len());
         assert!(noted.iter().all(|name| !missing.contains(&name.to_string())));

@@ -6,7 +6,7 @@ use common::{file, room, sheet, sheet_with, Row, Tranche};
 use independent::block::sums_over;
 use independent::{block_sums, weigh_file, BlockSums, Refusal, Totals};
 
-/// Numbers of blocks past the last of any pool. Times 50, two of them are a multiple of 2^64 and the number of a row.
+/// Numbers of blocks past the last of any pool. Times 50 and cut to 64 bits, two of them are 0 and 34, numbers of rows.
 const PAST_ALL: [u64; 5] = [20, 1 << 32, 368_934_881_474_191_033, 1 << 63, u64::MAX];
 
 /// A tranche; nothing of it counts here.

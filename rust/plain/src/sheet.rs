@@ -200,7 +200,7 @@ impl<'a> Reader<'a> {
     }
 
     /// The section of the pool, added up block by block. A re-securitisation holds securitisation tranches and nothing
-    /// else. Its loop is quicker in a function of its own than within `read`.
+    /// else. The loop over the rows is kept out of `read`, with `block` inlined here; with `block` apart it is slower.
     #[inline(never)]
     fn pool(&mut self, resecuritisation: bool) -> Result<Pool, Refusal> {
         let statuses = if resecuritisation {
@@ -219,6 +219,7 @@ impl<'a> Reader<'a> {
     }
 
     /// A block of so many rows, added up row by row.
+    #[inline(always)]
     fn block(&mut self, rows: u64, statuses: &RangeInclusive<u64>) -> Result<Pool, Refusal> {
         let mut block = Pool::default();
         for _ in 0..rows {

@@ -97,7 +97,9 @@
 //!
 //! Types that are marked non-exhaustive get cases and fields in later versions, and lines get words. A program that
 //! makes facts and rows by `new` and `with_…`, has an arm for all other cases in each `match`, and counts the words
-//! that it lends by [`LINE_WORDS`] and [`RESULT_WORDS`], goes on with those too. The name of a refusal that is no longer
+//! that it lends by [`LINE_WORDS`] and [`RESULT_WORDS`], goes on with those too. A refusal's number, an approach's word
+//! and the place of a word in the line and of a sum keep their meaning in all versions, but for the unit of weighted
+//! exposure ([`Totals::weighted_exposure`]), which may become finer than percent. The name of a refusal that is no longer
 //! given goes with it; a program that has it must leave it out.
 
 #![deny(missing_docs)]

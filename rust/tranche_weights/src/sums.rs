@@ -10,7 +10,8 @@ pub struct Totals {
     pub exposure: u64,
     /// The sum of the nominal amounts, in whole currency units.
     pub nominal: u64,
-    /// The sum of exposure amount times risk weight in percent: an exposure of 200 at 50% adds 10,000.
+    /// The sum of exposure amount times risk weight in percent: an exposure of 200 at 50% adds 10,000. In later versions
+    /// the unit may become finer than percent.
     pub weighted_exposure: u64,
 }
 

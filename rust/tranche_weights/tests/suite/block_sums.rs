@@ -1,13 +1,10 @@
 //! The sums of the blocks of a pool's rows (document 02, S-7).
 
-use crate::checked_deal::{ordinary, resecuritised, tranche, with_rows_and_tranches, RESULTS, WORDS};
+use crate::checked_deal::{ordinary, resecuritised, tranche, with_rows_and_tranches, WORDS};
 use crate::places::{first_row, row_count, rows, tranche_count};
 use crate::refusals::{hold, refused};
 use std::error::Error;
-use tranche_weights::{
-    block_sums, reply_to_block, reply_to_words, BlockReply, BlockSums, Refusal, Reply, BLOCK_ROWS, MOST_BLOCKS,
-    SUM_WORDS,
-};
+use tranche_weights::{block_sums, reply_to_block, BlockReply, BlockSums, Refusal, BLOCK_ROWS, MOST_BLOCKS, SUM_WORDS};
 
 /// Numbers of blocks past the last of every pool. Cut to 32 bits, or times the rows of a block and cut to 64, some of
 /// them are those of a block or a row that a pool has: 368934881474191033 times 50 is 34 more than 2^64.
@@ -49,18 +46,14 @@ fn words_of(sums: BlockSums) -> [u64; SUM_WORDS] {
     words.try_into().expect("three words twice and one")
 }
 
-/// Holds a call that reads the sums of a sheet's blocks: each block's are those of its rows, all together are those of
-/// the pool, and past the last block they are 0.
+/// Holds a call that reads the sums of a sheet's blocks: each block's are those of its rows, and past the last block they
+/// are 0.
 pub fn hold_blocks(words: &[u64], sums: impl Fn(u64) -> Result<BlockSums, Refusal>) {
     let read = |block: u64| words_of(sums(block).unwrap_or_else(|refusal| panic!("{refusal}: {words:?}")));
     let rows: Vec<&[u64]> = rows(words).collect();
-    let mut total = [0; SUM_WORDS];
     for (block, rows) in (0..).zip(rows.chunks(BLOCK_ROWS)) {
-        let sums = read(block);
-        assert_eq!(sums, sums_of(rows.iter().copied()), "block {block}: {words:?}");
-        total.iter_mut().zip(sums).for_each(|(total, sum)| *total += sum);
+        assert_eq!(read(block), sums_of(rows.iter().copied()), "block {block}: {words:?}");
     }
-    assert_eq!(total, sums_of(rows.iter().copied()), "{words:?}");
     let past = rows.len().div_ceil(BLOCK_ROWS) as u64;
     for block in (past..MOST_BLOCKS as u64).chain(PAST_ALL) {
         assert_eq!(read(block), [0; SUM_WORDS], "block {block}: {words:?}");
@@ -85,7 +78,6 @@ fn each_block_has_its_sums() {
         for first_status in 0..4 {
             let words = with_rows(count, first_status);
             hold_blocks(&words, |block| block_sums(&words, block));
-            hold_blocks(&words, |block| reply_to_block(&words, block).outcome());
         }
     }
 }
@@ -138,12 +130,4 @@ fn words_alone_are_refused() {
             assert_eq!(reply_to_block(&words, block), BlockReply::refusing(number, place));
         }
     }
-}
-
-/// A sheet whose lines find no room is summed.
-#[test]
-fn no_room_is_needed() {
-    let mut results = [0; RESULTS.len() - 1];
-    assert_eq!(reply_to_words(&WORDS, &mut results), Reply::refusing(14, 0));
-    hold_blocks(&WORDS, |block| block_sums(&WORDS, block));
 }

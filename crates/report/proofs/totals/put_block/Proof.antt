@@ -1,9 +1,8 @@
 -- `put_block`: number and rows of the block, each with a space after it, and its sums behind them. No axioms.
 use mathlib.Core.Path.{refl}
-use Prim.Native.Nat.{_+_, _*_}
 use native.Mathlib.Omega.{arith}
 use borrow.Author.Needs.{needs}
-use Rattle.report.proofs.TextLaws.{length-number}
+use Rattle.report.proofs.TextLaws.{number-ends}
 use Rattle.report.proofs.LineSteps.{number-before}
 use Rattle.report.proofs.PortfolioLaws.{block-line-put}
 use Rattle.report.proofs.totals.put_block.Statement.{statement}
@@ -27,30 +26,28 @@ add-put-number c = search needs
 put-number-requires-2 : tie.Need-put-number-requires-2
 put-number-requires-2 c κs =
     let numbered = c .before .before .before in
-    omega (arith, numbered, numbered .before .before .before .before .pre, length-number (numbered .before .before .before .before .args .b) 32)
+    omega (arith, numbered, numbered .before .before .before .before .pre, number-ends _ _ _ _ (numbered .put-number .ensures .0))
 
 put-number-requires-3 : tie.Need-put-number-requires-3
 put-number-requires-3 c κs =
     let begun = c .before .before .before in
     let numbered = begun .before .before .before .before in
-    let start = numbered .before .before .before .before in
-    omega (arith, begun, numbered, start .pre, length-number (start .args .b) 32, length-number (50 * start .args .b + 1) 32)
+    omega (arith, begun, numbered, numbered .before .before .before .before .pre, number-ends _ _ _ _ (numbered .put-number .ensures .0), number-ends _ _ _ _ (begun .put-number2 .ensures .0))
 
 put-sums-requires : tie.Need-put-sums-requires
 put-sums-requires c κs =
     let ended = c .before .before .before in
     let begun = ended .before .before .before .before in
     let numbered = begun .before .before .before .before in
-    let start = numbered .before .before .before .before in
     omega (
       arith,
       ended,
       begun,
       numbered,
-      start .pre,
-      length-number (start .args .b) 32,
-      length-number (50 * start .args .b + 1) 32,
-      length-number (numbered .before .before .smaller .result) 32,
+      numbered .before .before .before .before .pre,
+      number-ends _ _ _ _ (numbered .put-number .ensures .0),
+      number-ends _ _ _ _ (begun .put-number2 .ensures .0),
+      number-ends _ _ _ _ (ended .put-number3 .ensures .0),
     )
 
 same-length : tie.Need-same-length
