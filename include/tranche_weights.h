@@ -38,7 +38,7 @@ extern "C" {
 #endif
 
 /* The version of the interface. */
-#define TRANCHE_WEIGHTS_INTERFACE 7
+#define TRANCHE_WEIGHTS_INTERFACE 8
 
 /*
  * The parts of a sheet: the fewest and the most facts, of one word each; the most pool rows and the words of one; the most tranches and the words of one; the words of
@@ -153,12 +153,12 @@ enum {
 };
 
 /* The functions as the archive names them. They take what the functions below take, and no null pointer. */
-uint64_t tranche_weights_weigh_v7(const uint64_t *sheet, size_t words, uint64_t *results, size_t room, uint64_t *place, uint64_t *count,
+uint64_t tranche_weights_weigh_v8(const uint64_t *sheet, size_t words, uint64_t *results, size_t room, uint64_t *place, uint64_t *count,
                                   uint64_t *charge);
-uint64_t tranche_weights_weigh_file_v7(const uint8_t *file, size_t size, uint64_t *results, size_t room, uint64_t *place, uint64_t *count,
+uint64_t tranche_weights_weigh_file_v8(const uint8_t *file, size_t size, uint64_t *results, size_t room, uint64_t *place, uint64_t *count,
                                        uint64_t *charge);
-uint64_t tranche_weights_report_v7(const uint8_t *file, size_t size, uint8_t *text, size_t room);
-uint64_t tranche_weights_block_sums_v7(const uint64_t *sheet, size_t words, uint64_t block, uint64_t *place, uint64_t *sums);
+uint64_t tranche_weights_report_v8(const uint8_t *file, size_t size, uint8_t *text, size_t room);
+uint64_t tranche_weights_block_sums_v8(const uint64_t *sheet, size_t words, uint64_t block, uint64_t *place, uint64_t *sums);
 
 /*
  * Weighs every tranche of a deal sheet.
@@ -176,7 +176,7 @@ static inline uint64_t tranche_weights_weigh(const uint64_t *sheet, size_t words
                                              uint64_t *count, uint64_t *charge)
 {
     uint64_t nothing = 0;
-    return tranche_weights_weigh_v7(words ? sheet : &nothing, words, room ? results : &nothing, room, place, count, charge);
+    return tranche_weights_weigh_v8(words ? sheet : &nothing, words, room ? results : &nothing, room, place, count, charge);
 }
 
 /*
@@ -192,7 +192,7 @@ static inline uint64_t tranche_weights_weigh_file(const uint8_t *file, size_t si
 {
     uint8_t no_byte = 0;
     uint64_t nothing = 0;
-    return tranche_weights_weigh_file_v7(size ? file : &no_byte, size, room ? results : &nothing, room, place, count, charge);
+    return tranche_weights_weigh_file_v8(size ? file : &no_byte, size, room ? results : &nothing, room, place, count, charge);
 }
 
 /*
@@ -207,7 +207,7 @@ static inline uint64_t tranche_weights_weigh_file(const uint8_t *file, size_t si
 static inline uint64_t tranche_weights_report(const uint8_t *file, size_t size, uint8_t *text, size_t room)
 {
     uint8_t nothing = 0;
-    return tranche_weights_report_v7(size ? file : &nothing, size, room ? text : &nothing, room);
+    return tranche_weights_report_v8(size ? file : &nothing, size, room ? text : &nothing, room);
 }
 
 /*
@@ -226,7 +226,7 @@ static inline uint64_t tranche_weights_report(const uint8_t *file, size_t size, 
 static inline uint64_t tranche_weights_block_sums(const uint64_t *sheet, size_t words, uint64_t block, uint64_t *place, uint64_t *sums)
 {
     uint64_t nothing = 0;
-    return tranche_weights_block_sums_v7(words ? sheet : &nothing, words, block, place, sums);
+    return tranche_weights_block_sums_v8(words ? sheet : &nothing, words, block, place, sums);
 }
 
 #ifdef __cplusplus

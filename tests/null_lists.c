@@ -16,7 +16,7 @@ static void there(const void *pointer, const char *what)
     }
 }
 
-uint64_t tranche_weights_weigh_v7(const uint64_t *sheet, size_t words, uint64_t *results, size_t room, uint64_t *place, uint64_t *count,
+uint64_t tranche_weights_weigh_v8(const uint64_t *sheet, size_t words, uint64_t *results, size_t room, uint64_t *place, uint64_t *count,
                                   uint64_t *charge)
 {
     there(sheet, "sheet");
@@ -25,7 +25,7 @@ uint64_t tranche_weights_weigh_v7(const uint64_t *sheet, size_t words, uint64_t 
     return words + room;
 }
 
-uint64_t tranche_weights_weigh_file_v7(const uint8_t *file, size_t size, uint64_t *results, size_t room, uint64_t *place, uint64_t *count,
+uint64_t tranche_weights_weigh_file_v8(const uint8_t *file, size_t size, uint64_t *results, size_t room, uint64_t *place, uint64_t *count,
                                        uint64_t *charge)
 {
     there(file, "file");
@@ -34,14 +34,14 @@ uint64_t tranche_weights_weigh_file_v7(const uint8_t *file, size_t size, uint64_
     return size + room;
 }
 
-uint64_t tranche_weights_report_v7(const uint8_t *file, size_t size, uint8_t *text, size_t room)
+uint64_t tranche_weights_report_v8(const uint8_t *file, size_t size, uint8_t *text, size_t room)
 {
     there(file, "file of a report");
     there(text, "text");
     return size + room;
 }
 
-uint64_t tranche_weights_block_sums_v7(const uint64_t *sheet, size_t words, uint64_t block, uint64_t *place, uint64_t *sums)
+uint64_t tranche_weights_block_sums_v8(const uint64_t *sheet, size_t words, uint64_t block, uint64_t *place, uint64_t *sums)
 {
     there(sheet, "sheet of a block");
     *place = *sums = 0;

@@ -1,5 +1,5 @@
 #!/usr/bin/env python3
-"""The text that crates/checked_examples must print. What passes is worked out from the papers alone: 01, S-1 to S-3 and S-5 to S-7 of 02, and Tables 3 and 4 of source
+"""The text that crates/checked_examples must print. What passes is worked out from the papers alone: 01, S-1 to S-3 and S-5 to S-8 of 02, and Tables 3 and 4 of source
 document 001. Exact fractions, exponentials to a hundred digits, Python's own calendar.
 
     python3 tests/worked_examples.py > /tmp/worked_examples && cmp /tmp/worked_examples crates/checked_examples/stdout
@@ -9,9 +9,10 @@ would differ. Where two numbers pass as the seventh word, or as the low number o
 the two; where that has neither, it is the higher, the exact value rounded down. Nothing else is taken from the stored text.
 
 It fails where a figure of the rating tables is missing from the examples' weights, where a case of one, two or three ratings, of dates, of the IRB section, of
-SEC-IRBA, of the seventh word or of totals by portfolio (S-7) is met by no example, where no line of the examples depends on a coefficient of SEC-IRBA, where a weight
-published in source document 004 is not enclosed, where a deal in dates has other lines than the same deal in months, or where the totals by portfolio are not those of
-the pool. It needs Python's standard library and is no part of the gate.
+SEC-IRBA, of the seventh word, of totals by portfolio (S-7) or of inferred ratings (S-8) is met by no example, where no line of the examples depends on a coefficient
+of SEC-IRBA, where a misreading of S-8 gives every example the lines that it has, where a weight published in source document 004 is not enclosed, where a deal in
+dates has other lines than the same deal in months, or where the totals by portfolio are not those of the pool. It needs Python's standard library and is no part of
+the gate.
 """
 import os
 import sys
@@ -74,7 +75,9 @@ COEFFICIENTS = {
 }
 PARAMETER_LEAST = 300_000
 
-# The IRB section, and a sheet with no bad word; `irb` is None in an SA pool.
+# A tranche: the place of its amount, its row with the class as rank and the maturity in months, its three rating words. The IRB section. And a sheet with no bad
+# word; `irb` is None in an SA pool.
+Tranche = namedtuple("Tranche", "at amount rank months held codes")
 Irb = namedtuple("Irb", "charge loss loans retail share average")
 Deal = namedtuple("Deal", "resecuritised diligence composition stc rows tranches irb")
 
@@ -170,7 +173,7 @@ def judged(words):
         months = months_of(take(lambda w: maturity_fault(w, reporting)), reporting)
         held = take(within(0, amount, 8))
         codes = [take(lambda w: 0 if w == 0 or w in ORDINARY else 11) for _ in range(3)]
-        tranches.append((at, amount, last, months, held, codes))
+        tranches.append(Tranche(at, amount, last, months, held, codes))
     irb = None
     if kind != SA_POOL:
         take(within(1, 1, 2))
@@ -186,7 +189,7 @@ def judged(words):
 def point(rows, tranches, counted):
     """What is left of the pool's nominal after the tranches of the classes that count, in millionths, rounded down."""
     nominal = sum(n for _, n, _, _ in rows)
-    return max(0, nominal - sum(t[1] for t in tranches if counted(t[2]))) * MILLION // nominal
+    return max(0, nominal - sum(t.amount for t in tranches if counted(t.rank))) * MILLION // nominal
 
 
 def points(deal, own):
@@ -222,6 +225,26 @@ def mixed_charge(deal):
     return up(deal.irb.share * deal.irb.charge + (MILLION - deal.irb.share) * mean_weight(deal.rows, 800), MILLION)
 
 
+# ---- inferred ratings
+
+
+def reference_of(deal, tranche):
+    """The row whose ratings a tranche takes, or None. "An unrated tranche of an ordinary deal without SEC-IRBA looks for rated tranches of its own or a junior class
+    with equal or longer maturity in months. Of these the most senior class counts, and in it the first row." A tranche is rated by words of its own. Without due
+    diligence the ratings change nothing."""
+    if any(tranche.codes) or deal.resecuritised or by_irba(deal):
+        return None
+    found = [t for t in deal.tranches if any(t.codes) and t.rank >= tranche.rank and t.months >= tranche.months]
+    return min(found, key=lambda t: t.rank, default=None)
+
+
+def with_ratings_that_count(deal, tranche):
+    """A tranche with the ratings that its line goes by. "It takes that row's ratings, with its own class, maturity and thickness"; where there is no such row it keeps
+    its own."""
+    reference = reference_of(deal, tranche)
+    return tranche._replace(codes=reference.codes) if reference else tranche
+
+
 # ---- the rating tables
 
 
@@ -242,8 +265,7 @@ def figure_by_rating(code, stc, senior, months, thickness):
 
 def figures_by_ratings(deal, tranche, thickness):
     """The exact figures by the ratings that a tranche has, in their order."""
-    _, _, rank, months, _, codes = tranche
-    return [figure_by_rating(code, deal.stc, rank == 1, months, thickness) for code in codes if code]
+    return [figure_by_rating(code, deal.stc, tranche.rank == 1, tranche.months, thickness) for code in tranche.codes if code]
 
 
 def one_that_counts(weights):
@@ -311,7 +333,7 @@ def parameter_of_sum(total):
 
 # ---- the report
 
-# A line: what it was worked out from, and its ends before and after floor and cap. And the lines of all reports.
+# A line: what it was worked out from, its tranche with the ratings that count, and its ends before and after floor and cap. And the lines of all reports.
 Line = namedtuple("Line", "deal tranche a d charge approach raw ends")
 LINES = []
 
@@ -326,7 +348,7 @@ def parameter_and_floor(resecuritised, stc, senior):
 
 
 def approach_of(deal, codes, known):
-    """Which approach a tranche with these rating words takes."""
+    """Which approach a tranche takes, by the rating words that count for it."""
     if not deal.diligence:
         return FALLBACK
     if deal.resecuritised:
@@ -355,18 +377,18 @@ def limited(deal, approach, senior, raw):
 
 def irba_ends(deal, tranche, a, d, charge, coefficients):
     """The raw ends of a tranche under SEC-IRBA with these coefficients."""
-    parameter = parameter_of_sum(parameter_sum(deal.irb, deal.stc, tranche[3], charge, coefficients))
+    parameter = parameter_of_sum(parameter_sum(deal.irb, deal.stc, tranche.months, charge, coefficients))
     return raw_ends(a, d, charge, parameter)
 
 
 def irba_weight(deal, tranche, a, d, charge, coefficients):
     """The weight of a tranche under SEC-IRBA with these coefficients."""
-    return limited(deal, IRBA, tranche[2] == 1, irba_ends(deal, tranche, a, d, charge, coefficients)).weight
+    return limited(deal, IRBA, tranche.rank == 1, irba_ends(deal, tranche, a, d, charge, coefficients)).weight
 
 
 def ends_of(deal, approach, tranche, a, d, charge):
     """The ends of a tranche by its approach, before floor and cap."""
-    senior = tranche[2] == 1
+    senior = tranche.rank == 1
     if approach == FALLBACK:
         return Ends(TOP, (TOP,))
     if approach == IRBA:
@@ -382,29 +404,28 @@ def amounts(held, weight):
 
 
 def line_of(deal, tranche, charge, known):
-    """The line of a tranche, or refusal 13."""
-    at, _, rank, _, _, codes = tranche
-    a, d = points(deal, rank)
-    approach = approach_of(deal, codes, known)
+    """The line of a tranche with the ratings that count, or refusal 13, which an unrated tranche that finds a rating no longer meets."""
+    a, d = points(deal, tranche.rank)
+    approach = approach_of(deal, tranche.codes, known)
     if approach in (SA, IRBA) and a == d and d > charge:
-        raise Refused(13, at)
+        raise Refused(13, tranche.at)
     raw = ends_of(deal, approach, tranche, a, d, charge)
-    return Line(deal, tranche, a, d, charge, approach, raw, raw if approach == FALLBACK else limited(deal, approach, rank == 1, raw))
+    return Line(deal, tranche, a, d, charge, approach, raw, raw if approach == FALLBACK else limited(deal, approach, tranche.rank == 1, raw))
 
 
 def forms_of(line):
     """The seven words of a line, in each form that passes."""
-    weight, held = line.ends.weight, line.tranche[4]
+    weight, held = line.ends.weight, line.tranche.held
     return [(line.approach, line.a, line.d, weight, *amounts(held, weight), least) for least in line.ends.least]
 
 
-def weighed(words, room=LINE_SIZE * TRANCHES):
-    """The charge and the lines of a sheet; or the refusal: that of its words, then 14 where so many result words are too few, then 13."""
+def weighed(words, room=LINE_SIZE * TRANCHES, counting=with_ratings_that_count):
+    """The charge and the lines of a sheet, by the ratings that count; or the refusal: that of its words, then 14 where so many result words are too few, then 13."""
     deal = judged(words)
     if room < LINE_SIZE * len(deal.tranches):
         raise Refused(14, 0)
     charge, known = (mixed_charge(deal), True) if by_irba(deal) else pool_charge(deal.rows)
-    return charge, [line_of(deal, tranche, charge, known) for tranche in deal.tranches]
+    return charge, [line_of(deal, counting(deal, tranche), charge, known) for tranche in deal.tranches]
 
 
 def report(words):
@@ -609,7 +630,7 @@ def check_tables(texts):
 
 def rating_cases(line):
     """What the ratings of a line under SEC-ERBA are an example of."""
-    codes = line.tranche[5]
+    codes = line.tranche.codes
     weights = [ceil(figure) for figure in figures_by_ratings(line.deal, line.tranche, line.d - line.a)]
     if len(weights) == 1:
         yield "one rating in word %d" % [bool(c) for c in codes].index(True)
@@ -768,12 +789,12 @@ def not_by_irba(resecuritised, diligence, share):
 
 def thin_cases(deal, place):
     """What 13 under SEC-IRBA is an example of, by the place of the tranche's amount."""
-    tranche = next(t for t in deal.tranches if t[0] == place)
-    if any(tranche[5]):
+    tranche = next(t for t in deal.tranches if t.at == place)
+    if any(tranche.codes):
         yield "13 under SEC-IRBA, a rated tranche"
     if mixed_charge(deal) == 0:
         yield "13 under SEC-IRBA, charge 0"
-    if points(deal, tranche[2])[1] <= pool_charge(deal.rows)[0]:
+    if points(deal, tranche.rank)[1] <= pool_charge(deal.rows)[0]:
         yield "13 under SEC-IRBA, D not above the charge of 01"
 
 
@@ -811,7 +832,7 @@ def section_cases(words, text):
 
 def coefficient_cases(deal, tranche, a, d, charge):
     """The coefficients that a line under SEC-IRBA depends on: with a hundredth more it would have another weight. And whether no other row of coefficients gives it."""
-    name = coefficients_of(deal.irb, tranche[2] == 1)
+    name = coefficients_of(deal.irb, tranche.rank == 1)
     own = COEFFICIENTS[name]
     weights = {key: irba_weight(deal, tranche, a, d, charge, c) for key, c in COEFFICIENTS.items()}
     for i, what in enumerate(("constant", "per 1/number", "per charge", "per loss", "per year")):
@@ -823,15 +844,14 @@ def coefficient_cases(deal, tranche, a, d, charge):
 
 def parameter_cases(deal, tranche, a, d, charge):
     """What the parameter of a line under SEC-IRBA is an example of."""
-    _, _, rank, months, _, _ = tranche
-    coefficients = COEFFICIENTS[coefficients_of(deal.irb, rank == 1)]
-    total = parameter_sum(deal.irb, deal.stc, months, charge, coefficients)
+    coefficients = COEFFICIENTS[coefficients_of(deal.irb, tranche.rank == 1)]
+    total = parameter_sum(deal.irb, deal.stc, tranche.months, charge, coefficients)
     least = Fraction(PARAMETER_LEAST, MILLION)
     stc = "STC" if deal.stc else "no STC"
     weight = irba_weight(deal, tranche, a, d, charge, coefficients)
 
     def by(parameter):
-        return limited(deal, IRBA, rank == 1, raw_ends(a, d, charge, parameter)).weight
+        return limited(deal, IRBA, tranche.rank == 1, raw_ends(a, d, charge, parameter)).weight
 
     if total < 0:
         yield "%s, a negative sum" % stc
@@ -841,7 +861,7 @@ def parameter_cases(deal, tranche, a, d, charge):
         yield "STC, the sum above 0.3 and half of it below"
     if by(max(PARAMETER_LEAST, total.numerator * MILLION // total.denominator)) != weight:
         yield "%s, the parameter rounded up" % stc
-    if by(parameter_of_sum(parameter_sum(deal.irb, deal.stc, months, deal.irb.charge, coefficients))) != weight:
+    if by(parameter_of_sum(parameter_sum(deal.irb, deal.stc, tranche.months, deal.irb.charge, coefficients))) != weight:
         yield "%s, the mixed charge in the parameter" % stc
 
 
@@ -867,10 +887,9 @@ def charge_cases(deal, tranche, a, d, charge):
 
 def limit_cases(deal, tranche, a, d, charge):
     """What floor, cap and ratings of a line under SEC-IRBA are an example of."""
-    _, _, rank, _, _, codes = tranche
-    if any(codes):
+    if any(tranche.codes):
         yield "a rated tranche"
-    if rank == 1:
+    if tranche.rank == 1:
         coefficients = COEFFICIENTS[coefficients_of(deal.irb, True)]
         weight, uncapped = (irba_weight(deal._replace(composition=known), tranche, a, d, charge, coefficients) for known in (1, 0))
         if not deal.composition and weight < uncapped:
@@ -933,7 +952,7 @@ def formula_cases(line):
     if line.d <= line.charge:
         yield "formula, D not above K"
     elif line.charge == 0:
-        yield "formula, K 0, class %d, composition %s, %d" % (line.tranche[2], composition, line.ends.least[0])
+        yield "formula, K 0, class %d, composition %s, %d" % (line.tranche.rank, composition, line.ends.least[0])
     elif line.ends == line.raw:
         yield "formula, just below 125,000" if line.raw.weight == TOP else "formula, numbers that pass: %d" % len(line.raw.least)
 
@@ -942,18 +961,18 @@ def ends_cases(line):
     """What both ends of a line are an example of."""
     deal, tranche, _, _, _, approach, raw, ends = line
     by = ("fallback", "table", "formula", "formula")[approach]
-    cap = cap_of(deal, approach, tranche[2] == 1)
+    cap = cap_of(deal, approach, tranche.rank == 1)
     yield from table_cases(line) if by == "table" else formula_cases(line) if by == "formula" else ()
     if by == "fallback" and cap is not None and cap < TOP:
         yield "fallback, not lowered to the cap"
     if ends.weight not in ends.least:
         yield "approach %d, %s, ends differ" % (approach, "re-securitisation" if deal.resecuritised else "STC deal" if deal.stc else "ordinary deal")
-        for what, due, *others in zip(("risk-weighted amount", "capital"), *(amounts(tranche[4], weight) for weight in (ends.weight, *ends.least))):
+        for what, due, *others in zip(("risk-weighted amount", "capital"), *(amounts(tranche.held, weight) for weight in (ends.weight, *ends.least))):
             if due not in others:
                 yield "%s by the fourth word" % what
     elif raw.weight not in raw.least and ends.least == (ends.weight,):
         # Where the weight before the floor is above it, the floor leaves the ends apart, and only the cap can make them equal.
-        lowest = parameter_and_floor(deal.resecuritised, deal.stc, tranche[2] == 1)[1]
+        lowest = parameter_and_floor(deal.resecuritised, deal.stc, tranche.rank == 1)[1]
         if raw.weight > lowest or ends.weight == lowest:
             yield "%s, ends made equal by the %s" % (by, "cap" if raw.weight > lowest else "floor")
 
@@ -1025,6 +1044,176 @@ def check_totals(read):
     check_met(due, met)
 
 
+# ---- the cases of inferred ratings
+
+
+def exemption(deal):
+    """Why no line of a deal goes by another tranche's ratings; None where one may."""
+    if not deal.diligence:
+        return "no due diligence"
+    return "re-securitisation" if deal.resecuritised else "SEC-IRBA" if by_irba(deal) else None
+
+
+def would_find(deal, tranche):
+    """Whether a tranche would find ratings in an ordinary deal without SEC-IRBA."""
+    return reference_of(deal._replace(resecuritised=0, irb=None), tranche) is not None
+
+
+def other_weights(line, reference):
+    """The weights of a line that takes ratings, had it the class, the maturity or the thickness of the row that it takes them from."""
+    own, thick, (a, d) = line.tranche, line.d - line.a, points(line.deal, reference.rank)
+    others = ("class", own._replace(rank=reference.rank), thick), ("maturity", own._replace(months=reference.months), thick), ("thickness", own, d - a)
+    for what, tranche, thickness in others:
+        yield what, limited(line.deal, ERBA, tranche.rank == 1, table_ends(figures_by_ratings(line.deal, tranche, thickness))).weight
+
+
+def taken_cases(line, reference):
+    """What a line that takes ratings is an example of."""
+    weight, codes = line.ends.weight, line.tranche.codes
+    yield from ("its own %s" % what for what, other in other_weights(line, reference) if other != weight)
+    yield "taken, ratings %d" % sum(map(bool, codes))
+    yield "taken, %s, %s" % ("STC deal" if line.deal.stc else "ordinary deal", "senior" if line.tranche.rank == 1 else "non-senior")
+    if max(codes) > 19:
+        yield "taken, short-term grade"
+    if not pool_charge(line.deal.rows)[1]:
+        yield "taken, unknown above 5%"
+    elif line.d <= line.charge:
+        yield "taken, D not above the charge"
+    elif line.a == line.d:
+        yield "taken, A = D above the charge"
+    if line.raw.weight != weight:
+        yield "taken, %s" % ("raised to the floor" if line.raw.weight < weight else "lowered to the cap")
+    if weight not in line.ends.least:
+        yield "taken, ends differ"
+
+
+def inferred_cases(line):
+    """What a line is an example of, by the ratings that it takes or does not."""
+    own = next(t for t in line.deal.tranches if t.at == line.tranche.at)
+    reference, why = reference_of(line.deal, own), exemption(line.deal)
+    if reference and not why:
+        yield from taken_cases(line, reference)
+    elif why and would_find(line.deal, own):
+        yield "nothing taken, %s, approach %d" % (why, line.approach)
+    elif not any(own.codes) and any(any(t.codes) for t in line.deal.tranches):
+        yield "none found, approach %d" % line.approach
+
+
+def sheet_cases(words, text):
+    """What a sheet is an example of, by dates where a row takes ratings from an earlier day, and by 13."""
+    number, place = refusal_of(text) or (0, 0)
+    deal = judged(words)
+    for own in deal.tranches:
+        reference = reference_of(deal, own)
+        if reference and words[reference.at + 2] < words[own.at + 2]:
+            yield "taken from an earlier day"
+        if number == 13 and place == own.at and not any(own.codes):
+            if would_find(deal, own):
+                yield "13, nothing taken, %s" % exemption(deal)
+            elif any(t.rank > own.rank and any(t.codes) for t in deal.tranches):
+                yield "13, no rating found below it"
+
+
+def not_senior(own, rated):
+    """Of the rated rows those of its own or a junior class."""
+    return [t for t in rated if t.rank >= own.rank]
+
+
+def found(own, rated):
+    """Of these the ones with equal or longer maturity. The first is the one that counts."""
+    return [t for t in not_senior(own, rated) if t.months >= own.months]
+
+
+# The rows whose ratings an unrated tranche might take by a misreading of S-8, in the order in which they would count.
+OTHER_ROWS = {
+    "none": lambda own, rated: [],
+    "not of its own class": lambda own, rated: [t for t in found(own, rated) if t.rank > own.rank],
+    "not before it": lambda own, rated: [t for t in found(own, rated) if t.at > own.at],
+    "not after it in its own class": lambda own, rated: [t for t in found(own, rated) if t.rank > own.rank or t.at < own.at],
+    "of its own class alone": lambda own, rated: [t for t in found(own, rated) if t.rank == own.rank],
+    "of its own or the next class alone": lambda own, rated: [t for t in found(own, rated) if t.rank <= own.rank + 1],
+    "of a senior class too": lambda own, rated: [t for t in rated if t.months >= own.months],
+    "of longer maturity alone": lambda own, rated: [t for t in found(own, rated) if t.months > own.months],
+    "of equal maturity alone": lambda own, rated: [t for t in found(own, rated) if t.months == own.months],
+    "of any maturity": not_senior,
+    "of equal or longer maturity in fifths": lambda own, rated: [t for t in not_senior(own, rated) if maturity(t.months) >= maturity(own.months)],
+    "the most junior class first": lambda own, rated: sorted(found(own, rated), key=lambda t: -t.rank),
+    "the last row first": lambda own, rated: sorted(found(own, rated), key=lambda t: (t.rank, -t.at)),
+    "the longest maturity first": lambda own, rated: sorted(found(own, rated), key=lambda t: -t.months),
+    "the nearest maturity first": lambda own, rated: sorted(found(own, rated), key=lambda t: t.months),
+    "the best rating first": lambda own, rated: sorted(found(own, rated), key=lambda t: min(c for c in t.codes if c)),
+    "of the first rated class alone": lambda own, rated: [t for t in found(own, rated) if t.rank == not_senior(own, rated)[0].rank],
+    "of the first rated row alone": lambda own, rated: [t for t in not_senior(own, rated)[:1] if t.months >= own.months],
+}
+
+
+def taking(rows_of):
+    """Such a misreading in place of with_ratings_that_count."""
+
+    def counting(deal, own):
+        looks = not (any(own.codes) or deal.resecuritised or by_irba(deal))
+        rows = rows_of(own, [t for t in deal.tranches if any(t.codes)]) if looks else []
+        return own._replace(codes=rows[0].codes) if rows else own
+
+    return counting
+
+
+def in_chains(deal, own):
+    """The misreading that a row counts as rated by ratings that it has taken."""
+    tranches = list(deal.tranches)
+    for i in reversed(range(len(tranches))):
+        tranches[i] = with_ratings_that_count(deal._replace(tranches=tranches), tranches[i])
+    return next(t for t in tranches if t.at == own.at)
+
+
+def rated_too(deal, own):
+    """The misreading that a rated tranche takes ratings of a junior class."""
+    reference = reference_of(deal._replace(tranches=[t for t in deal.tranches if t.rank > own.rank]), own._replace(codes=[0, 0, 0]))
+    return own._replace(codes=reference.codes) if any(own.codes) and reference else with_ratings_that_count(deal, own)
+
+
+def rated_by_first_word(deal, own):
+    """The misreading that a tranche is rated by its first word alone."""
+    reference = reference_of(deal._replace(tranches=[t for t in deal.tranches if t.codes[0]]), own._replace(codes=[own.codes[0], 0, 0]))
+    return own._replace(codes=reference.codes) if reference else own
+
+
+def first_rating_alone(deal, own):
+    """The misreading that one rating is taken, the row's first."""
+    reference = reference_of(deal, own)
+    return own._replace(codes=[next(c for c in reference.codes if c), 0, 0]) if reference else own
+
+
+MISREADINGS = {name: taking(rows_of) for name, rows_of in OTHER_ROWS.items()}
+MISREADINGS |= {"chains": in_chains, "rated tranches too": rated_too, "rated by the first word": rated_by_first_word, "the first rating alone": first_rating_alone}
+
+
+def lines_by(words, counting):
+    """The lines of a sheet by these ratings, or the refusal."""
+    try:
+        return [forms_of(line) for line in weighed(words, counting=counting)[1]]
+    except Refused as r:
+        return str(r)
+
+
+def check_inferred(sheets, texts):
+    """Every case of inferred ratings is met, and every misreading answers some sheet otherwise."""
+    good = {name: words for name, words in sheets.items() if (refusal_of(texts[name]) or (13, 0))[0] == 13}
+    met = {case for line in LINES for case in inferred_cases(line)} | {case for name, words in good.items() for case in sheet_cases(words, texts[name])}
+    due = ["its own %s" % what for what in ("class", "maturity", "thickness")] + ["taken, ratings %d" % n for n in (1, 2, 3)]
+    due += ["taken, %s, %s" % case for case in product(("ordinary deal", "STC deal"), ("senior", "non-senior"))]
+    due += ["taken, %s" % what for what in ("short-term grade", "unknown above 5%", "D not above the charge", "A = D above the charge")]
+    due += ["taken, %s" % what for what in ("raised to the floor", "lowered to the cap", "ends differ")] + ["taken from an earlier day"]
+    due += ["none found, approach %d" % approach for approach in (SA, FALLBACK)] + ["13, no rating found below it"]
+    due += ["nothing taken, %s, approach %d" % case for case in (("re-securitisation", SA), ("SEC-IRBA", IRBA), ("no due diligence", FALLBACK))]
+    due += ["13, nothing taken, %s" % why for why in ("re-securitisation", "SEC-IRBA")]
+    right = {name: lines_by(words, with_ratings_that_count) for name, words in good.items()}
+    for name, counting in MISREADINGS.items():
+        due.append("S-8 misread, %s" % name)
+        met.update(due[-1:] if any(lines_by(words, counting) != right[sheet] for sheet, words in good.items()) else [])
+    check_met(due, met)
+
+
 # ---- published weights
 
 # Annex 1 of source document 004: the example, its row, the weight and the risk-weighted amount. Its maturity of 34.5 months lies between 34 and 35.
@@ -1057,4 +1246,5 @@ if __name__ == "__main__":
     check_irba(SHEETS, TEXTS)
     check_ends(ROOMS)
     check_totals(READ)
+    check_inferred(SHEETS, TEXTS)
     check_published(TEXTS)

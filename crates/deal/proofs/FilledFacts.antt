@@ -17,12 +17,13 @@ use Rattle.judgement.proofs.NeededLaws.{pool-at-least, tranches-at-past-rows}
 use Rattle.pool.specs.PoolSums.{poolSums}
 use Rattle.pool.proofs.SameSums.{same-sums-in-order}
 use Rattle.weights.specs.ApproachFloorCap.{thin}
+use Rattle.deal.specs.InferredRatings.{infersRatings}
 use Rattle.deal.specs.Lines.{terms, tranche}
 use Rattle.deal.specs.Refusals.{roomVerdict, thinVerdict, verdict}
 use Rattle.deal.specs.Results.{replyTo, replyFor, resultsFor, resultsAfter}
 use Rattle.deal.specs.FilledAnswer.{movedReply, SameWhenFilled}
 use Rattle.deal.proofs.LineLaws.{lines-same}
-use Rattle.deal.proofs.SameTerms.{same-terms, same-months, same-tranche}
+use Rattle.deal.proofs.SameTerms.{same-terms, same-months, alike-tranche}
 
 module _ (n : ℕ) (s : List ℕ) (c : CanFill n s) where
   abbrev f : List ℕ
@@ -37,10 +38,10 @@ module _ (n : ℕ) (s : List ℕ) (c : CanFill n s) where
   filled-terms = same-terms s f (filled-same-kind n s c) (filled-same-facts n s c) (filled-same-irb n s c) filled-sums
 
   filled-tranche : (i : ℕ) → i < trancheCount s → tranche f i ≡ tranche s i
-  filled-tranche i l =
-      same-tranche s f i (same-tranche-count n s c) filled-sums l (λ j k row column. same-tranche-word n s c j k)
-      (same-months s f i (filled-same-date n s c) (same-tranche-word n s c i 2))
-      (λ k past column. same-tranche-word n s c i k)
+  filled-tranche =
+      alike-tranche s f (same-tranche-count n s c) filled-sums (ap infersRatings filled-terms)
+      (λ j k row other column. same-tranche-word n s c j k)
+      (λ j row. same-months s f j (filled-same-date n s c) (same-tranche-word n s c j 2))
 
   -- ---- the verdict
 

@@ -21,12 +21,13 @@ use Rattle.judgement.proofs.NeededLaws.{tranches-at-past-rows, irb-at-past-tran
 use Rattle.judgement.proofs.SameLayout.{SameCounts, same-counts, same-irb-at, same-needed, SameFacts, same-facts, same-irb-figures, same-good-row}
 use Rattle.pool.specs.PoolSums.{poolSums}
 use Rattle.pool.proofs.SameSums.{same-sums-in-order}
+use Rattle.deal.specs.InferredRatings.{infersRatings}
 use Rattle.deal.specs.Lines.{terms, tranche}
 use Rattle.weights.specs.declared.Terms.{Terms}
 use Rattle.deal.specs.InMonths.{InMonths}
 use Rattle.deal.specs.SameAnswer.{SameAnswer}
 use Rattle.deal.proofs.SameAnswer.{same-answer}
-use Rattle.deal.proofs.SameTerms.{same-terms, same-tranche}
+use Rattle.deal.proofs.SameTerms.{same-terms, alike-tranche}
 
 module _ (s s′ : List ℕ) (r : InMonths s s′) (words : wordsVerdict s ≡ Sound) where
   good : GoodSheet s
@@ -194,11 +195,10 @@ module _ (s s′ : List ℕ) (r : InMonths s s′) (words : wordsVerdict s ≡ S
       sums
 
   own : (i : ℕ) → i < trancheCount s → tranche s′ i ≡ tranche s i
-  own i l =
-      same-tranche s s′ i (counts .tranche-count) sums l
-      (λ j c row column. rw (counts .tranches-at) (same-column j c (λ e. omega arith) (omega arith)))
-      (same-months i l)
-      (λ c past column. rw (counts .tranches-at) (same-column i c (λ e. omega arith) column))
+  own =
+      alike-tranche s s′ (counts .tranche-count) sums (ap infersRatings shared)
+      (λ j c row other column. rw (counts .tranches-at) (same-column j c other column))
+      same-months
 
   pub months-for-dates : SameAnswer s s′
   months-for-dates =

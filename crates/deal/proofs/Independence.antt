@@ -1,41 +1,38 @@
--- A tranche's line depends on no other tranche's ratings: two accepted sheets that are the same but for those give it the same words. No axioms.
+-- Which ratings a tranche's line depends on: two accepted sheets that are the same but for ratings of tranches of a senior class give it the same words; and where it infers none, so do two
+-- that are the same but for all other tranches' ratings. No axioms.
+use mathlib.Core.Bool.{Bool, true, false, not, _&&_}
 use mathlib.Core.List.{List}
-use mathlib.Core.Path.{_≡_, sym, _∙_}
-use Prim.Native.Nat.{ℕ, _+_, _*_, _≤_, _<_}
-use native.Mathlib.Nat.{le-refl}
+use mathlib.Core.Logic.{⊎-elim}
+use mathlib.Core.Path.{_≡_, refl, sym, ap, _∙_, subst}
+use Prim.Native.Nat.{ℕ, _+_, _*_, _-_, _≤_, _<_}
+use native.Mathlib.Nat.{eq-zero-or-pos, le-refl}
 use native.Mathlib.Omega.{arith}
 use lib.ListN.{length, getD}
 use Rattle.limits.specs.SheetSize.{lineSize}
-use Rattle.judgement.specs.DealSheet.{word, poolKind, poolAt, rowAt, tranchesAt, trancheCount, trancheAt, irbPlace, needed}
+use Rattle.judgement.specs.DealSheet.{word, poolKind, reportingDate, poolAt, rowAt, tranchesAt, trancheCount, trancheAt, class, maturity, months, held, irbPlace, needed}
 use Rattle.pool.specs.PoolSums.{poolSums}
 use Rattle.pool.proofs.SameSums.{same-sums-in-order}
+use Rattle.weights.specs.declared.Terms.{Terms}
+use Rattle.deal.specs.InferredRatings.{ratedRow, serves, servingRow, infersRatings, ratingRow}
 use Rattle.deal.specs.Lines.{terms, tranche, lineWords}
 use Rattle.judgement.specs.Refusals.{judged}
 use Rattle.deal.specs.Refusals.{verdict}
 use Rattle.deal.specs.Results.{resultsAfter}
-use Rattle.deal.specs.OtherRatings.{SameButOtherRatings}
+use Rattle.deal.specs.OtherRatings.{SameButRatings, SeniorTo, OtherThan, NoneInferred, is-rated, in-resecuritisation, under-irba, without-diligence}
 use Rattle.judgement.specs.declared.Verdict.the-variants.{Sound}
 use Rattle.judgement.proofs.NeededLaws.{pool-at-least, tranches-at-past-rows, irb-at-past-tranches}
 use Rattle.judgement.proofs.SameLayout.{SameCounts, same-counts, same-irb-at, SameFacts, same-facts, same-irb-figures, same-reporting-date}
 use Rattle.judgement.proofs.SheetLimits.{facts-counted, pool-at-within}
+use Rattle.deal.proofs.InferredLaws.{none-without-diligence, none-in-resecuritisation, none-under-irba, senior-serves-none, kept-where-rated, kept-without-inference, rating-row-junior}
 use Rattle.deal.proofs.JudgedLaws.{accepted-judged}
 use Rattle.deal.proofs.LineLaws.{results-line}
-use Rattle.deal.proofs.SameTerms.{same-terms, same-months, same-tranche}
+use Rattle.deal.proofs.SameTerms.{same-terms, same-months, same-tranche, same-serving-row, same-rating-row}
 
--- no rating stands before the tranches, or in the first four columns of a tranche, and none of another tranche stands in tranche i
-module _ (s s′ : List ℕ) (i : ℕ) (same : SameButOtherRatings s s′ i) where
+-- ---- two sheets that are the same but for rating words of some tranches: no rating stands before the tranches, or in the first four columns of a tranche
+
+module _ (s s′ : List ℕ) (some : ℕ → Type 0) (same : SameButRatings s s′ some) where
   same-head : (p : ℕ) → p ≤ tranchesAt s → word s′ p ≡ word s p
   same-head p h = same .same-word p (λ r. omega arith)
-
-  same-plain : (j c : ℕ) → c < 4 → word s′ (trancheAt s j + c) ≡ word s (trancheAt s j + c)
-  same-plain j c h = same .same-word (trancheAt s j + c) (λ r. omega arith)
-
-  same-own : (c : ℕ) → c < 7 → word s′ (trancheAt s i + c) ≡ word s (trancheAt s i + c)
-  same-own c h =
-      same .same-word (trancheAt s i + c)
-      (λ r.
-      let row : r .row ≡ i = omega arith in
-      r .other row)
 
   ratings-counts : SameCounts s s′
   ratings-counts =
@@ -44,14 +41,28 @@ module _ (s s′ : List ℕ) (i : ℕ) (same : SameButOtherRatings s s′ i) whe
   pub ratings-count : trancheCount s′ ≡ trancheCount s
   ratings-count = ratings-counts .tranche-count
 
+  -- what is no rating is the same of every tranche, and all is of the others
+  same-plain : (j c : ℕ) → c < 4 → word s′ (trancheAt s′ j + c) ≡ word s (trancheAt s j + c)
+  same-plain j c h = rw (ratings-counts .tranches-at) (same .same-word (trancheAt s j + c) (λ r. omega arith))
+
+  same-rating : (j c : ℕ) → (some j → ⊥) → c < 7 → word s′ (trancheAt s′ j + c) ≡ word s (trancheAt s j + c)
+  same-rating j c other h =
+      rw (ratings-counts .tranches-at)
+      (same .same-word (trancheAt s j + c)
+      (λ r.
+      let row : r .row ≡ j = omega arith in
+      other (subst some row (r .one-of))))
+
+  same-class : (j : ℕ) → class s′ j ≡ class s j
+  same-class j = same-plain j 1 (omega arith)
+
+  same-rated : (j : ℕ) → (some j → ⊥) → ratedRow s′ j ≡ ratedRow s j
+  same-rated j other = rw (same-rating j 4 other (omega arith), same-rating j 5 other (omega arith), same-rating j 6 other (omega arith))
+
   ratings-sums : poolSums s′ ≡ poolSums s
   ratings-sums =
       same-sums-in-order s s′ (ratings-counts .row-count)
       (λ j c row column. rw (ratings-counts .pool-at) (same-head (rowAt s j + c) (omega (arith, tranches-at-past-rows s))))
-
-  ratings-facts : judged s (needed s) ≡ Sound → SameFacts s s′
-  ratings-facts e =
-      same-facts s s′ (λ p other h before. same-head p (omega (arith, tranches-at-past-rows s))) (pool-at-within s (facts-counted s e) .0)
 
   ratings-kind : poolKind s′ ≡ poolKind s
   ratings-kind = same-head 1 (omega (arith, tranches-at-past-rows s, pool-at-least s))
@@ -60,18 +71,86 @@ module _ (s s′ : List ℕ) (i : ℕ) (same : SameButOtherRatings s s′ i) whe
   same-irb-word : (c : ℕ) → c < 6 → word s′ (irbPlace s′ c) ≡ word s (irbPlace s c)
   same-irb-word c column = rw (same-irb-at s s′ ratings-counts) (same .same-word (irbPlace s c) (λ r. omega (arith, irb-at-past-tranches s)))
 
-  pub ratings-terms : judged s (needed s) ≡ Sound → terms s′ ≡ terms s
-  ratings-terms e =
-      same-terms s s′ ratings-kind (ratings-facts e) (same-irb-figures s s′ ratings-kind same-irb-word) ratings-sums
+  module _ (good : judged s (needed s) ≡ Sound) where
+    ratings-facts : SameFacts s s′
+    ratings-facts =
+        same-facts s s′ (λ p other h before. same-head p (omega (arith, tranches-at-past-rows s))) (pool-at-within s (facts-counted s good) .0)
 
-  pub ratings-tranche : judged s (needed s) ≡ Sound → i < trancheCount s → tranche s′ i ≡ tranche s i
-  ratings-tranche e l =
-      same-tranche s s′ i ratings-count ratings-sums l
-      (λ j c row column. rw (ratings-counts .tranches-at) (same-plain j c (omega arith)))
-      (same-months s s′ i
-      (same-reporting-date s s′ (λ p other before. same-head p (omega (arith, tranches-at-past-rows s))) (pool-at-within s (facts-counted s e) .0))
-      (rw (ratings-counts .tranches-at) (same-own 2 (omega arith))))
-      (λ c past column. rw (ratings-counts .tranches-at) (same-own c column))
+    ratings-date : reportingDate s′ ≡ reportingDate s
+    ratings-date =
+        same-reporting-date s s′ (λ p other before. same-head p (omega (arith, tranches-at-past-rows s))) (pool-at-within s (facts-counted s good) .0)
+
+    pub ratings-terms : terms s′ ≡ terms s
+    ratings-terms = same-terms s s′ ratings-kind ratings-facts (same-irb-figures s s′ ratings-kind same-irb-word) ratings-sums
+
+    ratings-months : (j : ℕ) → months s′ j ≡ months s j
+    ratings-months j = same-months s s′ j ratings-date (same-plain j 2 (omega arith))
+
+    -- a tranche whose ratings come from the same row of both sheets, which is none of those tranches, is the same
+    pub ratings-tranche :
+        (i : ℕ) → i < trancheCount s → ratingRow (terms s′) s′ i ≡ ratingRow (terms s) s i → (some (ratingRow (terms s) s i) → ⊥) →
+        tranche s′ i ≡ tranche s i
+    ratings-tranche i l row other =
+        same-tranche s s′ i ratings-count ratings-sums l
+        (λ j c among column. same-plain j c (omega arith))
+        (ratings-months i)
+        (same-plain i 3 (omega arith))
+        row
+        (λ c past column. same-rating (ratingRow (terms s) s i) c other column)
+
+-- ---- ratings of a senior class: what serves a tranche is of its own or a junior class, so the same rows serve it
+
+module _ (s s′ : List ℕ) (i : ℕ) (same : SameButRatings s s′ (SeniorTo s i)) (good : judged s (needed s) ≡ Sound) (l : i < trancheCount s) where
+  same-served : (j : ℕ) → serves s′ i j ≡ serves s i j
+  same-served j =
+      ⊎-elim
+      (λ e.
+      rw (
+        same-rated s s′ (SeniorTo s i) same j (λ senior. omega arith),
+        same-class s s′ (SeniorTo s i) same i,
+        same-class s s′ (SeniorTo s i) same j,
+        ratings-months s s′ (SeniorTo s i) same good i,
+        ratings-months s s′ (SeniorTo s i) same good j,
+      ))
+      (λ pos.
+      let senior : class s j < class s i = omega arith in
+      let senior′ : class s′ j < class s′ i = omega (arith, same-class s s′ (SeniorTo s i) same i, same-class s s′ (SeniorTo s i) same j) in
+      senior-serves-none s′ i j senior′ ∙ sym (senior-serves-none s i j senior))
+      (eq-zero-or-pos (class s i - class s j))
+
+  pub tranche-apart-from-senior-ratings : tranche s′ i ≡ tranche s i
+  tranche-apart-from-senior-ratings =
+      ratings-tranche s s′ (SeniorTo s i) same good i l
+      (same-rating-row s s′ i (ratings-count s s′ (SeniorTo s i) same) l (terms s) (terms s′)
+      (ap infersRatings (ratings-terms s s′ (SeniorTo s i) same good))
+      (same-rated s s′ (SeniorTo s i) same i (λ senior. omega arith))
+      (same-serving-row s s′ i (ratings-count s s′ (SeniorTo s i) same) l
+      (λ j among. same-class s s′ (SeniorTo s i) same j)
+      (λ j among. same-served j)))
+      (λ senior. omega (arith, rating-row-junior s i (terms s)))
+
+-- ---- other tranches' ratings, where the tranche infers none: its own ratings count in both sheets
+
+none-inferred-by : (s : List ℕ) (i : ℕ) → NoneInferred s i → ratingRow (terms s) s i ≡ i
+none-inferred-by s i (is-rated e) = kept-where-rated s i (terms s) e
+none-inferred-by s i (in-resecuritisation e) = kept-without-inference s i (terms s) (none-in-resecuritisation (terms s) e)
+none-inferred-by s i (under-irba e) = kept-without-inference s i (terms s) (none-under-irba (terms s) e)
+none-inferred-by s i (without-diligence e) = kept-without-inference s i (terms s) (none-without-diligence (terms s) e)
+
+module _ (s s′ : List ℕ) (i : ℕ) (same : SameButRatings s s′ (OtherThan i)) (good : judged s (needed s) ≡ Sound) (l : i < trancheCount s) where
+  -- the reason holds of both sheets
+  same-reason : NoneInferred s i → NoneInferred s′ i
+  same-reason (is-rated e) = is-rated (same-rated s s′ (OtherThan i) same i (λ other. other refl) ∙ e)
+  same-reason (in-resecuritisation e) = in-resecuritisation (ap (λ (d : Terms). d .resecuritisation) (ratings-terms s s′ (OtherThan i) same good) ∙ e)
+  same-reason (under-irba e) = under-irba (ap (λ (d : Terms). d .irba) (ratings-terms s s′ (OtherThan i) same good) ∙ e)
+  same-reason (without-diligence e) = without-diligence (ap (λ (d : Terms). d .diligence) (ratings-terms s s′ (OtherThan i) same good) ∙ e)
+
+  pub tranche-apart-from-other-ratings : NoneInferred s i → tranche s′ i ≡ tranche s i
+  tranche-apart-from-other-ratings none =
+      let own = none-inferred-by s i none in
+      ratings-tranche s s′ (OtherThan i) same good i l
+      (none-inferred-by s′ i (same-reason none) ∙ sym own)
+      (λ other. other own)
 
 -- ---- the theorem
 
@@ -82,10 +161,11 @@ pub record SameLine (s s′ : List ℕ) (i room : ℕ) : Type 0 where
   pub same-results : (old : List ℕ) → length old ≡ room → (c : ℕ) → c < lineSize →
       getD (resultsAfter s′ old) (lineSize * i + c) 0 ≡ getD (resultsAfter s old) (lineSize * i + c) 0
 
-pub line-apart-from-other-ratings :
-    (s s′ : List ℕ) (i room : ℕ) → verdict s room ≡ Sound → verdict s′ room ≡ Sound → SameButOtherRatings s s′ i → i < trancheCount s →
-    SameLine s s′ i room
-line-apart-from-other-ratings s s′ i room e e′ same l =
+-- two sheets with the same terms and the same tranche
+same-line-of :
+    (s s′ : List ℕ) (i room : ℕ) → verdict s room ≡ Sound → verdict s′ room ≡ Sound → i < trancheCount s →
+    trancheCount s′ ≡ trancheCount s → terms s′ ≡ terms s → tranche s′ i ≡ tranche s i → SameLine s s′ i room
+same-line-of s s′ i room e e′ l count shared own =
     record {
       same-count = count;
       same-terms = shared;
@@ -95,11 +175,23 @@ line-apart-from-other-ratings s s′ i room e e′ same l =
           rw line (sym (results-line s old i c (rw size e) l column));
     }
   where
-    count : trancheCount s′ ≡ trancheCount s
-    count = ratings-count s s′ i same
-
-    shared : terms s′ ≡ terms s
-    shared = ratings-terms s s′ i same (accepted-judged s room e)
-
     line : lineWords (tranche s′ i) (terms s′) ≡ lineWords (tranche s i) (terms s)
-    line = rw (ratings-tranche s s′ i same (accepted-judged s room e) l, shared)
+    line = rw (own, shared)
+
+-- "So a rating may now change lines of its own or a senior class, and no junior one."
+pub line-apart-from-senior-ratings :
+    (s s′ : List ℕ) (i room : ℕ) → verdict s room ≡ Sound → verdict s′ room ≡ Sound → SameButRatings s s′ (SeniorTo s i) → i < trancheCount s →
+    SameLine s s′ i room
+line-apart-from-senior-ratings s s′ i room e e′ same l =
+    let good = accepted-judged s room e in
+    same-line-of s s′ i room e e′ l (ratings-count s s′ (SeniorTo s i) same) (ratings-terms s s′ (SeniorTo s i) same good)
+    (tranche-apart-from-senior-ratings s s′ i same good l)
+
+-- where the tranche infers none, no other tranche's ratings matter
+pub line-apart-from-other-ratings :
+    (s s′ : List ℕ) (i room : ℕ) → verdict s room ≡ Sound → verdict s′ room ≡ Sound → SameButRatings s s′ (OtherThan i) → NoneInferred s i →
+    i < trancheCount s → SameLine s s′ i room
+line-apart-from-other-ratings s s′ i room e e′ same none l =
+    let good = accepted-judged s room e in
+    same-line-of s s′ i room e e′ l (ratings-count s s′ (OtherThan i) same) (ratings-terms s s′ (OtherThan i) same good)
+    (tranche-apart-from-other-ratings s s′ i same good l none)

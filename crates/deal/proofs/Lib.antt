@@ -1,6 +1,8 @@
 pub mod JudgedLaws
 pub mod PointLaws
 pub mod ClassPointsLaw
+pub mod InferredLaws
+pub mod NextRatedLaws
 pub mod TermsLaws
 pub mod IrbaLaws
 pub mod LineLaws

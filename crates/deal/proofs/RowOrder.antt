@@ -13,6 +13,7 @@ use Rattle.judgement.specs.DealSheet.{word, poolKind, irbFigures, reportingDate
 use Rattle.pool.specs.PoolSums.{poolSums}
 use Rattle.pool.specs.OrderOfRows.{Reordered}
 use Rattle.pool.proofs.SameSums.{same-sums}
+use Rattle.deal.specs.InferredRatings.{infersRatings}
 use Rattle.deal.specs.Lines.{terms, tranche}
 use Rattle.judgement.specs.Refusals.{rowOf, fault, judge, judged}
 use Rattle.deal.specs.Refusals.{verdict}
@@ -27,7 +28,7 @@ use Rattle.judgement.proofs.SheetLimits.{facts-counted, pool-at-within}
 use Rattle.judgement.proofs.JudgedLaws.{judged-good}
 use Rattle.deal.proofs.JudgedLaws.{accepted-means, accepted-judged, accepted-when}
 use Rattle.deal.proofs.LineLaws.{lines-same, results-accepted}
-use Rattle.deal.proofs.SameTerms.{same-terms, same-months, same-tranche}
+use Rattle.deal.proofs.SameTerms.{same-terms, same-months, alike-tranche}
 
 module _ (s s′ : List ℕ) (π σ : ℕ → ℕ) (r : Reordered s s′ π σ) where
   -- ---- what the order does not touch
@@ -68,11 +69,10 @@ module _ (s s′ : List ℕ) (π σ : ℕ → ℕ) (r : Reordered s s′ π σ) 
     order-word j c = rw (order-counts .tranches-at) (r .same-after (trancheAt s j + c) (omega arith))
 
     order-tranche : (i : ℕ) → i < trancheCount s → tranche s′ i ≡ tranche s i
-    order-tranche i l =
-        same-tranche s s′ i (order-counts .tranche-count) order-sums l
-        (λ j c row column. order-word j c)
-        (same-months s s′ i order-date (order-word i 2))
-        (λ c past column. order-word i c)
+    order-tranche =
+        alike-tranche s s′ (order-counts .tranche-count) order-sums (ap infersRatings order-terms)
+        (λ j c row other column. order-word j c)
+        (λ j row. same-months s s′ j order-date (order-word j 2))
 
     -- ---- the faults: of a word in its place, and of a word that moved with its row
 

@@ -24,12 +24,13 @@ use Rattle.pool.proofs.SameSums.{same-sums-in-order}
 use Rattle.weights.specs.ApproachFloorCap.{thin}
 use Rattle.weights.proofs.WeightLaws.{withFigures, figures-unread}
 use Rattle.weights.specs.declared.Terms.{Terms}
+use Rattle.deal.specs.InferredRatings.{infersRatings}
 use Rattle.deal.specs.Lines.{terms, tranche, line, lineWords}
 use Rattle.deal.specs.SaPool.{AsSaPool}
 use Rattle.deal.specs.SameAnswer.{SameAnswer}
 use Rattle.deal.proofs.SameAnswer.{same-answer}
 use Rattle.deal.proofs.IrbaLaws.{sa-pool-not-irba}
-use Rattle.deal.proofs.SameTerms.{same-months, same-tranche}
+use Rattle.deal.proofs.SameTerms.{same-months, alike-tranche}
 
 module _ (s s′ : List ℕ) (r : AsSaPool s s′) (words : wordsVerdict s ≡ Sound) where
   good : GoodSheet s
@@ -144,11 +145,10 @@ module _ (s s′ : List ℕ) (r : AsSaPool s s′) (words : wordsVerdict s ≡ S
       (rw (facts .same-resecuritisation, facts .same-stc, facts .same-diligence, facts .same-composition, sums))
 
   own : (i : ℕ) → i < trancheCount s → tranche s′ i ≡ tranche s i
-  own i l =
-      same-tranche s s′ i (counts .tranche-count) sums l
-      (λ j c row column. rw (counts .tranches-at) (same-column j c row (omega arith)))
-      (same-months s s′ i date (rw (counts .tranches-at) (same-column i 2 l (omega arith))))
-      (λ c past column. rw (counts .tranches-at) (same-column i c l column))
+  own =
+      alike-tranche s s′ (counts .tranche-count) sums (ap infersRatings shared)
+      (λ j c row other column. rw (counts .tranches-at) (same-column j c row column))
+      (λ j row. same-months s s′ j date (rw (counts .tranches-at) (same-column j 2 row (omega arith))))
 
   same-line : (i : ℕ) → i < trancheCount s → lineWords (tranche s′ i) (terms s′) ≡ lineWords (tranche s i) (terms s)
   unfolding lineWords line

@@ -1,5 +1,7 @@
 pub mod Points
 pub mod ClassPoints
+pub mod InferredRatings
+pub mod NextRated
 pub mod Lines
 pub mod Refusals
 pub mod Judged

@@ -1,4 +1,4 @@
--- 01, "The deal sheet" and "Which approach, then floor, then cap", and 02, S-1, S-5 and S-6: what the tranches of a sheet share, what is each tranche's own, and the line that they
+-- 01, "The deal sheet" and "Which approach, then floor, then cap", and 02, S-1, S-5, S-6 and S-8: what the tranches of a sheet share, what is each tranche's own, and the line that they
 -- make.
 use mathlib.Core.Bool.{Bool, cond}
 use mathlib.Core.List.{List, [], _∷_}
@@ -15,6 +15,7 @@ use Rattle.charge.specs.declared.Sums.{Sums}
 use Rattle.judgement.specs.DealSheet.{class, months, held, firstRating, secondRating, thirdRating, layout}
 use Rattle.judgement.specs.declared.Layout.{Layout}
 use Rattle.pool.specs.PoolSums.{poolSums}
+use Rattle.deal.specs.InferredRatings.{ratingRow}
 use Rattle.deal.specs.Points.{attachmentPoint, detachmentPoint}
 use Rattle.deal.specs.declared.Line.{Line}
 
@@ -45,7 +46,7 @@ termsFor l q = record {
 unfoldable pub terms : List ℕ → Terms
 terms s = termsFor (layout s) (poolSums s)
 
--- what is a tranche's own: "Class 1 is the senior class."
+-- what is a tranche's own: "Class 1 is the senior class.", and the ratings that count for it: S-8: "It takes that row's ratings, with its own class, maturity and thickness."
 unfoldable pub tranche : List ℕ → ℕ → Tranche
 tranche s i = record {
   attachment = attachmentPoint s i;
@@ -53,9 +54,9 @@ tranche s i = record {
   senior = eqb (class s i) 1;
   months = months s i;
   held = held s i;
-  first = firstRating s i;
-  second = secondRating s i;
-  third = thirdRating s i;
+  first = firstRating s (ratingRow (terms s) s i);
+  second = secondRating s (ratingRow (terms s) s i);
+  third = thirdRating s (ratingRow (terms s) s i);
 }
 
 -- ---- amounts

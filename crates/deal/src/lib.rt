@@ -8,6 +8,7 @@ ghost use Rattle.deal.specs.DemandThree.{KeepsDemandThree, KeepsSeventhW
 ghost use Rattle.deal.specs.Lines.{termsFor};
 ghost use Rattle.deal.specs.Results.{replyOf, replyTo, resultsAfter};
 
+mod inferred;
 mod lines;
 mod tranches;
 
@@ -88,11 +89,12 @@ fn weigh_pool(sheet: &[u64], l: Layout, sums: Sums, results: &mut [u64]) -> Answ
     }
     let terms = terms_of(l, sums);
     let points = tranches::class_points(sheet, l, sums.all.nominal);
-    let thickness = tranches::judge_thickness(sheet, l, terms, &points);
+    let next = inferred::next_rated(sheet, l);
+    let thickness = tranches::judge_thickness(sheet, l, terms, &points, &next);
     if let Verdict::Faulty(r) = thickness {
         return Answer::Refused(r);
     }
-    lines::write_lines(sheet, l, terms, &points, results);
+    lines::write_lines(sheet, l, terms, &points, &next, results);
     Answer::Weighed {
         count,
         charge: terms.charge,

@@ -9,8 +9,10 @@ ghost use Rattle.judgement.specs.DealSheet.{trancheCount};
 ghost use Rattle.judgement.specs.LaidOut.{LaidOut};
 ghost use Rattle.deal.specs.Lines.{terms, tranche, line, wordsOf};
 ghost use Rattle.deal.specs.ClassPoints.{ClassPoints};
+ghost use Rattle.deal.specs.NextRated.{NextRated};
 ghost use Rattle.deal.specs.Results.{lines};
 use crate::Line;
+use crate::inferred::NEXT;
 use crate::tranches::POINTS;
 use crate::tranches::capital;
 use crate::tranches::risk_weighted_amount;
@@ -36,11 +38,18 @@ fn put_line(line: Line, at: usize, results: &mut [u64])
 }
 
 // The line of tranche i; both amounts are by the weight and not by its low end.
-fn line_of(s: &[u64], l: Layout, d: Terms, points: &[u64; POINTS], i: u64) -> Line
-    requires { ⌜ LaidOut (now s) l × (d ≡ terms (now s)) × ClassPoints (now s) (now points) × (i < trancheCount (now s)) ⌝ }
+fn line_of(
+    s: &[u64],
+    l: Layout,
+    d: Terms,
+    points: &[u64; POINTS],
+    next: &[u64; NEXT],
+    i: u64,
+) -> Line
+    requires { ⌜ LaidOut (now s) l × (d ≡ terms (now s)) × ClassPoints (now s) (now points) × NextRated (now s) (now next) 0 × (i < trancheCount (now s)) ⌝ }
     ensures { λ r. ⌜ r ≡ line (tranche (now (s .entry)) i) (terms (now (s .entry))) ⌝ }
 {
-    let t = tranche_of(s, l, points, i);
+    let t = tranche_of(s, l, d, points, next, i);
     let w = weight(t, d);
     Line {
         approach: approach(t, d),
@@ -59,15 +68,16 @@ pub(crate) fn write_lines(
     l: Layout,
     d: Terms,
     points: &[u64; POINTS],
+    next: &[u64; NEXT],
     results: &mut [u64],
 )
-    requires { ⌜ LaidOut (now s) l × (d ≡ terms (now s)) × ClassPoints (now s) (now points) × (lineSize * trancheCount (now s) ≤ length (now results)) ⌝ }
+    requires { ⌜ LaidOut (now s) l × (d ≡ terms (now s)) × ClassPoints (now s) (now points) × NextRated (now s) (now next) 0 × (lineSize * trancheCount (now s) ≤ length (now results)) ⌝ }
     ensures { λ r. ⌜ now (results .exit) ≡ lines (now (s .entry)) (trancheCount (now (s .entry))) ++ drop (lineSize * trancheCount (now (s .entry))) (now (results .entry)) ⌝ }
 {
     let tranches = l.tranches;
     let mut i = 0;
     while i < tranches {
-        let line = line_of(s, l, d, points, i);
+        let line = line_of(s, l, d, points, next, i);
         put_line(line, LINE_SIZE * i as usize, &mut *results);
         i += 1;
     }

@@ -8,8 +8,11 @@ ghost use Rattle.pool.specs.PoolSums.{poolSums};
 ghost use Rattle.deal.specs.Points.{point};
 ghost use Rattle.deal.specs.Lines.{terms, tranche, riskWeightedAmount, capital};
 ghost use Rattle.deal.specs.ClassPoints.{ClassPoints};
+ghost use Rattle.deal.specs.NextRated.{NextRated};
 ghost use Rattle.judgement.specs.Refusals.{firstOf};
 ghost use Rattle.deal.specs.Refusals.{thinVerdict};
+use crate::inferred::NEXT;
+use crate::inferred::rating_row;
 use dates::maturity_months;
 use judgement::Layout;
 use judgement::Refusal;
@@ -26,7 +29,7 @@ use weights::is_thin;
 pub(crate) const POINTS: usize = TRANCHES_MOST + 2;
 
 // A word of tranche i, by its column from 0.
-fn tranche_word(s: &[u64], l: Layout, i: u64, column: usize) -> u64
+pub(crate) fn tranche_word(s: &[u64], l: Layout, i: u64, column: usize) -> u64
     requires { ⌜ LaidOut (now s) l × (i < trancheCount (now s)) × (column < trancheSize) ⌝ }
     ensures { λ r. ⌜ r ≡ word (now (s .entry)) (trancheAt (now (s .entry)) i + column) ⌝ }
 {
@@ -61,21 +64,30 @@ pub(crate) fn class_points(s: &[u64], l: Layout, nominal: u64) -> [u64; POINTS]
     points
 }
 
-// What is tranche i's own; its maturity is in months, however the sheet states it.
-pub(crate) fn tranche_of(s: &[u64], l: Layout, points: &[u64; POINTS], i: u64) -> Tranche
-    requires { ⌜ LaidOut (now s) l × ClassPoints (now s) (now points) × (i < trancheCount (now s)) ⌝ }
+// What is tranche i's own, with the ratings that count for it; its maturity is in months, however the sheet states it.
+pub(crate) fn tranche_of(
+    s: &[u64],
+    l: Layout,
+    d: Terms,
+    points: &[u64; POINTS],
+    next: &[u64; NEXT],
+    i: u64,
+) -> Tranche
+    requires { ⌜ LaidOut (now s) l × (d ≡ terms (now s)) × ClassPoints (now s) (now points) × NextRated (now s) (now next) 0 × (i < trancheCount (now s)) ⌝ }
     ensures { λ r. ⌜ r ≡ tranche (now (s .entry)) i ⌝ }
 {
     let class = tranche_word(s, l, i, 1);
+    let months = maturity_months(l.reporting_date, tranche_word(s, l, i, 2));
+    let row = rating_row(s, l, d, next, i, class, months);
     Tranche {
         attachment: points[(class + 1) as usize],
         detachment: points[class as usize],
         senior: class == 1,
-        months: maturity_months(l.reporting_date, tranche_word(s, l, i, 2)),
+        months,
         held: tranche_word(s, l, i, 3),
-        first: tranche_word(s, l, i, 4),
-        second: tranche_word(s, l, i, 5),
-        third: tranche_word(s, l, i, 6),
+        first: tranche_word(s, l, row, 4),
+        second: tranche_word(s, l, row, 5),
+        third: tranche_word(s, l, row, 6),
     }
 }
 
@@ -95,19 +107,28 @@ pub(crate) fn capital(held: u64, w: u64) -> u64
     rounded_up(held * w * 8, 1000000)
 }
 
-// The first tranche that is too thin for the formula.
-pub(crate) fn judge_thickness(s: &[u64], l: Layout, d: Terms, points: &[u64; POINTS]) -> Verdict
-    requires { ⌜ LaidOut (now s) l × (d ≡ terms (now s)) × ClassPoints (now s) (now points) ⌝ }
+// The first tranche that is too thin for the formula. The points are asked first: most tranches have a thickness, and what else is theirs is then not needed here.
+pub(crate) fn judge_thickness(
+    s: &[u64],
+    l: Layout,
+    d: Terms,
+    points: &[u64; POINTS],
+    next: &[u64; NEXT],
+) -> Verdict
+    requires { ⌜ LaidOut (now s) l × (d ≡ terms (now s)) × ClassPoints (now s) (now points) × NextRated (now s) (now next) 0 ⌝ }
     ensures { λ r. ⌜ r ≡ firstOf (λ i. thinVerdict (now (s .entry)) i) (trancheCount (now (s .entry))) ⌝ }
 {
     let tranches = l.tranches;
     let mut i = 0;
     while i < tranches {
-        if is_thin(tranche_of(s, l, points, i), d) {
-            return Verdict::Faulty(Refusal {
-                number: 13,
-                place: l.first_tranche as u64 + TRANCHE_SIZE as u64 * i,
-            });
+        let class = tranche_word(s, l, i, 1);
+        if points[class as usize] == points[(class + 1) as usize] {
+            if is_thin(tranche_of(s, l, d, points, next, i), d) {
+                return Verdict::Faulty(Refusal {
+                    number: 13,
+                    place: l.first_tranche as u64 + TRANCHE_SIZE as u64 * i,
+                });
+            }
         }
         i += 1;
     }

@@ -4,3 +4,4 @@ pub mod Tests
 pub mod Table
 pub mod SumLaws
 pub mod SumPermuted
+pub mod FirstLaws

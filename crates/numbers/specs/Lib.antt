@@ -3,3 +3,4 @@ pub mod BothEnds
 pub mod Limits
 pub mod Sum
 pub mod Permutation
+pub mod First

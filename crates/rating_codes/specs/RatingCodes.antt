@@ -17,6 +17,10 @@ shortTerm code = leb 21 code && leb code 24
 abbrev pub present : ℕ → Bool
 present code = longTerm code || shortTerm code
 
+-- "Any of the tranche's three ratings present"
+abbrev pub anyPresent : ℕ → ℕ → ℕ → Bool
+anyPresent first second third = present first || present second || present third
+
 -- "0 none", or a rating
 abbrev pub listed : ℕ → Bool
 listed code = eqb code 0 || present code

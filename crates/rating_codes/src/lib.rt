@@ -3,7 +3,7 @@ ghost use mathlib.Core.Path.{_≡_};
 ghost use mathlib.Core.List.{[], _∷_};
 ghost use Prim.Native.Nat.{_≤_};
 ghost use lib.ListN.{length};
-ghost use Rattle.rating_codes.specs.RatingCodes.{longTerm, shortTerm, present, listed, ratingsAmong};
+ghost use Rattle.rating_codes.specs.RatingCodes.{longTerm, shortTerm, present, anyPresent, listed, ratingsAmong};
 
 // Whether a code is a row of the rating table.
 pub fn long_term(code: u64) -> bool
@@ -33,6 +33,19 @@ pub fn is_present(code: u64) -> bool
         return true;
     }
     short_term(code)
+}
+
+// Whether any of three codes is a rating.
+pub fn any_present(first: u64, second: u64, third: u64) -> bool
+    ensures { λ r. ⌜ r ≡ anyPresent first second third ⌝ }
+{
+    if is_present(first) {
+        return true;
+    }
+    if is_present(second) {
+        return true;
+    }
+    is_present(third)
 }
 
 // Whether a code is listed: none, or a rating.

@@ -16,10 +16,12 @@ use Rattle.series.proofs.EndLaws.{passing-close, from-below-close}
 use Rattle.ratings.specs.RatingTable.{exactWeight, weightByRating, weightByRatings, lowWeightByRatings}
 use Rattle.weights.specs.ApproachFloorCap.{formulaRawWeight, tableWeight, weight, thin}
 use Rattle.judgement.specs.DealSheet.{poolAt, rows, tranchesAt, trancheCount, irbAt, irbFigures, needed, layout}
+use Rattle.numbers.specs.First.{firstWhere}
 use Rattle.numbers.specs.Sum.{sum}
 use Rattle.charge.specs.PoolCharge.{knownCharge, poolCharge}
 use Rattle.pool.specs.PoolSums.{poolSums}
 use Rattle.deal.specs.Points.{seniorAmount, attachmentPoint, detachmentPoint}
+use Rattle.deal.specs.InferredRatings.{servingRow, ratingRow}
 use Rattle.deal.specs.Lines.{terms, tranche, line, lineWords}
 use Rattle.judgement.specs.Refusals.{fault, judge, firstOf, wordsVerdict}
 use Rattle.deal.specs.Refusals.{verdict}
@@ -36,6 +38,7 @@ unfolding
     poolAt rows tranchesAt trancheCount irbAt irbFigures needed layout
     fault judge firstOf wordsVerdict verdict
     sum poolSums knownCharge poolCharge seniorAmount attachmentPoint detachmentPoint
+    firstWhere servingRow ratingRow
     exactWeight weightByRating weightByRatings lowWeightByRatings
     factorial low entry fineDecay decayBelow decayAbove meanDecayOfLarge meanDecayAbove productAbove units formulaProduct weightNumerator formulaWeight rawWeight
     formulaRawWeight tableWeight weight thin terms tranche line lineWords lines replyTo fileReply

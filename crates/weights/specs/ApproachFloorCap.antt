@@ -10,7 +10,7 @@ use Rattle.numbers.specs.BothEnds.{both, atBoth}
 use Rattle.numbers.specs.declared.Ends.{Ends}
 use Rattle.formula.specs.FixedPoint.{rawWeight}
 use Rattle.formula.specs.Formula.{RawWeightNumbers, IsRawWeight}
-use Rattle.rating_codes.specs.RatingCodes.{present}
+use Rattle.rating_codes.specs.RatingCodes.{anyPresent}
 use Rattle.ratings.specs.RatingTable.{maturityFifths, figuresOf, endsByRatings}
 use Rattle.irba.specs.Parameter.{parameter as irbaParameter}
 use Rattle.weights.specs.declared.Terms.{Terms}
@@ -20,7 +20,7 @@ use Rattle.weights.specs.declared.Tranche.{Tranche}
 
 -- "Any of the tranche's three ratings present"
 abbrev pub rated : Tranche → Bool
-rated t = present (t .first) || present (t .second) || present (t .third)
+rated t = anyPresent (t .first) (t .second) (t .third)
 
 -- 0 fallback, 1 SEC-ERBA, 2 SEC-SA, 3 SEC-IRBA. "In order: no due diligence, fallback. Re-securitisation, SEC-SA. Any of the tranche's three ratings present,
 -- SEC-ERBA. Unknown above 5%, fallback. Else SEC-SA." S-5: where SEC-IRBA applies to the deal (`irbaApplies`, IrbaDeals.antt of `irba`), "approach 3: ... ratings and late payers

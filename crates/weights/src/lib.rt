@@ -2,7 +2,7 @@
 ghost use mathlib.Core.Bool.{true};
 ghost use mathlib.Core.Path.{_≡_};
 ghost use Rattle.numbers.specs.BothEnds.{atBoth};
-ghost use Rattle.weights.specs.ApproachFloorCap.{rated, approach, formulaApproach, byFormula, parameter, floor, capApplies, afterFloorAndCap, formulaRawWeight, tableWeight, weight, WeightByFormula, thin};
+ghost use Rattle.weights.specs.ApproachFloorCap.{approach, formulaApproach, byFormula, parameter, floor, capApplies, afterFloorAndCap, formulaRawWeight, tableWeight, weight, WeightByFormula, thin};
 use formula::RawWeight;
 use irba::IrbFigures;
 use numbers::Ends;
@@ -67,19 +67,6 @@ impl Resecuritisation {
 // 1250%, the highest weight and that of the fallback.
 const HIGHEST: u64 = 125000;
 
-// Whether any of the tranche's ratings is present.
-fn rated(t: Tranche) -> bool
-    ensures { λ r. ⌜ r ≡ rated t ⌝ }
-{
-    if rating_codes::is_present(t.first) {
-        return true;
-    }
-    if rating_codes::is_present(t.second) {
-        return true;
-    }
-    rating_codes::is_present(t.third)
-}
-
 // The approach: 0 fallback, 1 SEC-ERBA, 2 SEC-SA, 3 SEC-IRBA.
 pub fn approach(t: Tranche, d: Terms) -> u64
     ensures { λ r. ⌜ r ≡ approach t d ⌝ }
@@ -93,7 +80,7 @@ pub fn approach(t: Tranche, d: Terms) -> u64
     if d.irba {
         return 3;
     }
-    if rated(t) {
+    if rating_codes::any_present(t.first, t.second, t.third) {
         return 1;
     }
     if !d.known {

@@ -30,8 +30,16 @@ type Tranche = [u64; TRANCHE_WORDS];
 /// Where a tranche's row holds its maturity.
 const MATURITY: usize = 2;
 
+/// The months of a maturity longer than that of any rated tranche in the large deal, so that a tranche that has it finds
+/// no rating to take.
+const LONGEST: u64 = 120;
+
+/// The rated tranches of the deal with inferred ratings: number, months and rating. They stand in the middle, with the
+/// shorter maturities, and at the end.
+const INFERRED_FROM: [(u64, u64, u64); 3] = [(10, 36, 9), (20, 48, 12), (31, 60, 14)];
+
 /// The sheets on which the versions are compared, with their names in the table.
-pub fn compared() -> [(&'static str, Vec<u64>); 13] {
+pub fn compared() -> [(&'static str, Vec<u64>); 14] {
     [
         ("small: 3 rows, 3 tranches, one unrated", small()),
         ("small, all tranches rated", small_rated()),
@@ -49,6 +57,7 @@ pub fn compared() -> [(&'static str, Vec<u64>); 13] {
             "formula: 3 rows, 32 SEC-SA tranches, 1% each",
             with_tranches(MOST_TRANCHES as u64),
         ),
+        ("inferred: 3 rows, 32 tranches, 29 of them unrated", inferred()),
     ]
 }
 
@@ -114,19 +123,21 @@ fn past_one_block() -> Vec<u64> {
     with_rows(BLOCK_ROWS as u64 + 1)
 }
 
-/// The most rows and tranches; two tranches to a class here and there, and every second one unrated.
+/// The most rows and tranches; two tranches to a class here and there, and every second one unrated. Those are the
+/// longest, so that they take no rating and the formula.
 pub fn large() -> Vec<u64> {
     let rows = rows(MOST_ROWS as u64);
     let amount = nominal(&rows) / MOST_TRANCHES as u64;
     let mut class = 1;
     let tranche = |number: u64| {
         class += u64::from(number % 5 != 4 && number > 0);
-        let rating = if number.is_multiple_of(2) { 1 + number / 2 } else { 0 };
+        let rated = number.is_multiple_of(2);
+        let rating = if rated { 1 + number / 2 } else { 0 };
         let second = if number.is_multiple_of(8) { 1 + number / 3 } else { 0 };
         [
             amount,
             class,
-            12 + 3 * number,
+            if rated { 12 + 3 * number } else { LONGEST },
             amount / (1 + number % 3),
             rating,
             second,
@@ -155,6 +166,20 @@ fn thin() -> Vec<u64> {
 /// very far above the charge, take the proved formula less time.
 pub fn with_tranches(count: u64) -> Vec<u64> {
     sheet(ORDINARY, &few_rows(500), &unrated_tranches(count, 10_000_000))
+}
+
+/// The same pool with tranches of a hundredth, of 30, 45 and 60 months in turn. Three of them are rated, and each other one
+/// takes the rating of the first of these below it that is long enough.
+fn inferred() -> Vec<u64> {
+    let mut tranches = unrated_tranches(MOST_TRANCHES as u64, 10_000_000);
+    for (tranche, months) in tranches.iter_mut().zip([30, 45, 60].into_iter().cycle()) {
+        tranche[MATURITY] = months;
+    }
+    for (number, months, rating) in INFERRED_FROM {
+        let tranche = &mut tranches[number as usize];
+        (tranche[MATURITY], tranche[TRANCHE_WORDS - 3]) = (months, rating);
+    }
+    sheet(ORDINARY, &few_rows(500), &tranches)
 }
 
 /// A pool of the given number of rows, with three tranches.
@@ -316,7 +341,7 @@ mod tests {
         assert_eq!([0, 1, 2].map(of_block), due);
     }
 
-    /// Half of the tranches are rated; the damage is found at the last word and not before.
+    /// Half of the tranches are rated, and no other takes a rating; the damage is found at the last word and not before.
     #[test]
     fn large_deal_mixes_approaches_and_its_damaged_form_is_refused_at_the_end() {
         let large = deal(&large());
@@ -342,6 +367,24 @@ mod tests {
                 deal.lines[0].amounts[0].weight < 100 * 475,
                 "below the least risk weight, so below the cap"
             );
+        }
+    }
+
+    /// Every line is by the rating table, and all tranches but three are unrated. Without the rating of any of the three,
+    /// other lines than its own change: these take it.
+    #[test]
+    fn inferred_deal_takes_ratings_of_others() {
+        let sheet = inferred();
+        let deal = deal(&sheet);
+        assert!(deal.lines.iter().all(|line| line.approach == Approach::SecErba.word()));
+        let first_rating = |number: usize| sheet.len() - TRANCHE_WORDS * (MOST_TRANCHES - number) + TRANCHE_WORDS - 3;
+        let unrated = (0..MOST_TRANCHES).filter(|&number| sheet[first_rating(number)] == 0);
+        assert_eq!(unrated.count(), MOST_TRANCHES - INFERRED_FROM.len());
+        for (number, _, _) in INFERRED_FROM {
+            let mut without = sheet.clone();
+            without[first_rating(number as usize)] = 0;
+            let lines = weights(&sheet).into_iter().zip(weights(&without));
+            assert!(lines.filter(|(one, other)| one != other).count() > 4, "{number}");
         }
     }
 

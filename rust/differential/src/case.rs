@@ -4,6 +4,7 @@
 use crate::blocks;
 use crate::damage;
 use crate::dates;
+use crate::inferred;
 use crate::irb;
 use crate::kind::{File, Kind, Relation, Room};
 use crate::limits;
@@ -31,8 +32,6 @@ pub struct Case {
     pub relation: Relation,
     /// The second sheet's words.
     pub second: Vec<u64>,
-    /// The tranche whose ratings the second sheet changes, from 0.
-    pub rerated: usize,
     /// Numbers of blocks to be read besides those that every sheet is asked for.
     pub blocks: [u64; blocks::DRAWN],
     /// The deal that the sheet was written from.
@@ -58,7 +57,6 @@ impl Case {
             file: Vec::new(),
             relation: Relation::Unused,
             second: Vec::new(),
-            rerated: 0,
             blocks: [0; blocks::DRAWN],
             deal: Deal::default(),
         }
@@ -92,6 +90,7 @@ impl Case {
             Relation::MonthsForDates => dates::are_good(&self.sheet, &layout),
             Relation::SaPool => self.kind.is_sound() && self.deal.has_section() && !self.deal.is_under_irba(),
             Relation::OtherUnderIrba => self.kind.is_sound() && self.deal.is_under_irba(),
+            Relation::SeniorRatings => self.kind.is_sound() && inferred::last_class(&self.deal.tranches) > 1,
             _ => self.kind.is_sound(),
         };
         self.relation = if possible { drawn } else { Relation::Unused };
@@ -104,10 +103,8 @@ impl Case {
                 let tranches = self.deal.tranches.iter_mut();
                 tranches.for_each(|tranche| random.shuffle(&mut tranche.ratings));
             }
-            Relation::OtherRatings => {
-                self.rerated = random.below(self.deal.tranches.len() as u64) as usize;
-                self.deal.tranches[self.rerated].ratings = tranches::any_ratings(random);
-            }
+            Relation::OtherRatings => inferred::rate_others(random, &mut self.deal.tranches),
+            Relation::SeniorRatings => inferred::rate_seniors(random, &mut self.deal.tranches),
             Relation::WithoutCap => self.deal.facts[Fact::Composition] = 0,
             Relation::SaPool => self.deal.facts[Fact::PoolKind] = pool_kind::SA,
             Relation::OtherUnderIrba => irb::change_unread(random, &mut self.deal),

@@ -49,7 +49,13 @@ fn check_second(
         Relation::Unused => true,
         Relation::RowOrder => second::compare_same(Part::RowOrder, library, case, lent).map(|()| true)?,
         Relation::RatingOrder => second::compare_same(Part::RatingOrder, library, case, lent).map(|()| true)?,
-        Relation::OtherRatings => second::compare_other_ratings(library, case, lent)?,
+        Relation::OtherRatings | Relation::SeniorRatings => {
+            let rerated = second::compare_other_ratings(library, case, lent)?;
+            rerated.is_some_and(|rerated| {
+                tally.note_law(&rerated);
+                true
+            })
+        }
         Relation::WithoutCap => expected.as_ref().is_ok_and(|deal| {
             if second::cap_decided(deal, case) {
                 tally.note_cap(&case.sheet, deal);

@@ -150,7 +150,7 @@ pub fn first_day(from: Date, months: u64) -> u64 {
 }
 
 /// The last of the days so many months after a date: on the same day of the month, or at the end of a shorter month.
-fn last_day(from: Date, months: u64) -> u64 {
+pub fn last_day(from: Date, months: u64) -> u64 {
     let month = Month::new(from.year, from.month).later(months);
     month.word(from.day.min(month.last_day()))
 }

@@ -30,7 +30,7 @@ pub enum Part {
     RowOrder,
     /// The answer changes with the order of a tranche's ratings.
     RatingOrder,
-    /// A line changes with another tranche's ratings.
+    /// The answer changes with other tranches' ratings, or a line with those of which it depends on none.
     OtherRatings,
     /// The answer changes with facts of 0 that are stated.
     FactsAdded,
@@ -60,7 +60,7 @@ impl fmt::Display for Part {
             Part::Text => "report text",
             Part::RowOrder => "order of rows",
             Part::RatingOrder => "order of ratings",
-            Part::OtherRatings => "another tranche's ratings",
+            Part::OtherRatings => "other tranches' ratings",
             Part::FactsAdded => "facts of 0 added",
             Part::MonthsForDates => "months in place of dates",
             Part::SaPool => "an SA pool without the section",

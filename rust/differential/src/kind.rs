@@ -51,6 +51,8 @@ pub enum Kind {
     HalfThick,
     /// Ratings of one weight on a tranche whose exact figures by them differ.
     NearRatings,
+    /// Ratings on some tranches, and maturities about as long as those of the others, so that many of these take them.
+    Inferred,
     /// Up to 1,000 rows, often as many as about the end of a block.
     LargePool,
     /// An IRB pool, with its section.
@@ -83,7 +85,7 @@ pub enum Kind {
 
 impl Kind {
     /// All kinds, in the order of the enum.
-    pub const TABLE: [Entry<Kind>; 28] = [
+    pub const TABLE: [Entry<Kind>; 29] = [
         (Kind::Ordinary, "ordinary", 24),
         (Kind::Stc, "STC", 24),
         (Kind::Resecuritisation, "re-securitisation", 10),
@@ -98,6 +100,7 @@ impl Kind {
         (Kind::Rated, "rated", 18),
         (Kind::HalfThick, "rated and half thick", 6),
         (Kind::NearRatings, "near ratings", 6),
+        (Kind::Inferred, "ratings to be inferred", 30),
         (Kind::LargePool, "large pool", 3),
         (Kind::IrbPool, "IRB pool", 16),
         (Kind::MixedPool, "mixed pool", 18),
@@ -230,8 +233,12 @@ pub enum Relation {
     RowOrder,
     /// The ratings of each tranche in another order: the same answer.
     RatingOrder,
-    /// Other ratings on one tranche: the other tranches' lines are the same.
+    /// Other ratings on one tranche, or on all but one: the lines of the others are the same, where these are rated or no
+    /// rating is inferred in the deal.
     OtherRatings,
+    /// Other ratings on all tranches of the classes senior to some class: the lines of that class and of those below it
+    /// are the same.
+    SeniorRatings,
     /// Composition not known: shows by the independent answer whether the cap decided.
     WithoutCap,
     /// More facts are stated, of 0, which is what they count as where they are not stated: the same answer, at the
@@ -247,11 +254,12 @@ pub enum Relation {
 
 impl Relation {
     /// All relations, in the order of the enum.
-    pub const TABLE: [Entry<Relation>; 9] = [
+    pub const TABLE: [Entry<Relation>; 10] = [
         (Relation::Unused, "no second sheet", 5),
         (Relation::RowOrder, "rows in another order", 1),
         (Relation::RatingOrder, "ratings in another order", 1),
-        (Relation::OtherRatings, "another tranche's ratings", 1),
+        (Relation::OtherRatings, "other tranches' ratings", 2),
+        (Relation::SeniorRatings, "ratings of senior classes", 2),
         (Relation::WithoutCap, "without the cap", 1),
         (Relation::FactsAdded, "facts of 0 added", 3),
         (Relation::MonthsForDates, "months in place of dates", 2),

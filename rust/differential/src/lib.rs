@@ -1,5 +1,5 @@
 //! Holds the proved library of tranche weights against the independent implementation of document 01 ("the scope
-//! paper") and of requests S-1 to S-3 and S-5 to S-7 of document 02 ("later requests"), on seeded random sheets.
+//! paper") and of requests S-1 to S-3 and S-5 to S-8 of document 02 ("later requests"), on seeded random sheets.
 //!
 //! Every sheet is made from a seed and its index alone ([`Case`]), so that a run can be split over threads and any
 //! sheet can be made again. [`Run::go`] compares all sheets and gives the counts of what it met ([`Tally`]) or the
@@ -17,9 +17,12 @@ mod damage;
 mod date_feature;
 mod dates;
 mod difference;
+mod inferred;
+mod inferred_feature;
 mod irb;
 mod irb_feature;
 mod kind;
+mod law_feature;
 mod least_feature;
 mod lent;
 mod library;
@@ -34,6 +37,7 @@ mod seen;
 pub mod sheet;
 mod sheet_feature;
 pub mod show;
+mod sought;
 mod tally;
 mod text;
 mod tranches;
@@ -44,8 +48,10 @@ pub use case::Case;
 pub use check::check;
 pub use date_feature::{DateFeature, DatedLineFeature};
 pub use difference::{Asked, Difference, Part};
+pub use inferred_feature::{InferredFeature, InferredRefusal, UntakenFeature};
 pub use irb_feature::{is_under_irba, IrbFeature, IrbLineFeature, IrbRefusal};
 pub use kind::{File, Kind, Relation, Room};
+pub use law_feature::LawFeature;
 pub use least_feature::{Ends, LeastFeature, NearPair};
 pub use lent::Lent;
 pub use library::{BlockReply, Library, Reply, SumBlock, Weigh, WeighFile};

@@ -24,7 +24,7 @@ impl Amounts {
     fn draw(kind: Kind, random: &mut Random) -> Amounts {
         let exact = matches!(
             kind,
-            Kind::AroundCharge | Kind::Thin | Kind::SmallCharge | Kind::HalfThick | Kind::NearRatings
+            Kind::AroundCharge | Kind::Thin | Kind::SmallCharge | Kind::HalfThick | Kind::NearRatings | Kind::Inferred
         );
         if exact && !random.once_in(8) {
             return Amounts::Large;

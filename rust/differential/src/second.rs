@@ -3,6 +3,7 @@
 use crate::answer::LINE_WORDS;
 use crate::case::Case;
 use crate::difference::{Difference, Part};
+use crate::law_feature::Rerated;
 use crate::lent::Lent;
 use crate::library::{Library, Reply};
 use crate::sheet::Layout;
@@ -29,23 +30,28 @@ pub fn compare_same(part: Part, library: &Library, case: &Case, lent: &mut Lent)
     Err(Difference::new(part, first, (second, &case.second)))
 }
 
-/// A tranche's line depends on no other tranche's ratings, both sheets being accepted ("Agreed between us"). Gives
-/// whether both were accepted.
-pub fn compare_other_ratings(library: &Library, case: &Case, lent: &mut Lent) -> Result<bool, Difference> {
-    let (first, mut first_lines) = weigh(library, &case.sheet, case.room, lent);
-    let (second, mut second_lines) = weigh(library, &case.second, case.room, lent);
+/// A line depends on no rating of a class senior to its tranche's ("a rating may now change lines of its own or a senior
+/// class, and no junior one", S-8). Where its tranche is rated, or no rating is inferred in the deal, it depends on no
+/// other tranche's ratings at all ("Agreed between us"). Both sheets must be accepted. Gives the two sheets with the lines
+/// that differ, or nothing where one was refused.
+pub fn compare_other_ratings(library: &Library, case: &Case, lent: &mut Lent) -> Result<Option<Rerated>, Difference> {
+    let (first, first_lines) = weigh(library, &case.sheet, case.room, lent);
+    let (second, second_lines) = weigh(library, &case.second, case.room, lent);
     if (first.number, second.number) != (0, 0) {
-        return Ok(false);
+        return Ok(None);
     }
-    if case.rerated < first_lines.len().min(second_lines.len()) {
-        first_lines.remove(case.rerated);
-        second_lines.remove(case.rerated);
+    let differ = |expected, said| Err(Difference::new(Part::OtherRatings, expected, (said, &case.second)));
+    if first != second {
+        return differ((first, None), (second, None));
     }
-    if (first, &first_lines) == (second, &second_lines) {
-        return Ok(true);
+    let mut rerated = Rerated::new(&case.sheet, &case.second);
+    for (number, (line, other)) in first_lines.into_iter().zip(second_lines).enumerate() {
+        if line != other && rerated.keeps(number) {
+            return differ((first, Some(line)), (second, Some(other)));
+        }
+        rerated.note(line != other);
     }
-    let said = (second, second_lines, &case.second);
-    Err(Difference::new(Part::OtherRatings, (first, first_lines), said))
+    Ok(Some(rerated))
 }
 
 /// A fact that is not stated counts as 0 (S-1 and S-3): with more facts, of 0, the answer and the lines are the same,
@@ -82,7 +88,8 @@ mod tests {
     use super::*;
     use crate::answer::LineWord;
     use crate::kind::Relation;
-    use crate::sheet::{Fact, RowWord, TrancheWord, FACTS, FEWEST_FACTS};
+    use crate::library::Weigh;
+    use crate::sheet::{Fact, RowWord, TrancheWord, FACTS, FEWEST_FACTS, RATINGS};
 
     /// The proved library, with the pool's first exposure added to the charge: right sums, but the order of rows
     /// matters.
@@ -230,21 +237,73 @@ mod tests {
         }
     }
 
-    /// A library for which another tranche's ratings matter, to the points or to the least weights, is found out; the
-    /// proved one is not.
+    /// A library for which the ratings matter of a tranche that must not, to the points or to the least weights, is found
+    /// out with either second sheet; so is one for which they matter to the charge. The proved one is not.
     #[test]
     fn other_ratings_are_compared() {
-        let compare = |weigh| {
+        let compare = |relation, weigh| {
             let library = Library {
                 weigh,
                 ..Library::PROVED
             };
             let other = |case: &Case| compare_other_ratings(&library, case, &mut Lent::default()).map(|_| ());
-            differences(Relation::OtherRatings, other)
+            differences(relation, other)
         };
-        assert!(compare(|sheet, results| ratings_matter(LineWord::Attachment, sheet, results)) > 10);
-        assert!(compare(|sheet, results| ratings_matter(LineWord::LeastWeight, sheet, results)) > 10);
-        assert_eq!(compare(Library::PROVED.weigh), 0);
+        for relation in [Relation::OtherRatings, Relation::SeniorRatings] {
+            let wrong: [Weigh; 3] = [
+                |sheet, results| ratings_matter(LineWord::Attachment, sheet, results),
+                |sheet, results| ratings_matter(LineWord::LeastWeight, sheet, results),
+                rating_order_matters,
+            ];
+            for weigh in wrong {
+                assert!(compare(relation, weigh) > 10);
+            }
+            assert_eq!(compare(relation, Library::PROVED.weigh), 0);
+        }
+    }
+
+    /// The proved library with the ratings of each tranche also on the next one, where that has none. Ratings then change
+    /// lines of junior classes.
+    fn junior_lines_follow(sheet: &[u64], results: &mut [u64]) -> Reply {
+        let mut words = sheet.to_vec();
+        let layout = Layout::of_sheet(sheet);
+        for tranche in 1..layout.tranches {
+            let [before, this] =
+                [tranche - 1, tranche].map(|tranche| layout.tranche_word(tranche, TrancheWord::FirstRating));
+            if words[this..layout.tranche(tranche + 1)] == [0; RATINGS] {
+                words.copy_within(before..before + RATINGS, this);
+            }
+        }
+        (Library::PROVED.weigh)(&words, results)
+    }
+
+    /// The proved library with the number of rated tranches added to the least weight of each of these.
+    fn rated_lines_follow(sheet: &[u64], results: &mut [u64]) -> Reply {
+        let reply = (Library::PROVED.weigh)(sheet, results);
+        let layout = Layout::of_sheet(sheet);
+        let rated = |tranche| layout.tranche_words(sheet, tranche)[TrancheWord::FirstRating as usize..] != [0; RATINGS];
+        let numbers: Vec<usize> = (0..layout.tranches).filter(|&tranche| rated(tranche)).collect();
+        let (lines, _) = results.as_chunks_mut::<LINE_WORDS>();
+        for &number in numbers.iter().filter(|_| reply.number == 0) {
+            lines[number][LineWord::LeastWeight as usize] += numbers.len() as u64;
+        }
+        reply
+    }
+
+    /// A library in which ratings change lines of junior classes is found out by other ratings of senior ones, and one in
+    /// which they change lines of rated tranches by other ratings of any.
+    #[test]
+    fn both_halves_of_the_law_are_compared() {
+        let compare = |relation, weigh| {
+            let library = Library {
+                weigh,
+                ..Library::PROVED
+            };
+            let other = |case: &Case| compare_other_ratings(&library, case, &mut Lent::default()).map(|_| ());
+            differences(relation, other)
+        };
+        assert!(compare(Relation::SeniorRatings, junior_lines_follow) > 10);
+        assert!(compare(Relation::OtherRatings, rated_lines_follow) > 10);
     }
 
     /// A library for which a fact of 0 matters, in the answer, in a line's least weight or in a refusal's place, is found

@@ -1,11 +1,13 @@
 //! A line of an accepted sheet with what of the sheet bears on its weight ("Which approach, then floor, then cap", with
-//! S-1 for STC deals, S-2 for several ratings, S-3 for dates, S-5 for SEC-IRBA and S-6 for the least weight).
+//! S-1 for STC deals, S-2 for several ratings, S-3 for dates, S-5 for SEC-IRBA, S-6 for the least weight and S-8 for
+//! inferred ratings).
 
 use crate::answer::Approach;
 use crate::dates;
 use crate::sheet::{Fact, IrbWord, Layout, TrancheWord, RATINGS};
 use independent::date::Date;
 use independent::formula::{raw_weights, Terms, HIGHEST_WEIGHT};
+use independent::inferred::ratings_that_count;
 use independent::irba::Sum;
 use independent::rating::{self, Table};
 use independent::sheet::{Irb, Tranche};
@@ -54,7 +56,7 @@ impl DealKind {
     }
 }
 
-/// What the deal's rating table gives a tranche.
+/// What the deal's rating table gives a tranche by the ratings that count for it.
 pub struct Rated {
     /// The weight before floor and cap.
     pub weight: u64,
@@ -64,7 +66,7 @@ pub struct Rated {
     pub longer_weight: u64,
     /// The tranche's maturity in months.
     pub months: u64,
-    /// The tranche's rating words.
+    /// The rating words that count.
     pub codes: [u64; RATINGS],
     /// The weight by each of the words alone, before floor and cap; none where the word is no rating.
     pub weights: [Option<u64>; RATINGS],
@@ -105,7 +107,7 @@ impl Rated {
         }
     }
 
-    /// The code of the tranche's only rating; none where it has several.
+    /// The code of the only rating that counts; none where there are several.
     pub fn only_code(&self) -> Option<u64> {
         let mut codes = self.codes.into_iter().filter(|&code| code != 0);
         codes.next().filter(|_| codes.next().is_none())
@@ -122,6 +124,23 @@ fn tranche_of(words: &[u64; TrancheWord::COUNT], months: u64) -> Tranche {
         held,
         ratings: [first, second, third],
         place: 0,
+    }
+}
+
+/// A tranche of a sheet, counted from 0, but for its place.
+fn tranche_at(sheet: &[u64], layout: &Layout, tranche: usize) -> Tranche {
+    let months = dates::months(sheet, layout, tranche).expect("a good maturity");
+    tranche_of(layout.tranche_words(sheet, tranche), months)
+}
+
+/// A tranche of a sheet in which ratings are inferred, with those that count for it.
+fn with_ratings_that_count(sheet: &[u64], layout: &Layout, tranche: &Tranche) -> Tranche {
+    let all: Vec<Tranche> = (0..layout.tranches)
+        .map(|number| tranche_at(sheet, layout, number))
+        .collect();
+    Tranche {
+        ratings: ratings_that_count(&all, tranche),
+        ..*tranche
     }
 }
 
@@ -161,7 +180,7 @@ pub struct Seen<'a> {
     pub due_diligence: bool,
     /// The IRB section, where there is one.
     pub irb: Option<Irb>,
-    /// The tranche.
+    /// The tranche, with its own ratings.
     pub tranche: Tranche,
     /// Whether the tranche is of class 1.
     pub senior: bool,
@@ -181,8 +200,7 @@ impl<'a> Seen<'a> {
         let words = layout.tranche_words(sheet, tranche);
         let kind = DealKind::of_sheet(sheet);
         let answered = |fact| layout.fact_word(sheet, fact) == 1;
-        let months = dates::months(sheet, &layout, tranche).expect("a good maturity");
-        let tranche = tranche_of(words, months);
+        let tranche = tranche_at(sheet, &layout, tranche);
         let senior = tranche.class == 1;
         let maturity = Date::of_word(words[TrancheWord::Maturity as usize]);
         let dates = dates::reporting_date(sheet, &layout).zip(maturity);
@@ -199,9 +217,12 @@ impl<'a> Seen<'a> {
             dates: dates.map(|(reporting, maturity)| Dates {
                 reporting,
                 maturity,
-                months,
+                months: tranche.months,
             }),
-            rated: rated.then(|| Rated::new(kind, &tranche, line.detachment - line.attachment)),
+            rated: rated.then(|| {
+                let tranche = with_ratings_that_count(sheet, &layout, &tranche);
+                Rated::new(kind, &tranche, line.detachment - line.attachment)
+            }),
         }
     }
 
@@ -220,7 +241,7 @@ impl<'a> Seen<'a> {
         Sum::of(irb, self.charge, &longer)
     }
 
-    /// Whether the tranche has a rating.
+    /// Whether the tranche has a rating of its own.
     pub fn is_rated(&self) -> bool {
         self.tranche.ratings.iter().any(|&code| code != 0)
     }
@@ -421,7 +442,7 @@ impl<'a> Seen<'a> {
         self.by_exponentials() && !self.two_weights() && raw_weights(&terms()).least_weights == [0]
     }
 
-    /// The code of the only rating and the tranche's months, where the cap did not lower its weight.
+    /// The code of the only rating that counts and the tranche's months, where the cap did not lower its weight.
     pub fn grade(&self) -> Option<(u64, u64)> {
         let rated = self.rated.as_ref()?;
         let code = rated.only_code()?;
@@ -557,13 +578,16 @@ mod tests {
         assert!(see(&[0, 0, 1, 0], [0, 0], |seen| seen.irb.is_none()) == [true; 2]);
     }
 
-    /// A grade is seen where it alone gives the weight, be it through the floor: not at the cap, not beside another.
+    /// A grade is seen where it alone gives the weight, be it through the floor or to a tranche that takes it: not at the
+    /// cap, not beside another.
     #[test]
     fn grades_that_decide() {
         let grades = |facts: &[u64], ratings| see(facts, ratings, |seen| seen.grade());
         assert_eq!(grades(&[0, 0, 1, 0, 1], [21, 21]), [Some((21, 12)); 2]);
         assert_eq!(grades(&[0, 0, 1, 1], [18, 18]), [None, Some((18, 12))]);
-        assert_eq!(grades(&[0, 0, 1, 1], [0, 7]), [None, Some((7, 12))]);
+        assert_eq!(grades(&[0, 0, 1, 1], [0, 7]), [Some((7, 12)); 2]);
+        assert_eq!(grades(&[0, 0, 1, 1], [7, 0]), [Some((7, 12)), None]);
+        assert_eq!(grades(&[0, 0, 1, 1], [0, 0]), [None; 2]);
         let several = Rated::new(DealKind::Stc, &tranche_of(&[1, 2, 12, 0, 5, 5, 0], 12), 0);
         assert_eq!((several.weight, several.only_code()), (3_500, None));
         assert_eq!(several.weights, [Some(3_500), Some(3_500), None]);

@@ -4,10 +4,12 @@ use crate::answer::{refusal, Approach, LineWord, LINE_WORDS};
 use crate::block_feature::{AskedBlock, BlockFeature, BlockRowFeature};
 use crate::case::Case;
 use crate::date_feature::{DateFeature, DatedLineFeature};
+use crate::inferred_feature::{InferredFeature, InferredRefusal, UntakenFeature};
 use crate::irb_feature::{
     is_under_irba, parameter_names, parameter_place, IrbFeature, IrbLineFeature, IrbRefusal, PARAMETERS,
 };
 use crate::kind::{File, Kind, Relation, Room};
+use crate::law_feature::{LawFeature, Rerated};
 use crate::least_feature::LeastFeature;
 use crate::lent::Lent;
 use crate::line_feature::{Feature, StcFeature};
@@ -15,6 +17,7 @@ use crate::rating_feature::RatingFeature;
 use crate::seen::{DealKind, Seen};
 use crate::sheet::{status, Layout, RowWord, LONG_TERM, SHORT_TERM};
 use crate::sheet_feature::{FileFeature, RoomFeature, SheetFeature};
+use crate::sought::{Sought, Tranches};
 use independent::{Deal, Refusal};
 use std::fmt;
 
@@ -76,12 +79,14 @@ fn names() -> Vec<String> {
     names.extend(Room::TABLE.map(|(_, name, _)| format!("room: {name}")));
     names.extend(File::TABLE.map(|(_, name, _)| format!("file: {name}")));
     names.extend(Relation::TABLE.map(|(_, name, _)| format!("second sheet: {name}")));
+    names.extend(LawFeature::TABLE.map(|(_, name)| name.to_string()));
     names.push("accepted".to_string());
     names.extend(refusal::MET.iter().map(|number| format!("refusal {number}")));
     names.extend(SheetFeature::TABLE.map(|(_, name)| name.to_string()));
     names.extend(RoomFeature::TABLE.map(|(_, name)| name.to_string()));
     names.extend(DateFeature::TABLE.map(|(_, name)| name.to_string()));
     names.extend(IrbRefusal::TABLE.map(|(_, name)| name.to_string()));
+    names.extend(InferredRefusal::TABLE.map(|(_, name)| name.to_string()));
     names.extend(IrbFeature::TABLE.map(|(_, name)| name.to_string()));
     names.extend(Approach::TABLE.iter().map(|(_, name)| format!("lines: {name}")));
     let statuses = status::TABLE.iter();
@@ -92,6 +97,8 @@ fn names() -> Vec<String> {
     names.extend(DatedLineFeature::TABLE.map(|(_, name)| name.to_string()));
     names.extend(IrbLineFeature::TABLE.map(|(_, name)| name.to_string()));
     names.extend(LeastFeature::TABLE.map(|(_, name)| name.to_string()));
+    names.extend(InferredFeature::TABLE.map(|(_, name)| name.to_string()));
+    names.extend(UntakenFeature::TABLE.map(|(_, name)| name.to_string()));
     names.extend(parameter_names());
     names.extend(COLUMNS.map(|name| format!("lines: rarest grade, {name}")));
     names.extend(FileFeature::TABLE.map(|(_, name)| name.to_string()));
@@ -111,6 +118,8 @@ pub struct Tally {
     pub files: [u64; File::TABLE.len()],
     /// Sheets with each sort of second sheet, where it was compared.
     pub relations: [u64; Relation::TABLE.len()],
+    /// Lines of second sheets with other ratings that show each feature.
+    pub law_features: [u64; LawFeature::TABLE.len()],
     /// Accepted sheets.
     pub accepted: u64,
     /// Refusals, in the order of their list: of a bad length, files; else sheets.
@@ -123,6 +132,8 @@ pub struct Tally {
     pub date_features: [u64; DateFeature::TABLE.len()],
     /// Refused sheets whose pool kind or IRB section shows each feature.
     pub irb_refusals: [u64; IrbRefusal::TABLE.len()],
+    /// Sheets refused for a tranche without thickness whose ratings show each feature.
+    pub inferred_refusals: [u64; InferredRefusal::TABLE.len()],
     /// Accepted sheets whose pool kind and IRB section show each feature.
     pub irb_features: [u64; IrbFeature::TABLE.len()],
     /// Lines by approach.
@@ -141,6 +152,10 @@ pub struct Tally {
     pub irb_line_features: [u64; IrbLineFeature::TABLE.len()],
     /// Lines whose weight and least weight show each feature.
     pub least_features: [u64; LeastFeature::TABLE.len()],
+    /// Lines with the ratings of another tranche that show each feature.
+    pub inferred_features: [u64; InferredFeature::TABLE.len()],
+    /// Lines beside rated tranches, without the ratings of another, that show each feature.
+    pub untaken_features: [u64; UntakenFeature::TABLE.len()],
     /// Lines under SEC-IRBA whose weight the exponentials decide, by row of coefficients, deal and least parameter.
     pub parameters: [u64; PARAMETERS],
     /// Lines whose weight one grade gives, by column and grade.
@@ -186,12 +201,15 @@ impl Tally {
         }
     }
 
-    /// Notes what the dates, the pool kind and the IRB section of a refused sheet show.
+    /// Notes what the dates, the pool kind, the IRB section and the ratings of a refused sheet show.
     fn note_refused(&mut self, sheet: &[u64], refused: &Refusal) {
         for (count, (feature, _)) in self.date_features.iter_mut().zip(DateFeature::TABLE) {
             *count += u64::from(feature.shown(sheet, refused));
         }
         for (count, (feature, _)) in self.irb_refusals.iter_mut().zip(IrbRefusal::TABLE) {
+            *count += u64::from(feature.shown(sheet, refused));
+        }
+        for (count, (feature, _)) in self.inferred_refusals.iter_mut().zip(InferredRefusal::TABLE) {
             *count += u64::from(feature.shown(sheet, refused));
         }
     }
@@ -219,11 +237,23 @@ impl Tally {
 
     /// Notes the lines of an accepted sheet, with the words that were written.
     fn note_lines(&mut self, sheet: &[u64], deal: &Deal, lent: &Lent) {
+        let tranches = Tranches::of(sheet);
         for (tranche, words) in lent.lines(deal.lines.len() as u64).iter().enumerate() {
             let seen = Seen::new(sheet, deal, tranche);
             self.approaches[seen.line.approach as usize] += 1;
             self.note_seen(&seen);
             self.note_ends(&seen, words);
+            self.note_sought(tranches.sought(tranche), &seen, deal);
+        }
+    }
+
+    /// Notes what a line shows by the ratings that its tranche takes, or does not take.
+    fn note_sought(&mut self, sought: Sought, seen: &Seen, deal: &Deal) {
+        for (count, (feature, _)) in self.inferred_features.iter_mut().zip(InferredFeature::TABLE) {
+            *count += u64::from(feature.shown(sought, seen, deal));
+        }
+        for (count, (feature, _)) in self.untaken_features.iter_mut().zip(UntakenFeature::TABLE) {
+            *count += u64::from(feature.shown(sought, seen));
         }
     }
 
@@ -300,6 +330,15 @@ impl Tally {
         self.relations[relation as usize] += 1;
     }
 
+    /// Notes what the lines of two sheets show that differ in ratings.
+    pub fn note_law(&mut self, rerated: &Rerated) {
+        for number in 0..rerated.lines() {
+            for (count, (feature, _)) in self.law_features.iter_mut().zip(LawFeature::TABLE) {
+                *count += u64::from(feature.shown(rerated, number));
+            }
+        }
+    }
+
     /// Notes that the cap decided some line of a sheet with this answer. SEC-IRBA is counted apart.
     pub fn note_cap(&mut self, sheet: &[u64], deal: &Deal) {
         if is_under_irba(deal) {
@@ -317,12 +356,14 @@ impl Tally {
         add(&mut self.rooms, &other.rooms);
         add(&mut self.files, &other.files);
         add(&mut self.relations, &other.relations);
+        add(&mut self.law_features, &other.law_features);
         self.accepted += other.accepted;
         add(&mut self.refusals, &other.refusals);
         add(&mut self.sheet_features, &other.sheet_features);
         add(&mut self.room_features, &other.room_features);
         add(&mut self.date_features, &other.date_features);
         add(&mut self.irb_refusals, &other.irb_refusals);
+        add(&mut self.inferred_refusals, &other.inferred_refusals);
         add(&mut self.irb_features, &other.irb_features);
         add(&mut self.approaches, &other.approaches);
         add(&mut self.statuses, &other.statuses);
@@ -332,6 +373,8 @@ impl Tally {
         add(&mut self.dated_line_features, &other.dated_line_features);
         add(&mut self.irb_line_features, &other.irb_line_features);
         add(&mut self.least_features, &other.least_features);
+        add(&mut self.inferred_features, &other.inferred_features);
+        add(&mut self.untaken_features, &other.untaken_features);
         add(&mut self.parameters, &other.parameters);
         add(self.grades.as_flattened_mut(), other.grades.as_flattened());
         add(&mut self.file_features, &other.file_features);
@@ -350,12 +393,14 @@ impl Tally {
             &self.rooms,
             &self.files,
             &self.relations,
+            &self.law_features,
             &[self.accepted],
             &self.refusals,
             &self.sheet_features,
             &self.room_features,
             &self.date_features,
             &self.irb_refusals,
+            &self.inferred_refusals,
             &self.irb_features,
             &self.approaches,
             &self.statuses,
@@ -365,6 +410,8 @@ impl Tally {
             &self.dated_line_features,
             &self.irb_line_features,
             &self.least_features,
+            &self.inferred_features,
+            &self.untaken_features,
             &self.parameters,
             &rarest_grades,
             &self.file_features,

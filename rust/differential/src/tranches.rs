@@ -1,6 +1,7 @@
 //! Random tranches over a given pool.
 
 use crate::answer::LINE_WORDS;
+use crate::inferred;
 use crate::kind::Kind;
 use crate::random::Random;
 use crate::sheet::{Deal, Fact, Tranche, LONG_TERM, MONTHS, RATINGS, SHORT_TERM, TRANCHES, TRANCHE_AMOUNT, WHOLE};
@@ -35,6 +36,7 @@ impl Division {
             Kind::Thin => Division::Thin,
             Kind::HalfThick => Division::HalfThick,
             Kind::Overshoot => Division::Overshoot,
+            Kind::Inferred if random.once_in(3) => Division::Thin,
             _ => match random.below(16) {
                 0..=5 => Division::Anywhere,
                 6..=8 => Division::LowEnd,
@@ -230,6 +232,12 @@ impl Ratings {
     }
 }
 
+/// One or more ratings, at any places of a tranche's ratings.
+pub fn some_ratings(random: &mut Random) -> [u64; RATINGS] {
+    let count = random.between(1, RATINGS as u64);
+    placed(random, count, any_code)
+}
+
 /// So many codes at random places of a tranche's ratings.
 fn placed(random: &mut Random, count: u64, code: fn(&mut Random) -> u64) -> [u64; RATINGS] {
     let mut words = [0; RATINGS];
@@ -365,7 +373,7 @@ pub fn fill(kind: Kind, random: &mut Random, deal: &mut Deal) {
         None => Division::draw(kind, random).amounts(random, deal),
     };
     let ratings = Ratings::draw(kind, random);
-    let splits = random.once_in(3);
+    let splits = random.once_in(3) || kind == Kind::Inferred;
     deal.tranches.clear();
     let mut spare = TRANCHES as usize - amounts.len();
     for (class, mut left) in (1..).zip(amounts) {
@@ -385,5 +393,8 @@ pub fn fill(kind: Kind, random: &mut Random, deal: &mut Deal) {
     }
     if let Some(near) = near {
         near.rate(random, &mut deal.tranches);
+    }
+    if kind == Kind::Inferred {
+        inferred::rate(random, &mut deal.tranches);
     }
 }

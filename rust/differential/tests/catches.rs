@@ -15,10 +15,12 @@ use independent::block::{self, sums_over};
 use independent::charge::{self, Points};
 use independent::date::Date;
 use independent::formula::{raw_weights, Terms};
+use independent::inferred::is_rated;
 use independent::irba::Sum;
 use independent::rating::{self, Table};
 use independent::sheet::{Facts, Irb, Row, Sheet, Status, Tranche};
-use independent::Line;
+use independent::{Line, Refusal};
+use std::cmp::Reverse;
 
 /// The seed of the runs.
 const SEED: u64 = 3;
@@ -257,21 +259,14 @@ fn facts_up_to(most: u64, sheet: &[u64], results: &mut [u64]) -> Reply {
     }
 }
 
-/// Changes the weights of the rated tranches of STC deals, given each tranche and its weight.
+/// Changes the weights by the rating table in STC deals, given each tranche, with the ratings that count, and its weight.
 fn stc_weights(sheet: &[u64], results: &mut [u64], change: fn(&Tranche, u64) -> u64) -> Reply {
-    let reply = proved(sheet, results);
-    if reply.number != 0 || !fifth_is(sheet, |fact| fact == 1) {
-        return reply;
-    }
-    let tranches = independent::sheet::read(sheet).expect("an accepted sheet").tranches;
-    let (lines, _) = results.as_chunks_mut::<LINE_WORDS>();
-    for (tranche, line) in tranches.iter().zip(lines) {
-        if line[LineWord::Approach as usize] == Approach::SecErba.word() {
+    change_lines(sheet, results, |figures, tranche, line| {
+        if figures.facts.stc && line[LineWord::Approach as usize] == Approach::SecErba.word() {
             let weight = &mut line[LineWord::Weight as usize];
             *weight = change(tranche, *weight);
         }
-    }
-    reply
+    })
 }
 
 /// Holds a non-senior weight of an STC deal no lower than the senior figure.
@@ -787,8 +782,8 @@ fn wrong_deals_under_irba() {
     assert_eq!(weighed(as_sec_sa), Some(Part::Line(LineWord::Approach)));
 }
 
-/// Weighs as the proved library does, and changes the lines of an accepted sheet, given the deal's figures, each tranche
-/// and its line.
+/// Weighs as the proved library does, and changes the lines of an accepted sheet, given the deal's figures, each tranche,
+/// with the ratings that count for it, and its line.
 fn change_lines(
     sheet: &[u64],
     results: &mut [u64],
@@ -799,8 +794,10 @@ fn change_lines(
         let read = independent::sheet::read(sheet).expect("an accepted sheet");
         let figures = Figures::of(&read);
         let (lines, _) = results.as_chunks_mut::<LINE_WORDS>();
-        let tranches = read.tranches.iter().zip(lines);
-        tranches.for_each(|(tranche, line)| change(&figures, tranche, line));
+        for (tranche, line) in read.tranches.iter().zip(lines) {
+            let tranche = approach::with_ratings_that_count(&figures, &read.tranches, tranche);
+            change(&figures, &tranche, line);
+        }
     }
     reply
 }
@@ -1092,6 +1089,319 @@ fn charge_of_irba_elsewhere() {
         reply
     };
     assert_eq!(weighed(weigh), Some(Part::Charge));
+}
+
+/// A deal whose tranches are weighed by the parts of the independent implementation.
+struct Weighing<'a> {
+    /// The words of its sheet.
+    words: &'a [u64],
+    /// The sheet.
+    read: &'a Sheet,
+    /// Its figures.
+    figures: &'a Figures<'a>,
+}
+
+/// A tranche as it is weighed.
+struct Counted {
+    /// The tranche, with the ratings that count for it.
+    tranche: Tranche,
+    /// The class whose points give its thickness.
+    thick_as: u64,
+    /// Its approach.
+    approach: approach::Approach,
+    /// The approach by which 13 is judged.
+    judged_by: approach::Approach,
+}
+
+impl<'a> Weighing<'a> {
+    /// The rated tranches.
+    fn rated(&self) -> impl Iterator<Item = &'a Tranche> {
+        self.read.tranches.iter().filter(|tranche| is_rated(tranche))
+    }
+
+    /// Those of a tranche's class or a junior one.
+    fn ranked(&self, tranche: &Tranche) -> impl Iterator<Item = &'a Tranche> {
+        let class = tranche.class;
+        self.rated().filter(move |row| row.class >= class)
+    }
+
+    /// Those of these that are long enough.
+    fn takeable(&self, tranche: &Tranche) -> impl Iterator<Item = &'a Tranche> {
+        let months = tranche.months;
+        self.ranked(tranche).filter(move |row| row.months >= months)
+    }
+
+    /// The first of these in the most senior class.
+    fn found(&self, tranche: &Tranche) -> Option<Tranche> {
+        self.takeable(tranche).min_by_key(|row| row.class).copied()
+    }
+
+    /// The maturity word of a tranche.
+    fn maturity(&self, tranche: &Tranche) -> u64 {
+        self.words[tranche.place as usize + TrancheWord::Maturity as usize]
+    }
+
+    /// A tranche with these ratings, by which its approach follows.
+    fn with(&self, tranche: &Tranche, ratings: [u64; RATINGS]) -> Counted {
+        let tranche = Tranche { ratings, ..*tranche };
+        let approach = approach::choose(self.figures, &tranche);
+        Counted {
+            tranche,
+            thick_as: tranche.class,
+            approach,
+            judged_by: approach,
+        }
+    }
+
+    /// A tranche with the ratings of the row that is found for it, where it has none and ratings are inferred in the deal.
+    fn with_those_of(&self, tranche: &Tranche, find: Find) -> Counted {
+        let infers = !self.read.facts.resecuritisation && self.figures.irb.is_none();
+        let found = match infers && !is_rated(tranche) {
+            true => find(self, tranche),
+            false => None,
+        };
+        self.with(tranche, found.map_or(tranche.ratings, |row| row.ratings))
+    }
+
+    /// A tranche as S-8 says, but under SEC-ERBA where it finds ratings in a deal like this one.
+    fn inferring_where(&self, tranche: &Tranche, deal: bool) -> Counted {
+        let mut counted = self.with_those_of(tranche, row_of_s8);
+        if let Some(found) = self.found(tranche).filter(|_| deal && !is_rated(tranche)) {
+            counted.tranche.ratings = found.ratings;
+            counted.approach = approach::Approach::SecErba;
+            counted.judged_by = counted.approach;
+        }
+        counted
+    }
+
+    /// A tranche as S-8 says, changed by the row whose ratings it takes.
+    fn changed_by(&self, tranche: &Tranche, change: fn(&mut Counted, &Tranche)) -> Counted {
+        let mut counted = self.with_those_of(tranche, row_of_s8);
+        if counted.tranche.ratings != tranche.ratings {
+            let found = self.found(tranche).expect("the row that is taken");
+            change(&mut counted, &found);
+        }
+        counted
+    }
+
+    /// The line of a tranche as it is weighed, or its refusal.
+    fn line(&self, tranche: &Tranche, count: Count) -> Result<[u64; LINE_WORDS], Refusal> {
+        let nominal = charge::nominal_sum(&self.read.pool);
+        let points = |class| charge::points(nominal, &self.read.tranches, class);
+        let counted = count(self, tranche);
+        let own = points(tranche.class);
+        approach::refuse_no_thickness(counted.judged_by, &own, self.figures.charge, tranche.place)?;
+        let thick_as = points(counted.thick_as);
+        let line = approach::line(self.figures, &counted.tranche, counted.approach, thick_as);
+        let [weight, risk_weighted, capital, least_weight] = words(&line.amounts[0], line.least_weights[0]);
+        let Points { attachment, detachment } = own;
+        let approach = line.approach;
+        Ok([
+            approach,
+            attachment,
+            detachment,
+            weight,
+            risk_weighted,
+            capital,
+            least_weight,
+        ])
+    }
+}
+
+/// Finds the row whose ratings an unrated tranche takes.
+type Find = fn(&Weighing, &Tranche) -> Option<Tranche>;
+
+/// The row that S-8 names.
+fn row_of_s8(deal: &Weighing, tranche: &Tranche) -> Option<Tranche> {
+    deal.found(tranche)
+}
+
+/// Says how a tranche is weighed.
+type Count = fn(&Weighing, &Tranche) -> Counted;
+
+/// The proved weighing, but each sheet of good words with enough room is weighed tranche by tranche as this says.
+fn weigh_counting(sheet: &[u64], results: &mut [u64], count: Count) -> Reply {
+    let read = match independent::sheet::read(sheet) {
+        Ok(read) if independent::sheet::refuse_short_results(&read, results.len() as u64).is_ok() => read,
+        _ => return proved(sheet, results),
+    };
+    let figures = &Figures::of(&read);
+    let weighing = Weighing {
+        words: sheet,
+        read: &read,
+        figures,
+    };
+    let lines = read.tranches.iter().map(|tranche| weighing.line(tranche, count));
+    match lines.collect::<Result<Vec<_>, Refusal>>() {
+        Ok(lines) => {
+            results[..LINE_WORDS * lines.len()].copy_from_slice(lines.as_flattened());
+            Reply::accepting(lines.len() as u64, figures.charge)
+        }
+        Err(refusal) => Reply::refusing(refusal.number, refusal.place),
+    }
+}
+
+/// The part in which a run first finds deals different whose tranches are weighed so.
+macro_rules! recounted_lines {
+    ($count:expr) => {
+        weighed(|sheet, results| weigh_counting(sheet, results, $count))
+    };
+}
+
+/// The part in which a run first finds deals different whose unrated tranches take the ratings of the row so found.
+macro_rules! refound {
+    ($find:expr) => {
+        recounted_lines!(|deal, tranche| deal.with_those_of(tranche, $find))
+    };
+}
+
+/// Whether a difference is one that wrong ratings make: in the outcome, in the place of a refusal, in a line, or between
+/// two sheets with other ratings or other forms of maturities.
+fn is_by_ratings(part: Option<Part>) -> bool {
+    let of_sheet = matches!(part, Some(Part::Outcome | Part::Place | Part::Line(_)));
+    of_sheet || matches!(part, Some(Part::OtherRatings | Part::MonthsForDates))
+}
+
+/// Ratings taken from another class: none, of any class, of junior ones or the own one alone, of the most junior one.
+/// Taken rightly they pass, so that each fault below is found for its own sake.
+#[test]
+fn wrong_class_of_inferred_ratings() {
+    assert_eq!(refound!(row_of_s8), None);
+    let wrong = [
+        refound!(|_, _| None),
+        refound!(|deal, tranche| {
+            let long_enough = deal.rated().filter(|row| row.months >= tranche.months);
+            long_enough.min_by_key(|row| row.class).copied()
+        }),
+        refound!(|deal, tranche| {
+            let juniors = deal.takeable(tranche).filter(|row| row.class > tranche.class);
+            juniors.min_by_key(|row| row.class).copied()
+        }),
+        refound!(|deal, tranche| deal.found(tranche).filter(|row| row.class == tranche.class)),
+        refound!(|deal, tranche| deal.takeable(tranche).min_by_key(|row| Reverse(row.class)).copied()),
+    ];
+    for (place, part) in wrong.into_iter().enumerate() {
+        assert!(is_by_ratings(part), "{place}: {part:?}");
+    }
+}
+
+/// Ratings taken by another maturity: any, a month less, longer ones alone, by the tranche maturity that is held within
+/// one and five years, by dates; and the row that is nearest.
+#[test]
+fn wrong_maturity_of_inferred_ratings() {
+    let wrong = [
+        refound!(|deal, tranche| deal.ranked(tranche).min_by_key(|row| row.class).copied()),
+        refound!(|deal, tranche| {
+            let months = tranche.months - 1;
+            deal.found(&Tranche { months, ..*tranche })
+        }),
+        refound!(|deal, tranche| {
+            let months = tranche.months + 1;
+            deal.found(&Tranche { months, ..*tranche })
+        }),
+        refound!(|deal, tranche| {
+            let maturity = rating::maturity(tranche.months);
+            let mut ranked = deal.ranked(tranche);
+            ranked.find(|row| rating::maturity(row.months) >= maturity).copied()
+        }),
+        refound!(|deal, tranche| {
+            let maturity = deal.maturity(tranche);
+            let mut ranked = deal.ranked(tranche);
+            ranked.find(|row| deal.maturity(row) >= maturity).copied()
+        }),
+        refound!(|deal, tranche| deal.takeable(tranche).min_by_key(|row| row.months).copied()),
+    ];
+    for (place, part) in wrong.into_iter().enumerate() {
+        assert!(is_by_ratings(part), "{place}: {part:?}");
+    }
+}
+
+/// The row that a tranche finds where ratings that are taken count as a tranche's own.
+fn found_in_chain(deal: &Weighing, tranche: &Tranche) -> Option<Tranche> {
+    let others = deal.read.tranches.iter().filter(|row| row.place != tranche.place);
+    let ranked = others.filter(|row| row.class >= tranche.class && row.months >= tranche.months);
+    let rated = ranked.filter_map(|row| match is_rated(row) {
+        true => Some(*row),
+        false => deal.found(row),
+    });
+    rated.reduce(|one, other| if other.class < one.class { other } else { one })
+}
+
+/// Ratings taken from another row: the last one of the class, a later one than the tranche alone, the first one of the
+/// class and none where that is too short; from one that takes its own; and only the first word of the row.
+#[test]
+fn wrong_row_of_inferred_ratings() {
+    let wrong = [
+        refound!(|deal, tranche| deal.takeable(tranche).max_by_key(|row| Reverse(row.class)).copied()),
+        refound!(|deal, tranche| {
+            let later = deal.takeable(tranche).filter(|row| row.place > tranche.place);
+            later.min_by_key(|row| row.class).copied()
+        }),
+        refound!(|deal, tranche| {
+            let first = deal.ranked(tranche).min_by_key(|row| row.class);
+            first.filter(|row| row.months >= tranche.months).copied()
+        }),
+        refound!(found_in_chain),
+        refound!(|deal, tranche| {
+            let found = deal.found(tranche)?;
+            let ratings = [found.ratings[0], 0, 0];
+            Some(Tranche { ratings, ..found })
+        }),
+    ];
+    for (place, part) in wrong.into_iter().enumerate() {
+        assert!(is_by_ratings(part), "{place}: {part:?}");
+    }
+}
+
+/// What a tranche has of its own, taken from the row too: its maturity, its class, its thickness; and ratings taken by a
+/// tranche that is rated, or whose first word alone is none.
+#[test]
+fn wrong_figures_with_inferred_ratings() {
+    let wrong = [
+        recounted_lines!(|deal, tranche| {
+            deal.changed_by(tranche, |counted, found| counted.tranche.months = found.months)
+        }),
+        recounted_lines!(|deal, tranche| {
+            deal.changed_by(tranche, |counted, found| counted.tranche.class = found.class)
+        }),
+        recounted_lines!(|deal, tranche| deal.changed_by(tranche, |counted, found| counted.thick_as = found.class)),
+        recounted_lines!(|deal, tranche| {
+            let found = deal.found(tranche).filter(|_| deal.figures.irb.is_none());
+            deal.with(tranche, found.map_or(tranche.ratings, |row| row.ratings))
+        }),
+        recounted_lines!(|deal, tranche| {
+            let found = deal.found(tranche).filter(|_| tranche.ratings[0] == 0);
+            deal.with(tranche, found.map_or(tranche.ratings, |row| row.ratings))
+        }),
+    ];
+    for (place, part) in wrong.into_iter().enumerate() {
+        assert!(is_by_ratings(part), "{place}: {part:?}");
+    }
+}
+
+/// Ratings inferred at another step: before a re-securitisation's SEC-SA, before SEC-IRBA, before the fallback without due
+/// diligence; after the fallback for unknown rows; and after 13 is judged.
+#[test]
+fn wrong_step_of_inferred_ratings() {
+    let wrong = [
+        recounted_lines!(|deal, tranche| {
+            let facts = &deal.read.facts;
+            deal.inferring_where(tranche, facts.resecuritisation && facts.due_diligence_held)
+        }),
+        recounted_lines!(|deal, tranche| deal.inferring_where(tranche, deal.figures.irb.is_some())),
+        recounted_lines!(|deal, tranche| deal.inferring_where(tranche, !deal.read.facts.due_diligence_held)),
+        recounted_lines!(|deal, tranche| match deal.figures.unknown_above_limit {
+            true => deal.with(tranche, tranche.ratings),
+            false => deal.with_those_of(tranche, row_of_s8),
+        }),
+        recounted_lines!(|deal, tranche| Counted {
+            judged_by: approach::choose(deal.figures, tranche),
+            ..deal.with_those_of(tranche, row_of_s8)
+        }),
+    ];
+    for (place, part) in wrong.into_iter().enumerate() {
+        assert!(is_by_ratings(part), "{place}: {part:?}");
+    }
 }
 
 /// The place of the last line of an accepted sheet in the results.

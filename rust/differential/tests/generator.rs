@@ -8,6 +8,7 @@ use differential::sheet::{
 use differential::{is_under_irba, Case, Kind, Relation};
 use independent::approach::Figures;
 use independent::charge::{self, Points};
+use independent::inferred::is_rated;
 use independent::irba::Sum;
 use independent::rating::{self, Table};
 use independent::sheet::Tranche;
@@ -409,6 +410,77 @@ fn near_ratings_are_near() {
             assert!(met.contains(&(stc, places.clone())), "{stc} {places:?}");
         }
     }
+}
+
+/// Deals in which ratings are to be inferred are of every sort: ordinary, STC and re-securitised, under SEC-IRBA and not,
+/// with due diligence and without it, with a date and without one. In each of them some unrated tranche stands beside a
+/// rated one.
+#[test]
+fn inferred_ratings_come_in_all_deals() {
+    let mut met = BTreeSet::new();
+    for sheet in sheets(Kind::Inferred, 40_000) {
+        let read = independent::sheet::read(&sheet).expect("a sound sheet");
+        let [rated, unrated] = [true, false].map(|of| read.tranches.iter().any(|tranche| is_rated(tranche) == of));
+        if rated && unrated {
+            let facts = read.facts;
+            let irba = Figures::of(&read).irb.is_some();
+            let deal = [facts.resecuritisation, facts.stc, irba];
+            met.insert((deal, facts.due_diligence_held, facts.reporting_date.is_some()));
+        }
+    }
+    let deals = [[false; 3], [false, true, false], [true, false, false]].map(|deal| (deal, [true, false]));
+    let irba = [[false, false, true], [false, true, true]].map(|deal| (deal, [true, true]));
+    let deals = deals.iter().chain(&irba);
+    let all = deals.flat_map(|(deal, held)| held.map(|held| [false, true].map(|dated| (*deal, held, dated))));
+    assert_eq!(met, all.flatten().collect());
+}
+
+/// Which lines of a sheet must be the same with these ratings changed, and which independent ones are: tranches of senior
+/// classes alone are changed; the tranche is rated, or no rating is inferred in the deal. Gives both for each line of two
+/// accepted sheets whose own ratings are kept, and nothing where one is refused.
+fn lines_with_other_ratings(case: &Case) -> Vec<([bool; 2], bool)> {
+    let sheets = [&case.sheet, &case.second];
+    let [Ok(deal), Ok(other)] = sheets.map(|sheet| independent::weigh(sheet, case.room as u64)) else {
+        return Vec::new();
+    };
+    let [read, changed] = sheets.map(|sheet| independent::sheet::read(sheet).expect("a sound sheet"));
+    let exempt = read.facts.resecuritisation || !read.facts.due_diligence_held || is_under_irba(&deal);
+    let both = || read.tranches.iter().zip(&changed.tranches);
+    let seniors_alone = |class| both().all(|(one, other)| one.ratings == other.ratings || one.class < class);
+    let lines = both().zip(deal.lines.iter().zip(&other.lines));
+    let own_kept = lines.filter(|((one, other), _)| one.ratings == other.ratings);
+    own_kept
+        .map(|((one, _), (line, other))| {
+            let law = [seniors_alone(one.class), exempt || is_rated(one)];
+            (law, line == other)
+        })
+        .collect()
+}
+
+/// The independent lines keep the law of S-8: none depends on a rating of a senior class, and that of a rated tranche, or of
+/// a deal in which nothing is inferred, on no other's. Others do change, and each case comes with each second sheet that
+/// can have it.
+#[test]
+fn independent_lines_keep_the_law() {
+    let mut met = BTreeSet::new();
+    for case in (0..20_000).map(|index| Case::new(23, index)) {
+        let relations = [Relation::OtherRatings, Relation::SeniorRatings];
+        if let Some(relation) = relations.iter().position(|&relation| relation == case.relation) {
+            for (law, same) in lines_with_other_ratings(&case) {
+                assert!(same || law == [false; 2], "{:?} {:?}", case.sheet, case.second);
+                met.insert((relation, law, same));
+            }
+        }
+    }
+    for relation in [0, 1] {
+        let kept = [[true, false], [true, true]].map(|law| (relation, law, true));
+        assert!(kept.iter().all(|case| met.contains(case)), "{met:?}");
+        assert!(met.contains(&(relation, [false, true], true)));
+    }
+    assert!(
+        [true, false].iter().all(|&same| met.contains(&(0, [false; 2], same))),
+        "{met:?}"
+    );
 }
 
 /// Rooms are lent that hold just the lines of several tranches, one word less and one less for each.

@@ -1,9 +1,10 @@
-//! "Which approach, then floor, then cap" of document 01, with the STC deals of S-1, SEC-IRBA of S-5 and the least weight
-//! of S-6. Weights are in hundredths of a percent.
+//! "Which approach, then floor, then cap" of document 01, with the STC deals of S-1, SEC-IRBA of S-5, the least weight of
+//! S-6 and the deals in which ratings are inferred, by S-8. Weights are in hundredths of a percent.
 
 use crate::answer::{Amounts, Line, Refusal};
 use crate::charge::{average_risk_weight_times, pool_charge, to_word, Points};
 use crate::formula::{raw_weights, Admitted, Terms, HIGHEST_WEIGHT};
+use crate::inferred;
 use crate::irba;
 use crate::rating::{self, Table};
 use crate::sheet::{Facts, Irb, Row, Sheet, Tranche};
@@ -116,8 +117,23 @@ impl<'a> Figures<'a> {
     }
 }
 
+/// The tranche with the ratings that count for it in place of its own, among the tranches of its deal. They are inferred
+/// in "an ordinary deal without SEC-IRBA", and in no other. The tranche keeps "its own class, maturity and thickness".
+/// Without due diligence the fallback comes before any rating.
+pub fn with_ratings_that_count(figures: &Figures, tranches: &[Tranche], tranche: &Tranche) -> Tranche {
+    let infers = !figures.facts.resecuritisation && figures.irb.is_none();
+    Tranche {
+        ratings: match infers {
+            true => inferred::ratings_that_count(tranches, tranche),
+            false => tranche.ratings,
+        },
+        ..*tranche
+    }
+}
+
 /// The approach, by the first of these that holds: no due diligence, fallback; re-securitisation, SEC-SA; SEC-IRBA for
-/// the deal, SEC-IRBA; any of the three ratings present, SEC-ERBA; unknown above 5%, fallback; else SEC-SA.
+/// the deal, SEC-IRBA; any of the three ratings present, SEC-ERBA; unknown above 5%, fallback; else SEC-SA. The ratings
+/// of the tranche are those that count.
 pub fn choose(figures: &Figures, tranche: &Tranche) -> Approach {
     if !figures.facts.due_diligence_held {
         Approach::Fallback
@@ -125,7 +141,7 @@ pub fn choose(figures: &Figures, tranche: &Tranche) -> Approach {
         Approach::SecSa
     } else if figures.irb.is_some() {
         Approach::SecIrba
-    } else if tranche.ratings.iter().any(|&code| code != 0) {
+    } else if inferred::is_rated(tranche) {
         Approach::SecErba
     } else if figures.unknown_above_limit {
         Approach::Fallback
@@ -415,6 +431,37 @@ mod tests {
         }
         for (facts, approach) in [(without, Approach::Fallback), (facts(true, false), Approach::SecSa)] {
             assert_eq!(figures(facts, Some(1_000_000)), (approach, sa_pool.0, sa_pool.1));
+        }
+    }
+
+    /// Ratings are inferred in ordinary deals, STC or not, and of a mixed pool below the least share; neither in a
+    /// re-securitisation nor under SEC-IRBA. The ratings alone are another's.
+    #[test]
+    fn deals_with_inferred_ratings() {
+        let counting = |facts, share| {
+            let mut sheet = sheet(facts, [0; 3], false, share);
+            sheet.tranches.push(Tranche {
+                amount: 5,
+                class: 2,
+                months: 9,
+                held: 3,
+                ratings: [7, 0, 8],
+                place: 7,
+            });
+            let unrated = &sheet.tranches[0];
+            let counted = with_ratings_that_count(&Figures::of(&sheet), &sheet.tranches, unrated);
+            let kept = |of: &Tranche| [of.amount, of.class, of.months, of.held, of.place];
+            assert_eq!(kept(&counted), kept(unrated));
+            counted.ratings
+        };
+        for stc in [false, true] {
+            for share in [None, Some(949_999)] {
+                assert_eq!(counting(facts(false, stc), share), [7, 0, 8]);
+            }
+            assert_eq!(counting(facts(false, stc), Some(950_000)), [0; 3]);
+        }
+        for share in [None, Some(0), Some(1_000_000)] {
+            assert_eq!(counting(facts(true, false), share), [0; 3]);
         }
     }
 

@@ -1,4 +1,4 @@
-//! Exact tranche weights: the crate follows document 01 (the scope paper), requests S-1 to S-3 and S-5 to S-7 of
+//! Exact tranche weights: the crate follows document 01 (the scope paper), requests S-1 to S-3 and S-5 to S-8 of
 //! document 02 (the paper of later requests) and the rating figures of source document 001 alone, and shares nothing
 //! with the proved code.
 //!
@@ -7,10 +7,11 @@
 //! fixed-point numbers, each rounded outward.
 //!
 //! [`answer`] has the types of the answers, [`date`] the dates of S-3. One module stands for each heading of document
-//! 01, and one each for S-7 and S-5; each uses only these two and modules above it in this list:
+//! 01, and one each for S-7, S-8 and S-5; each uses only these two and modules above it in this list:
 //! - [`sheet`]: "The deal sheet" and "Refusals, by who can cause them", but for refusal 13;
 //! - [`charge`]: "Points and pool charge";
 //! - [`block`]: sums by blocks of rows;
+//! - [`inferred`]: the ratings that count for a tranche;
 //! - [`rating`]: "The rating table";
 //! - [`irba`]: charge and parameter of SEC-IRBA;
 //! - [`formula`]: "The formula and its series";
@@ -23,6 +24,7 @@ pub mod block;
 pub mod charge;
 pub mod date;
 pub mod formula;
+pub mod inferred;
 pub mod irba;
 pub mod rating;
 pub mod sheet;
@@ -32,13 +34,15 @@ pub use answer::{Amounts, BlockSums, Deal, Line, Refusal, Totals};
 /// Weighs a deal sheet. `room` is how many result words the caller lends, for refusal 14.
 ///
 /// The order of judgment is that of document 01: the words from place 0 upward, then 3 (both in `sheet::read`), then
-/// 14, then 13 by tranche in order. Collecting the lines stops at the first refused tranche, so 13 keeps that order.
+/// 14, then 13 by tranche in order. Collecting the lines stops at the first refused tranche, so 13 keeps that order. All
+/// of a tranche's line, 13 too, goes by the ratings that count for it.
 pub fn weigh(sheet: &[u64], room: u64) -> Result<Deal, Refusal> {
     let sheet = sheet::read(sheet)?;
     sheet::refuse_short_results(&sheet, room)?;
     let figures = approach::Figures::of(&sheet);
     let nominal = charge::nominal_sum(&sheet.pool);
     let lines = sheet.tranches.iter().map(|tranche| {
+        let tranche = &approach::with_ratings_that_count(&figures, &sheet.tranches, tranche);
         let points = charge::points(nominal, &sheet.tranches, tranche.class);
         let approach = approach::choose(&figures, tranche);
         approach::refuse_no_thickness(approach, &points, figures.charge, tranche.place)?;

@@ -1,5 +1,6 @@
 //! The checked deals and the misreadings of document 01, the STC deals of S-1, several ratings by S-2, maturities as
-//! dates by S-3, and the largest deal, as whole sheets. The deals of S-5 stand apart, and so do floor and cap of S-6.
+//! dates by S-3, and the largest deal, as whole sheets. The deals of S-5 stand apart, and so do floor and cap of S-6 and
+//! the inferred ratings of S-8.
 
 mod common;
 
@@ -145,11 +146,11 @@ fn base_charge_and_cap() {
 }
 
 /// Checked deal: base 80,000, none late, 5% unknown: charge 126,000; 5.1%: fallback, which takes no cap. A rating still
-/// gives SEC-ERBA there.
+/// gives SEC-ERBA there. The unrated tranche is the longer one, so that it takes no rating.
 #[test]
 fn unknown_rows() {
     let pool = |unknown| [[1_000 - unknown, 1, 100, 0], [unknown, 1, 100, 2]];
-    let tranches = [tranche(1, 1, 72, 0), tranche(1, 2, 72, 9)];
+    let tranches = [tranche(1, 1, 73, 0), tranche(1, 2, 72, 9)];
     let within = weighed(ORDINARY, &pool(50), &tranches);
     let above = weighed(ORDINARY, &pool(51), &tranches);
     assert_eq!((within.charge, within.lines[0].approach), (126_000, 2));
@@ -283,11 +284,12 @@ fn stc_floors() {
     assert_eq!(stc_weights(100, &table), [[1_000], [1_500], [1_500]]);
 }
 
-/// The cap of an STC deal acts after its floor, also below it.
+/// The cap of an STC deal acts after its floor, also below it, on a rated tranche and under the formula.
 #[test]
 fn stc_cap() {
-    let tranches = [tranche(500, 1, 72, 1), tranche(400, 1, 72, 0), tranche(100, 2, 72, 21)];
+    let tranches = [tranche(500, 1, 72, 1), tranche(400, 1, 73, 0), tranche(100, 2, 72, 21)];
     let deal = weighed(STC, &pool_at(5), &tranches);
+    assert_eq!(deal.lines[1].approach, 2);
     let all: Vec<Vec<u64>> = deal.lines.iter().map(weights).collect();
     assert_eq!(all, [[500], [500], [1_500]]);
 }
@@ -378,24 +380,6 @@ fn pari_passu_and_equal_weights() {
     assert_eq!(summary(&deal)[0], closed(2, 800_000, 1_000_000, 1_500));
     assert_eq!(summary(&deal)[1], closed(2, 400_000, 800_000, 1_500));
     assert_eq!(summary(&deal)[2], summary(&deal)[1]);
-}
-
-/// A tranche's line depends on no other tranche's ratings.
-#[test]
-fn lines_depend_on_their_own_ratings() {
-    let with_rating = |rating| {
-        let tranches = [
-            tranche(800, 1, 72, rating),
-            tranche(100, 2, 72, 0),
-            tranche(100, 3, 72, 7),
-        ];
-        weighed(ORDINARY, &pool_at(125), &tranches).lines
-    };
-    let unrated = with_rating(0);
-    for rating in (1..=18).chain(21..=24) {
-        assert_eq!(with_rating(rating)[1..], unrated[1..]);
-        assert_ne!(with_rating(rating)[0].approach, unrated[0].approach);
-    }
 }
 
 /// The months that a sheet with this reporting date and this maturity is read with.

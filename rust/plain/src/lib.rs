@@ -2,7 +2,8 @@
 //!
 //! It reads the deal sheet of document 01 with the fifth fact of S-1, the sixth of S-3 and the IRB section of S-5 of
 //! document 02, rates by S-1 and S-2, takes SEC-IRBA by S-5, rounds each weight up and down by S-6, adds up the pool by
-//! the blocks of S-7, refuses what they refuse in the same order, and writes the same result words for each tranche.
+//! the blocks of S-7, infers ratings by S-8, refuses what they refuse in the same order, and writes the same result words
+//! for each tranche.
 //! Sums of whole amounts are kept in `u64`. Every figure with a division or an exponential in it is worked in `f64`,
 //! with `exp`, `ceil` and `floor`.
 //!
@@ -47,7 +48,7 @@ pub fn weigh(sheet: &[u64], results: &mut [u64]) -> Result<(u64, u64), Refusal> 
     refuse_empty_tranche(&deal, &terms, points)?;
     let (lines, _) = results.as_chunks_mut::<LINE_WORDS>();
     for ((line, words), points) in lines.iter_mut().zip(deal.tranches).zip(points) {
-        *line = terms.line(&words.into(), points);
+        *line = terms.line(&terms.counted(deal.tranches, words), points);
     }
     Ok((count as u64, terms.charge as u64))
 }
@@ -57,7 +58,7 @@ fn refuse_empty_tranche(deal: &Deal, terms: &Terms, points: &[Points]) -> Result
     let empty = |(words, points): (&[u64; TRANCHE_WORDS], &Points)| {
         points.attachment == points.detachment
             && points.detachment > terms.charge
-            && terms.approach(&words.into()).by_formula()
+            && terms.approach(&terms.counted(deal.tranches, words)).by_formula()
     };
     match deal.tranches.iter().zip(points).position(empty) {
         Some(number) => {

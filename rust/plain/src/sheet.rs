@@ -86,6 +86,13 @@ pub struct Tranche {
     pub ratings: [u64; RATINGS],
 }
 
+impl Tranche {
+    /// Whether the tranche has a rating.
+    pub fn is_rated(&self) -> bool {
+        self.ratings != [0; RATINGS]
+    }
+}
+
 impl From<&[u64; TRANCHE_WORDS]> for Tranche {
     /// Names the words of a row.
     fn from(&[_, class, maturity, held, first, second, third]: &[u64; TRANCHE_WORDS]) -> Self {

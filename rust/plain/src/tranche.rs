@@ -3,7 +3,7 @@
 use crate::date::Date;
 use crate::irba::Parameter;
 use crate::kind::Kind;
-use crate::limits::{LINE_WORDS, RATINGS};
+use crate::limits::{LINE_WORDS, RATINGS, TRANCHE_WORDS};
 use crate::points::Points;
 use crate::rating::{self, maturity_fifths};
 use crate::sheet::{Deal, Irb, Tranche};
@@ -49,6 +49,8 @@ pub struct Terms {
     charge_known: bool,
     /// The approach of every tranche; none where it depends on the tranche's ratings.
     approach: Option<Approach>,
+    /// Whether unrated tranches look for ratings of others: ratings count in the deal, and some tranche has one.
+    infers: bool,
     reporting_date: Option<Date>,
     kind: &'static Kind,
     /// The parameter under SEC-IRBA, which takes the place of the kind's.
@@ -75,6 +77,7 @@ impl Terms {
             charge,
             charge_known,
             approach,
+            infers: approach.is_none() && deal.tranches.iter().any(|words| Tranche::from(words).is_rated()),
             reporting_date: facts.reporting_date,
             kind: Kind::of(facts),
             irba: irb.as_ref().map(|irb| Parameter::of(irb, charge, facts.stc)),
@@ -82,11 +85,32 @@ impl Terms {
         }
     }
 
-    /// Which approach a tranche takes.
+    /// A tranche of the deal with the ratings that count for it (S-8): its own, or else those that it finds among the
+    /// tranches.
+    pub fn counted(&self, tranches: &[[u64; TRANCHE_WORDS]], words: &[u64; TRANCHE_WORDS]) -> Tranche {
+        let mut tranche = Tranche::from(words);
+        if self.infers && !tranche.is_rated() {
+            tranche.ratings = self.inferred(tranches, &tranche);
+        }
+        tranche
+    }
+
+    /// The ratings of the first rated row of the tranche's class or a class below that has no fewer months; none where
+    /// there is no such row. Classes never fall from row to row, so this row is of the most senior class.
+    fn inferred(&self, tranches: &[[u64; TRANCHE_WORDS]], tranche: &Tranche) -> [u64; RATINGS] {
+        let months = self.months(tranche.maturity);
+        let found = tranches
+            .iter()
+            .map(Tranche::from)
+            .find(|row| row.class >= tranche.class && row.is_rated() && self.months(row.maturity) >= months);
+        found.map_or([0; RATINGS], |row| row.ratings)
+    }
+
+    /// Which approach a tranche takes by the ratings that count for it.
     pub fn approach(&self, tranche: &Tranche) -> Approach {
         if let Some(approach) = self.approach {
             approach
-        } else if tranche.ratings != [0; RATINGS] {
+        } else if tranche.is_rated() {
             Approach::SecErba
         } else if self.charge_known {
             Approach::SecSa
@@ -95,7 +119,7 @@ impl Terms {
         }
     }
 
-    /// The result words of a tranche.
+    /// The result words of a tranche with the ratings that count for it.
     pub fn line(&self, tranche: &Tranche, points: &Points) -> [u64; LINE_WORDS] {
         let approach = self.approach(tranche);
         // Floor and cap are whole, so rounding after them gives what rounding before them would.

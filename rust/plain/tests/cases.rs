@@ -1,5 +1,6 @@
 //! Document 01's checked deals and refusals, the STC deals of S-1, several ratings by S-2, the dates of S-3, the IRB
-//! section of S-5, the seventh word of S-6 and the blocks of S-7, through the one function that callers have.
+//! section of S-5, the seventh word of S-6, the blocks of S-7 and the inferred ratings of S-8, through the one function
+//! that callers have.
 
 use plain::LINE_WORDS;
 
@@ -214,11 +215,13 @@ fn stc_deal_takes_half_the_parameter() {
     assert_eq!(lines[2][WEIGHT], 125_000, "D = K");
 }
 
-/// Floor 1,000 for class 1 and 1,500 below, by the formula and by the table; the cap acts after the floor.
+/// Floor 1,000 for class 1 and 1,500 below, by the formula and by the table; the cap acts after the floor. The unrated
+/// tranches are a month longer than the rated one, so that they take no rating.
 #[test]
 fn stc_deal_takes_its_own_floors() {
     let unknown = [5, 0, 0, 1, 0, 1];
-    let tranches = [tranche(500, 1, 0), tranche(400, 2, 0), tranche(100, 3, 21)];
+    let unrated = |amount, class| [amount, class, 73, amount, 0, 0, 0];
+    let tranches = [unrated(500, 1), unrated(400, 2), tranche(100, 3, 21)];
     let weights = |facts: &[u64], risk_weight| {
         let (_, lines) = weighed(&sheet(facts, &[[1_000, 1_000, risk_weight, 0]], &tranches));
         [lines[0][WEIGHT], lines[1][WEIGHT], lines[2][WEIGHT]]
@@ -606,21 +609,111 @@ fn missing_and_following_words_are_refused_then_short_results() {
     refused(&CHECKED, 3 * LINE_WORDS - 1, 14, 0);
 }
 
-/// Refusal 13 names the first tranche without thickness above the charge; a rated one passes.
+/// Refusal 13 names the first tranche without thickness above the charge; one passes that is rated, or that takes the
+/// rating of the next class, which has 72 months.
 #[test]
 fn empty_tranche_above_the_charge_is_refused() {
-    let deal = |rating| {
+    let deal = |months, rating| {
         let tranches = [
             tranche(5_000_000, 1, 1),
-            tranche(1, 2, rating),
+            [1, 2, months, 1, rating, 0, 0],
             tranche(1, 3, 1),
             tranche(1, 4, 0),
         ];
         sheet(&FACTS, &[[10_000_003, 10_000_003, 100, 0]], &tranches)
     };
-    refused(&deal(0), 4 * LINE_WORDS, 13, 18);
-    refused(&deal(1), 4 * LINE_WORDS, 13, 32);
-    refused(&deal(0), 4 * LINE_WORDS - 1, 14, 0);
+    refused(&deal(73, 0), 4 * LINE_WORDS, 13, 18);
+    refused(&deal(73, 1), 4 * LINE_WORDS, 13, 32);
+    refused(&deal(72, 0), 4 * LINE_WORDS, 13, 32);
+    refused(&deal(73, 0), 4 * LINE_WORDS - 1, 14, 0);
+}
+
+/// The approach and the weight of the first line of a sheet of these facts and tranches, over loans of 100%.
+fn first_line(facts: &[u64], tranches: &[Tranche]) -> (u64, u64) {
+    let status = 3 * facts[2];
+    let (_, lines) = weighed(&sheet(facts, &[[1_000, 1_000, 100, status]], tranches));
+    (lines[0][APPROACH], lines[0][WEIGHT])
+}
+
+/// The ratings of the first row long enough of the most senior class, its own first, with its own class, maturity and
+/// thickness: senior A 65%, BBB 105% and BB 180% at five years.
+#[test]
+fn unrated_tranche_takes_the_ratings_of_another() {
+    let unrated = tranche(400, 1, 0);
+    let rated = |class, months, rating| [100, class, months, 0, 0, rating, 0];
+    for (others, weight) in [
+        ([rated(1, 72, 6), rated(1, 72, 9)], 6_500),
+        ([rated(1, 71, 6), rated(1, 73, 9)], 10_500),
+        ([rated(2, 72, 9), rated(2, 73, 6)], 10_500),
+        ([rated(2, 71, 9), rated(2, 73, 6)], 6_500),
+        ([rated(2, 1_200, 12), rated(3, 72, 6)], 18_000),
+        ([rated(2, 71, 12), rated(3, 72, 6)], 6_500),
+    ] {
+        let [one, other] = others;
+        assert_eq!(first_line(&UNKNOWN, &[unrated, one, other]), (1, weight), "{others:?}");
+    }
+    // 310% × 0.9 beside 310% × 0.6.
+    let tranches = [tranche(500, 1, 1), tranche(100, 2, 0), tranche(400, 3, 9)];
+    assert_eq!(
+        ends(&sheet(&UNKNOWN, &[[1_000, 1_000, 100, 0]], &tranches)),
+        [[2_000; 2], [27_900; 2], [18_600; 2]]
+    );
+}
+
+/// An earlier row of its class counts too. Nothing is taken from a senior class, from a row a month shorter, also where
+/// both are five years, or from one that takes its ratings.
+#[test]
+fn ratings_come_from_the_own_or_a_junior_class_and_no_shorter_row() {
+    let approaches = |tranches: &[Tranche]| {
+        let (_, lines) = weighed(&sheet(&UNKNOWN, &[[1_000, 1_000, 100, 0]], tranches));
+        lines.iter().map(|line| line[APPROACH]).collect::<Vec<_>>()
+    };
+    assert_eq!(approaches(&[tranche(500, 1, 5), tranche(500, 1, 0)]), [1, 1]);
+    assert_eq!(approaches(&[tranche(500, 1, 5), tranche(500, 2, 0)]), [1, 2]);
+    for months in [12, 36, 74] {
+        let longer = [500, 1, months, 0, 0, 0, 0];
+        assert_eq!(approaches(&[longer, [500, 2, months - 1, 0, 5, 0, 0]]), [2, 1]);
+    }
+    let chain = [
+        tranche(400, 1, 0),
+        [200, 2, 100, 0, 0, 0, 0],
+        [200, 3, 99, 0, 9, 0, 0],
+        [200, 4, 100, 0, 6, 0, 0],
+    ];
+    assert_eq!(first_line(&UNKNOWN, &chain), (1, 10_500));
+}
+
+/// Not in a re-securitisation, under SEC-IRBA and without due diligence; with more than 5% unknown it comes before the
+/// fallback.
+#[test]
+fn ratings_are_inferred_in_ordinary_deals() {
+    let with = |rating| [tranche(900, 1, 0), tranche(100, 2, rating)];
+    for facts in [[4, 0, 1, 1, 0], [4, 0, 0, 0, 0]] {
+        assert_eq!(first_line(&facts, &with(9)), first_line(&facts, &with(0)));
+    }
+    let rows = [[1_000, 1_000, 100, 0]];
+    let with_section = |share, rating| {
+        let words = [&sheet(&MIXED, &rows, &with(rating)), &section(25, 0, share)[..]].concat();
+        weighed(&words).1[0]
+    };
+    assert_eq!(with_section(950_000, 9), with_section(950_000, 0));
+    assert_eq!(with_section(949_999, 9)[APPROACH], 1);
+    let unknown = [[949, 949, 100, 0], [51, 51, 100, 2]];
+    let (_, lines) = weighed(&sheet(&UNKNOWN, &unknown, &with(9)));
+    assert_eq!((lines[0][APPROACH], lines[0][WEIGHT]), (1, 10_500));
+}
+
+/// Months of dates are compared: from 15 January 2024 there are 37 on 10 February 2027 and on 20 January, and 36 on 15
+/// January.
+#[test]
+fn months_of_dates_are_compared() {
+    let facts = [6, 0, 0, 1, 0, 0, 20_240_115];
+    for (other, approach) in [(20_270_120, 1), (20_270_210, 1), (20_270_115, 2)] {
+        for unrated in [20_270_210, 20_270_120] {
+            let tranches = [[500, 1, unrated, 0, 0, 0, 0], [500, 2, other, 0, 9, 0, 0]];
+            assert_eq!(first_line(&facts, &tranches).0, approach, "{unrated} {other}");
+        }
+    }
 }
 
 /// A sheet that must be refused so, with no result word written.

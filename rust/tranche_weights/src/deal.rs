@@ -1,4 +1,4 @@
-//! A weighed deal and its lines (document 01, "The deal sheet", the results; document 02, S-6).
+//! A weighed deal and its lines (document 01, "The deal sheet", the results; document 02, S-6 and S-8).
 
 use std::fmt;
 
@@ -120,9 +120,12 @@ impl Line {
 pub enum Approach {
     /// 0: the fallback of 1250%.
     Fallback,
-    /// 1: SEC-ERBA, the deal's rating table. Of two ratings the higher weight counts, of three the middle one.
+    /// 1: SEC-ERBA, the deal's rating table. Of two ratings the higher weight counts, of three the middle one. On a tranche
+    /// without a rating of its own, the ratings are those that it takes of another one
+    /// ([inferred ratings](crate::Tranche#inferred-ratings)).
     SecErba,
-    /// 2: SEC-SA, the formula by the standardised approach.
+    /// 2: SEC-SA, the formula by the standardised approach: of a tranche that neither has a rating nor takes one, or of a
+    /// re-securitisation.
     SecSa,
     /// 3: SEC-IRBA, the formula by the figures of an IRB or mixed pool ([`PoolKind`](crate::PoolKind)).
     SecIrba,

@@ -56,7 +56,7 @@
 //! ```
 //!
 //! In a deal with a reporting date the maturities are dates: [`Tranche::maturing_on`] has an example. [`PoolKind`] has
-//! one of a mixed pool, weighed by SEC-IRBA.
+//! one of a mixed pool, weighed by SEC-IRBA, and [`Tranche`] one of a tranche that takes the ratings of another.
 //!
 //! # The words of a sheet
 //!
@@ -88,8 +88,8 @@
 //! `TRANCHE_WEIGHTS_LIB` names another folder; a relative one counts from the crate's folder. Without the archive,
 //! checking and documenting work, with a warning; building does not.
 //!
-//! The crate calls version 7 of the library's interface. Every symbol of the archive carries its version, as in
-//! `tranche_weights_weigh_v7`, so that an archive of another version fails to link.
+//! The crate calls version 8 of the library's interface. Every symbol of the archive carries its version, as in
+//! `tranche_weights_weigh_v8`, so that an archive of another version fails to link.
 //!
 //! The library keeps no state, so threads can call it at the same time. Of the calling thread's stack 64 KB are enough.
 //!

@@ -1,4 +1,4 @@
-//! The four C functions of the static library, version 7, and the crate's only unsafe code.
+//! The four C functions of the static library, version 8, and the crate's only unsafe code.
 
 #![allow(unsafe_code)]
 
@@ -7,7 +7,7 @@ use crate::reply::{BlockReply, Reply};
 
 extern "C" {
     /// Weighs the sheet; returns the refusal's number, 0 where weighed.
-    #[link_name = "tranche_weights_weigh_v7"]
+    #[link_name = "tranche_weights_weigh_v8"]
     fn tranche_weights_weigh(
         sheet: *const u64,
         words: usize,
@@ -19,7 +19,7 @@ extern "C" {
     ) -> u64;
 
     /// Weighs the sheet that the file's bytes state; returns the refusal's number, 0 where weighed.
-    #[link_name = "tranche_weights_weigh_file_v7"]
+    #[link_name = "tranche_weights_weigh_file_v8"]
     fn tranche_weights_weigh_file(
         file: *const u8,
         size: usize,
@@ -31,11 +31,11 @@ extern "C" {
     ) -> u64;
 
     /// Writes the report's text where it fits the room, else nothing; returns the text's length.
-    #[link_name = "tranche_weights_report_v7"]
+    #[link_name = "tranche_weights_report_v8"]
     fn tranche_weights_report(file: *const u8, size: usize, text: *mut u8, room: usize) -> u64;
 
     /// Writes the seven sums of a block of the sheet's rows; returns the refusal's number, 0 where there is none.
-    #[link_name = "tranche_weights_block_sums_v7"]
+    #[link_name = "tranche_weights_block_sums_v8"]
     fn tranche_weights_block_sums(sheet: *const u64, words: usize, block: u64, place: *mut u64, sums: *mut u64) -> u64;
 }
 

@@ -1,4 +1,4 @@
-//! Refusals (document 01, "Refusals, by who can cause them"; document 02, S-1, S-3 and S-5).
+//! Refusals (document 01, "Refusals, by who can cause them"; document 02, S-1, S-3, S-5 and S-8).
 
 use std::error::Error;
 use std::fmt;
@@ -29,8 +29,9 @@ pub enum Reason {
     Maturity,
     /// 11: a rating code that is not listed.
     Rating,
-    /// 13: a tranche under the formula (by SEC-SA an unrated one, or any in a re-securitisation; by SEC-IRBA any) whose
-    /// attachment and detachment points are equal, above the pool charge; the place of its amount.
+    /// 13: a tranche under the formula (by SEC-SA an unrated one that finds no rating to take, or any in a
+    /// re-securitisation; by SEC-IRBA any) whose attachment and detachment points are equal, above the pool charge; the
+    /// place of its amount.
     ThinTranche,
     /// 14: fewer result words lent than the tranches' lines take; place 0.
     Room,
@@ -108,9 +109,9 @@ const LISTED: &[(Reason, &str)] = &[
     (Reason::Rating, "a rating that is not in the list"),
     (
         Reason::ThinTranche,
-        "a tranche under the formula (by SEC-SA an unrated one, or any in a re-securitisation; by SEC-IRBA any) whose \
-         class is so thin that its attachment and detachment points are equal, above the pool charge; the place of its \
-         amount",
+        "a tranche under the formula (by SEC-SA an unrated one that finds no rating to take, or any in a \
+         re-securitisation; by SEC-IRBA any) whose class is so thin that its attachment and detachment points are \
+         equal, above the pool charge; the place of its amount",
     ),
     (Reason::Room, "the calling program lent too few result words; place 0"),
     (

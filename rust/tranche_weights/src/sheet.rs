@@ -165,7 +165,9 @@ impl<Kind> SheetBuilder<Kind> {
         self.place(tranche, self.class + 1)
     }
 
-    /// Places a tranche in the class of the tranche placed before it, with which it ranks pari passu.
+    /// Places a tranche in the class of the tranche placed before it, with which it ranks pari passu. Of rated tranches in
+    /// one class an unrated tranche takes the ratings of the one placed first
+    /// ([inferred ratings](Tranche#inferred-ratings)), so that their order can matter.
     ///
     /// # Errors
     ///

@@ -1,4 +1,4 @@
-//! A tranche (document 01, "The deal sheet"; document 02, S-3).
+//! A tranche (document 01, "The deal sheet"; document 02, S-3 and S-8).
 
 use crate::date::Date;
 use crate::limits::{MOST_RATINGS, TRANCHE_WORDS};
@@ -7,6 +7,45 @@ use crate::rating::Rating;
 use crate::sheet_error::SheetError;
 
 /// A tranche, without its class: the class follows from where [`SheetBuilder`](crate::SheetBuilder) places it.
+///
+/// # Inferred ratings
+///
+/// A tranche without a rating takes the ratings of another one where it can, and is weighed by them with its own class,
+/// maturity and thickness. It can take those of each tranche that has a rating of its own, is in its class, placed before
+/// it or after it, or in a class below, and has an equal or longer maturity in months (with a reporting date, those of
+/// [`Date::months_to`]). Of these the most senior class counts, and in it the tranche that is placed first; all its ratings
+/// are taken. So a rating can change the lines of its own class and of those above it, and of no class below.
+///
+/// Nothing is taken in a re-securitisation, in a deal under SEC-IRBA and without due diligence.
+///
+/// That ratings were taken shows in the line: its approach is SEC-ERBA, and the tranche has no rating.
+///
+/// ```
+/// use tranche_weights::{
+///     Approach, Facts, LongTerm, Months, PoolAmount, RiskWeight, Row, SheetBuilder, Status, Tranche, TrancheAmount,
+/// };
+///
+/// # fn main() -> Result<(), Box<dyn std::error::Error>> {
+/// let thousand = PoolAmount::new(1_000)?;
+/// let loans = Row::new(thousand, thousand, RiskWeight::new(100)?);
+/// let senior = Tranche::new(TrancheAmount::new(800)?, Months::new(36)?, 800)?;
+/// let middle = Tranche::new(TrancheAmount::new(150)?, Months::new(60)?, 150)?;
+/// let junior = Tranche::new(TrancheAmount::new(50)?, Months::new(36)?, 50)?;
+///
+/// let mut deal = SheetBuilder::ordinary(Facts::new().with_due_diligence_held(true));
+/// deal.row(loans, Status::Paying)?
+///     .next_class(senior)?
+///     .next_class(middle.with_ratings([Some(LongTerm::Aa.into()), None, None]))?
+///     .next_class(junior)?;
+/// let lines = deal.build()?.weigh()?.lines;
+///
+/// // The senior tranche takes the AA of the class below, which is longer: as a senior tranche of 36 months it has 31%.
+/// assert_eq!((lines[0].approach, lines[0].weight), (Approach::SecErba, 3_100));
+/// // The junior tranche has no rated one in its class or below, and takes none of a class above.
+/// assert_eq!(lines[2].approach, Approach::SecSa);
+/// # Ok(())
+/// # }
+/// ```
 #[derive(Debug, Clone, Copy, PartialEq, Eq, Hash)]
 pub struct Tranche {
     amount: TrancheAmount,
@@ -102,7 +141,8 @@ impl Tranche {
     ///
     /// With one rating its weight counts, with two the higher weight. With three the two lowest weights are picked and the
     /// higher of these counts: the middle one. Equal ratings count separately, and the order of the ratings does not
-    /// matter. In a re-securitisation and under SEC-IRBA they stand in the sheet and are not used.
+    /// matter. A tranche without a rating may take them too ([inferred ratings](Tranche#inferred-ratings)). In a
+    /// re-securitisation and under SEC-IRBA they stand in the sheet and are not used.
     #[must_use]
     pub const fn with_ratings(self, ratings: [Option<Rating>; MOST_RATINGS]) -> Tranche {
         Tranche { ratings, ..self }

@@ -52,18 +52,25 @@ class-points-requires c κs =
     let start = c .before .before .before .before in
     (laid start, ap (λ (q : Sums). q .all .nominal) (start .pre .are-sums))
 
+next-rated-requires : tie.Need-next-rated-requires
+next-rated-requires c κs = laid (c .before .before .before .before .before)
+
 judge-thickness-requires : tie.Need-judge-thickness-requires
 judge-thickness-requires c κs =
-    let start = c .before .before .before .before .before .before in
-    (laid start, c .before .before .terms-of .ensures ∙ open-terms _ _ _ (start .pre), c .before .class-points .ensures)
+    let start = c .before .before .before .before .before .before .before .before in (
+      laid start,
+      c .before .before .before .before .terms-of .ensures ∙ open-terms _ _ _ (start .pre),
+      c .before .before .before .class-points .ensures,
+      c .before .before .next-rated .ensures,
+    )
 
 enum-known-thickness : tie.Need-enum-known-thickness
 enum-known-thickness c = search needs
 
 returns-2 : tie.Need-returns-2
 returns-2 c =
-    let start = c .before .before .before .before .before .before .before .before .before .before in
-    let room = c .before .before .before .before .before .before .before in
+    let start = c .before .before .before .before .before .before .before .before .before .before .before .before in
+    let room = c .before .before .before .before .before .before .before .before .before in
     refused-answer _ _
     (decided-by-thickness _ _ (start .pre .sound) (omega (arith, room .if1 .left, counted start)) (c .before .before .before .judge-thickness .ensures) ∙
     c .before .thickness .given .1)
@@ -73,11 +80,12 @@ enum-told c = search needs
 
 write-lines-requires : tie.Need-write-lines-requires
 write-lines-requires c κs =
-    let start = c .before .before .before .before .before .before .before .before .before .before .before in
-    let room = c .before .before .before .before .before .before .before .before in (
+    let start = c .before .before .before .before .before .before .before .before .before .before .before .before .before .before in
+    let room = c .before .before .before .before .before .before .before .before .before .before .before in (
       laid start,
-      c .before .before .before .before .before .before .before .terms-of .ensures ∙ open-terms _ _ _ (start .pre),
-      c .before .before .before .before .before .before .class-points .ensures,
+      c .before .before .before .before .before .before .before .before .before .before .terms-of .ensures ∙ open-terms _ _ _ (start .pre),
+      c .before .before .before .before .before .before .before .before .before .class-points .ensures,
+      c .before .before .before .before .before .before .before .before .next-rated .ensures,
       omega (arith, room .if1 .left, counted start),
     )
 
@@ -86,14 +94,14 @@ same-length c = search needs
 
 returns-3 : tie.Need-returns-3
 returns-3 c =
-    let thickness = c .before .before .before .before .before in
-    let start = c .before .before .before .before .before .before .before .before .before .before .before .before .before .before in
-    let room = c .before .before .before .before .before .before .before .before .before .before .before in
+    let thickness = c .before .before .before .before .before .before in
+    let start = c .before .before .before .before .before .before .before .before .before .before .before .before .before .before .before .before .before in
+    let room = c .before .before .before .before .before .before .before .before .before .before .before .before .before .before in
     weighed-answer _ _
     (decided-by-thickness _ _ (start .pre .sound) (omega (arith, room .if1 .left, counted start)) (thickness .before .before .judge-thickness .ensures) ∙
     thickness .enum-told .given .1)
     (counted start)
-    (ap (λ (d : Terms). d .charge) (c .before .before .before .before .before .before .before .before .before .before .terms-of .ensures ∙ open-terms _ _ _ (start .pre)))
+    (ap (λ (d : Terms). d .charge) (c .before .before .before .before .before .before .before .before .before .before .before .before .before .terms-of .ensures ∙ open-terms _ _ _ (start .pre)))
     (c .before .before .write-lines .ensures)
 
 pub weigh-pool-spec : {M : Type 1} → statement M
@@ -104,6 +112,7 @@ weigh-pool-spec =
     returns
     terms-of-requires
     class-points-requires
+    next-rated-requires
     judge-thickness-requires
     enum-known-thickness
     returns-2

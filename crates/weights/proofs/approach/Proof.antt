@@ -14,8 +14,8 @@ returns-2 c = simp (c .before .if1 .left, c .if2 .taken) (omega arith)
 returns-3 : tie.Need-returns-3
 returns-3 c = simp (c .before .before .if1 .left, c .before .if2 .left, c .if3 .taken) (omega arith)
 
-rated-requires : tie.Need-rated-requires
-rated-requires c κs = search needs
+any-present-requires : tie.Need-any-present-requires
+any-present-requires c κs = search needs
 
 returns-4 : tie.Need-returns-4
 returns-4 c =
@@ -24,7 +24,7 @@ returns-4 c =
       kinds .before .before .if1 .left,
       kinds .before .if2 .left,
       kinds .if3 .left,
-      ← c .before .rated .ensures,
+      ← c .before .any-present .ensures,
       c .if4 .taken,
     )
     (omega arith)
@@ -37,7 +37,7 @@ returns-5 c =
       kinds .before .before .if1 .left,
       kinds .before .if2 .left,
       kinds .if3 .left,
-      ← asked .rated .ensures,
+      ← asked .any-present .ensures,
       c .before .before .if4 .left,
       c .if5 .taken,
     )
@@ -50,10 +50,10 @@ returns-6 c =
       kinds .before .before .if1 .left,
       kinds .before .if2 .left,
       kinds .if3 .left,
-      ← asked .rated .ensures,
+      ← asked .any-present .ensures,
       c .before .before .if4 .left,
       c .if5 .left,
     )
 
 pub approach-spec : {M : Type 1} → statement M
-approach-spec = tie.close (tie.spec returns returns-2 returns-3 rated-requires returns-4 returns-5 returns-6)
+approach-spec = tie.close (tie.spec returns returns-2 returns-3 any-present-requires returns-4 returns-5 returns-6)

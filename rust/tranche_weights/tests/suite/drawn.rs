@@ -1,5 +1,6 @@
 //! Sheets drawn by a seeded generator: each is built, and the library refuses none of them but by 13; the least weights
-//! of its lines lie near the weights (document 02, S-6); the sums of its blocks are those of their rows (S-7).
+//! of its lines lie near the weights (document 02, S-6); the sums of its blocks are those of their rows (S-7); ratings
+//! that a tranche takes of another one can be written on it (S-8).
 
 use crate::block_sums::hold_blocks;
 use crate::checked_deal::file_of;
@@ -115,7 +116,8 @@ impl Generator {
         }
     }
 
-    /// Adds the tranches' section. Half of the deals have tranches of any size, half such that cut the pool up.
+    /// Adds the tranches' section. Half of the deals have tranches of any size, half such that cut the pool up. Half of
+    /// them have no rated tranche, so that none can take ratings.
     fn tranches(&mut self, words: &mut Vec<u64>, reporting_date: Option<Date>) {
         let nominal: u64 = words[first_row(words)..].chunks(ROW_WORDS).map(|row| row[1]).sum();
         let count = self.within(1, MOST_TRANCHES as u64);
@@ -124,20 +126,14 @@ impl Generator {
         } else {
             (2 * nominal / count).max(1)
         };
+        let rated = self.below(2) > 0;
         let mut class = 1;
         words.push(count);
         for _ in 0..count {
             let amount = self.within(1, highest);
             let held = self.below(amount + 1);
-            words.extend([
-                amount,
-                class,
-                self.maturity(reporting_date),
-                held,
-                self.rating(),
-                self.rating(),
-                self.rating(),
-            ]);
+            words.extend([amount, class, self.maturity(reporting_date), held]);
+            words.extend([(); 3].map(|()| if rated { self.rating() } else { 0 }));
             class += self.below(2);
         }
     }
@@ -367,5 +363,52 @@ fn a_built_sheet_has_its_block_sums() -> Result<(), SheetError> {
         *count += 1;
     }
     assert!(weighed >= 100 && refused >= 20, "{weighed} {refused}");
+    Ok(())
+}
+
+/// The months of a tranche's maturity.
+fn months_of(tranche: &[u64], reporting_date: Option<Date>) -> Result<u64, SheetError> {
+    match reporting_date {
+        Some(date) => Ok(date.months_to(Date::try_from(tranche[2])?)?.get()),
+        None => Ok(tranche[2]),
+    }
+}
+
+/// The sheet with the ratings written on each unrated tranche that it can take: those of the first rated tranche that is
+/// of its class or a junior one, and no shorter. Classes never fall from row to row, so that one is of the most senior
+/// class. And the number of the tranches on which ratings were written.
+fn with_ratings_written(words: &[u64]) -> Result<(Vec<u64>, usize), SheetError> {
+    let reporting_date = reporting_date_of(words)?;
+    let (mut written, mut count) = (words.to_vec(), 0);
+    let section = first_tranche(words)..irb_count(words);
+    let rows = || words[section.clone()].chunks(TRANCHE_WORDS);
+    for (number, row) in rows().enumerate().filter(|(_, row)| row[4..] == [0; 3]) {
+        let months = months_of(row, reporting_date)?;
+        for other in rows().filter(|other| other[4..] != [0; 3] && other[1] >= row[1]) {
+            if months_of(other, reporting_date)? >= months {
+                let first = section.start + TRANCHE_WORDS * number + 4;
+                written[first..first + 3].copy_from_slice(&other[4..]);
+                count += 1;
+                break;
+            }
+        }
+    }
+    Ok((written, count))
+}
+
+/// Every sheet has the answer of the sheet with the ratings written that its tranches can take, but where nothing is
+/// taken: in a re-securitisation, under SEC-IRBA and without due diligence they play no part, written or not.
+#[test]
+fn ratings_that_are_taken_can_be_written() -> Result<(), SheetError> {
+    let mut generator = Generator(0x7461_6b65_6e00_0001);
+    let mut seen = [0; SORTS];
+    for _ in 0..3600 {
+        let words = generator.words();
+        let (written, count) = with_ratings_written(&words)?;
+        let [taken, given] = [&words, &written].map(|words| weigh_file(&file_of(words)));
+        assert_eq!(taken, given, "{words:?}");
+        seen[sort_of(&words)] += usize::from(count > 0 && taken.is_ok());
+    }
+    assert!(seen.iter().all(|count| *count >= 20), "{seen:?}");
     Ok(())
 }

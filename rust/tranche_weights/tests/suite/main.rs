@@ -8,6 +8,7 @@ mod builder;
 mod checked_deal;
 mod dates;
 mod drawn;
+mod inferred;
 mod irb;
 mod least_weight;
 mod numbers;

@@ -11,7 +11,7 @@ use Rattle.deal.proofs.lines.line_of.Statement.{statement}
 use Rattle.deal.proofs.lines.line_of.Tie as tie
 
 tranche-of-requires : tie.Need-tranche-of-requires
-tranche-of-requires c κs = let start = c .before in (start .pre .0, start .pre .2, start .pre .3)
+tranche-of-requires c κs = search needs
 
 weight-requires : tie.Need-weight-requires
 weight-requires c κs = search needs
@@ -26,7 +26,7 @@ within :
 unfolding tranche
 within c =
     let start = c .before .before .before in
-    let limits = good-tranche (start .args .s .now) (start .args .i) (start .pre .0 .good) (start .pre .3) in
+    let limits = good-tranche (start .args .s .now) (start .args .i) (start .pre .0 .good) (start .pre .4) in
     let t = c .before .tranche-of .result in
     let ends = weight-within t (start .args .d) in
     let most = weight-at-most t (start .args .d) in (

@@ -14,11 +14,11 @@ use Rattle.deal.proofs.lines.write_lines.Statement.{statement}
 use Rattle.deal.proofs.lines.write_lines.Tie as tie
 
 abbrev Inv-loop : tie.InvT-loop
-Inv-loop s l d points results₀ tranches i₀ results i =
+Inv-loop s l d points next results₀ tranches i₀ results i =
     (i ≤ trancheCount s) × (results ≡ lines s i ++ drop (lineSize * i) results₀)
 
 abbrev μ-loop : tie.MeasureT-loop
-μ-loop s l d points results₀ tranches i₀ results i = tranches - i
+μ-loop s l d points next results₀ tranches i₀ results i = tranches - i
 
 loop-holds : tie.Need-loop-holds Inv-loop μ-loop
 loop-holds c = (omega arith, lines-none _ _)
@@ -30,7 +30,7 @@ row c = omega (arith, tranches-is _ _ (c .before .before .before .before .pre .0
 line-of-requires : tie.Need-line-of-requires Inv-loop μ-loop
 line-of-requires c κs =
     let start = c .before .before .before .before in
-    (start .pre .0, start .pre .1, start .pre .2, row c)
+    (start .pre .0, start .pre .1, start .pre .2, start .pre .3, row c)
 
 mul-put-line : tie.Need-mul-put-line Inv-loop μ-loop
 mul-put-line c = search needs
@@ -40,7 +40,7 @@ put-line-requires c κs =
     let l = c .before .before .before in
     let start = l .before .before .before in
     let shown = ap length (l .loop .inv .1) ∙ length-so-far (start .args .s .now) (start .args .results .now) (l .loop .i) (omega arith) in
-    omega (arith, shown, row (c .before .before), start .pre .3)
+    omega (arith, shown, row (c .before .before), start .pre .4)
 
 add-i : tie.Need-add-i Inv-loop μ-loop
 add-i c = search needs

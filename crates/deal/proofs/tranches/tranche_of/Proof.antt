@@ -1,6 +1,7 @@
--- `tranche_of`: each word is read from its own place, the months are by the sheet's reporting date, and the points are those between the class after it and its own, which the table holds. No axioms.
+-- `tranche_of`: each word is read from its own place, the ratings from the row that counts, the months are by the sheet's reporting date, and the points are those between the class after it and
+-- its own, which the table holds. No axioms.
 use mathlib.Core.List.{List}
-use mathlib.Core.Path.{_≡_, _∙_}
+use mathlib.Core.Path.{_≡_, _∙_, ap}
 use Prim.Native.Nat.{ℕ, _+_, _≤_, _<_}
 use native.Mathlib.Omega.{arith}
 use borrow.Author.Needs.{needs}
@@ -9,17 +10,21 @@ use lib.ListN.{getD}
 use Rattle.judgement.specs.DealSheet.{trancheCount, class, months, held, firstRating, secondRating, thirdRating}
 use Rattle.judgement.proofs.LayoutLaws.{reporting-date-is}
 use Rattle.judgement.proofs.SheetLimits.{tranches-counted, tranches-within, class-within}
-use Rattle.deal.specs.Points.{attachmentPoint, detachmentPoint}
-use Rattle.deal.specs.Lines.{tranche}
-use Rattle.deal.specs.ClassPoints.{ClassPoints}
+use Rattle.weights.specs.declared.Terms.{Terms}
 use Rattle.weights.specs.declared.Tranche.{Tranche}
+use Rattle.deal.specs.Points.{attachmentPoint, detachmentPoint}
+use Rattle.deal.specs.InferredRatings.{ratingRow}
+use Rattle.deal.specs.Lines.{terms, tranche}
+use Rattle.deal.specs.ClassPoints.{ClassPoints}
+use Rattle.deal.proofs.InferredLaws.{rating-row-within}
 use Rattle.deal.proofs.tranches.tranche_of.Statement.{statement}
 use Rattle.deal.proofs.tranches.tranche_of.Tie as tie
 
 -- what is made of the words read and of the table is the tranche
 made :
-    {points : List ℕ} (s : List ℕ) (i own m h x y z : ℕ) → ClassPoints s points → i < trancheCount s → own ≡ class s i →
-    m ≡ months s i → h ≡ held s i → x ≡ firstRating s i → y ≡ secondRating s i → z ≡ thirdRating s i →
+    {points : List ℕ} (s : List ℕ) (i own m h row x y z : ℕ) → ClassPoints s points → i < trancheCount s → own ≡ class s i →
+    m ≡ months s i → h ≡ held s i → row ≡ ratingRow (terms s) s i →
+    x ≡ firstRating s row → y ≡ secondRating s row → z ≡ thirdRating s row →
     _≡_ {A = Tranche}
     (record {
       attachment = getD points (own + 1) 0;
@@ -33,93 +38,107 @@ made :
     })
     (tranche s i)
 unfolding tranche attachmentPoint detachmentPoint
-made s i own m h x y z table row own-is m-is h-is x-is y-is z-is =
+made s i own m h row x y z table among own-is m-is h-is row-is x-is y-is z-is =
     rw (
       m-is,
       h-is,
       x-is,
       y-is,
       z-is,
+      row-is,
       own-is,
-      table .at-class i (class s i + 1) row (omega arith),
-      table .at-class i (class s i) row (omega arith),
-    )
-
--- the class is at most 32
-class-low : (c : tie.After-tranche-word) → c .tranche-word .result ≤ 32
-class-low c =
-    let start = c .before .before in
-    let s = start .args .s .now in
-    omega (
-      arith,
-      c .tranche-word .ensures,
-      class-within s (start .args .i) (start .pre .0 .good) (start .pre .2) .1,
-      tranches-within s (tranches-counted s (start .pre .0 .good)),
+      table .at-class i (class s i + 1) among (omega arith),
+      table .at-class i (class s i) among (omega arith),
     )
 
 tranche-word-requires : tie.Need-tranche-word-requires
-tranche-word-requires c κs = let start = c .before in (start .pre .0, start .pre .2, omega arith)
-
-add-t6 : tie.Need-add-t6
-add-t6 c = omega (arith, class-low c)
-
-mul-t8 : tie.Need-mul-t8
-mul-t8 c = omega (arith, class-low c)
-
-element-copy-out-t11 : tie.Need-element-copy-out-t11
-element-copy-out-t11 c = omega (arith, class-low c)
-
-mul-t13 : tie.Need-mul-t13
-mul-t13 c = omega (arith, class-low (c .before))
-
-element-copy-out-t16 : tie.Need-element-copy-out-t16
-element-copy-out-t16 c = omega (arith, class-low (c .before))
+tranche-word-requires c κs = search needs
 
 tranche-word-requires-2 : tie.Need-tranche-word-requires-2
-tranche-word-requires-2 c κs =
-    let start = c .before .before .before .before in
-    (start .pre .0, start .pre .2, omega arith)
+tranche-word-requires-2 c κs = search needs
 
 maturity-months-requires : tie.Need-maturity-months-requires
 maturity-months-requires c κs = search needs
 
-tranche-word-requires-3 : tie.Need-tranche-word-requires-3
-tranche-word-requires-3 c κs =
-    let start = c .before .before .before .before .before .before in
-    (start .pre .0, start .pre .2, omega arith)
-
-tranche-word-requires-4 : tie.Need-tranche-word-requires-4
-tranche-word-requires-4 c κs =
-    let start = c .before .before .before .before .before .before .before in
-    (start .pre .0, start .pre .2, omega arith)
-
-tranche-word-requires-5 : tie.Need-tranche-word-requires-5
-tranche-word-requires-5 c κs =
-    let start = c .before .before .before .before .before .before .before .before in
-    (start .pre .0, start .pre .2, omega arith)
-
-tranche-word-requires-6 : tie.Need-tranche-word-requires-6
-tranche-word-requires-6 c κs =
-    let start = c .before .before .before .before .before .before .before .before .before in
-    (start .pre .0, start .pre .2, omega arith)
-
 -- the months are those of the maturity's word, by the layout's reporting date
 own-months :
-    (c : tie.After-maturity-months) →
-    let start = c .before .before .before .before .before .before in
+    (c : tie.After-maturity-months) → let start = c .before .before .before .before in
     c .maturity-months .result ≡ months (start .args .s .now) (start .args .i)
 own-months c =
-    let start = c .before .before .before .before .before .before in
+    let start = c .before .before .before .before in
     c .maturity-months .ensures ∙
     rw (reporting-date-is (start .args .s .now) (start .args .l) (start .pre .0), c .before .tranche-word2 .ensures)
 
+rating-row-requires : tie.Need-rating-row-requires
+rating-row-requires c κs =
+    let start = c .before .before .before .before in
+    (start .pre .0, start .pre .3, start .pre .4, c .before .before .tranche-word .ensures, own-months c)
+
+-- the row whose ratings count, which is one of the sheet's
+counting-row :
+    (c : tie.After-rating-row) → let start = c .before .before .before .before .before in
+    c .rating-row .result ≡ ratingRow (terms (start .args .s .now)) (start .args .s .now) (start .args .i)
+counting-row c =
+    let start = c .before .before .before .before .before in
+    c .rating-row .ensures ∙ ap (λ (d : Terms). ratingRow d (start .args .s .now) (start .args .i)) (start .pre .1)
+
+row-among :
+    (c : tie.After-rating-row) → c .rating-row .result < trancheCount (c .before .before .before .before .before .args .s .now)
+row-among c =
+    let start = c .before .before .before .before .before in
+    omega (arith, counting-row c, rating-row-within (start .args .s .now) (start .args .i) (terms (start .args .s .now)) (start .pre .4))
+
+-- the class is at most 32
+class-low : (c : tie.After-rating-row) → c .before .before .before .tranche-word .result ≤ 32
+class-low c =
+    let start = c .before .before .before .before .before in
+    let s = start .args .s .now in
+    omega (
+      arith,
+      c .before .before .before .tranche-word .ensures,
+      class-within s (start .args .i) (start .pre .0 .good) (start .pre .4) .1,
+      tranches-within s (tranches-counted s (start .pre .0 .good)),
+    )
+
+add-t10 : tie.Need-add-t10
+add-t10 c = omega (arith, class-low c)
+
+mul-t12 : tie.Need-mul-t12
+mul-t12 c = omega (arith, class-low c)
+
+element-copy-out-t15 : tie.Need-element-copy-out-t15
+element-copy-out-t15 c = omega (arith, class-low c)
+
+mul-t17 : tie.Need-mul-t17
+mul-t17 c = omega (arith, class-low (c .before))
+
+element-copy-out-t20 : tie.Need-element-copy-out-t20
+element-copy-out-t20 c = omega (arith, class-low (c .before))
+
+tranche-word-requires-3 : tie.Need-tranche-word-requires-3
+tranche-word-requires-3 c κs = search needs
+
+tranche-word-requires-4 : tie.Need-tranche-word-requires-4
+tranche-word-requires-4 c κs =
+    let row = c .before .before .before in
+    (row .before .before .before .before .before .pre .0, row-among row, omega arith)
+
+tranche-word-requires-5 : tie.Need-tranche-word-requires-5
+tranche-word-requires-5 c κs =
+    let row = c .before .before .before .before in
+    (row .before .before .before .before .before .pre .0, row-among row, omega arith)
+
+tranche-word-requires-6 : tie.Need-tranche-word-requires-6
+tranche-word-requires-6 c κs =
+    let row = c .before .before .before .before .before in
+    (row .before .before .before .before .before .pre .0, row-among row, omega arith)
+
 returns : tie.Need-returns
 returns c =
-    let maturity = c .before .before .before .before in
-    let own = maturity .before .before .before .before in
-    let start = own .before .before in
-    made (start .args .s .now) (start .args .i) _ _ _ _ _ _ (start .pre .1) (start .pre .2) (own .tranche-word .ensures)
-    (own-months maturity) (c .before .before .before .tranche-word3 .ensures) (c .before .before .tranche-word4 .ensures)
+    let row = c .before .before .before .before .before .before in
+    let start = row .before .before .before .before .before in
+    made (start .args .s .now) (start .args .i) _ _ _ _ _ _ _ (start .pre .2) (start .pre .4) (row .before .before .before .tranche-word .ensures)
+    (own-months (row .before)) (c .before .before .before .tranche-word3 .ensures) (counting-row row) (c .before .before .tranche-word4 .ensures)
     (c .before .tranche-word5 .ensures) (c .tranche-word6 .ensures)
 
 pub tranche-of-spec : {M : Type 1} → statement M
@@ -127,13 +146,14 @@ tranche-of-spec =
     tie.close
     (tie.spec
     tranche-word-requires
-    add-t6
-    mul-t8
-    element-copy-out-t11
-    mul-t13
-    element-copy-out-t16
     tranche-word-requires-2
     maturity-months-requires
+    rating-row-requires
+    add-t10
+    mul-t12
+    element-copy-out-t15
+    mul-t17
+    element-copy-out-t20
     tranche-word-requires-3
     tranche-word-requires-4
     tranche-word-requires-5

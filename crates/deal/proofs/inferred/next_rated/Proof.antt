@@ -1,0 +1,122 @@
+-- `next_rated`: after each turn the table is filled from the turn's row on, and `first` is what that row has. The measure is the row. No axioms.
+use mathlib.Core.Logic.{⊎-elim}
+use mathlib.Core.Path.{_≡_, sym, _∙_}
+use Prim.Native.Nat.{_+_, _-_, _≤_, _<_}
+use native.Mathlib.Nat.{le-refl}
+use native.Mathlib.Omega.{arith}
+use borrow.Author.Needs.{needs}
+use Rattle.judgement.specs.DealSheet.{trancheCount}
+use Rattle.judgement.proofs.LayoutLaws.{tranches-is}
+use Rattle.judgement.proofs.SheetLimits.{tranches-counted, tranches-within}
+use Rattle.deal.specs.InferredRatings.{ratedRow}
+use Rattle.deal.specs.NextRated.{FirstRatedFrom, NextRated}
+use Rattle.deal.proofs.NextRatedLaws.{rated-past-last, rated-here, rated-later, none-filled, next-filled}
+use Rattle.deal.proofs.inferred.next_rated.Statement.{statement}
+use Rattle.deal.proofs.inferred.next_rated.Tie as tie
+
+abbrev Inv-loop : tie.InvT-loop
+Inv-loop s l next₀ first₀ j₀ next first j = (j ≤ trancheCount s) × (NextRated s next j × FirstRatedFrom s j first)
+
+abbrev μ-loop : tie.MeasureT-loop
+μ-loop s l next₀ first₀ j₀ next first j = j
+
+-- the sheet's tranches are few, and the layout's number of them is the sheet's
+few : (c : tie.Start Inv-loop μ-loop) → (trancheCount (c .args .s .now) ≤ 32) × (c .args .l .tranches ≡ trancheCount (c .args .s .now))
+few c = (tranches-within _ (tranches-counted _ (c .pre .good)) .1, tranches-is _ _ (c .pre))
+
+mul-next : tie.Need-mul-next Inv-loop μ-loop
+mul-next c = omega (arith, few (c .before))
+
+array-write-next : tie.Need-array-write-next Inv-loop μ-loop
+array-write-next c = omega (arith, few (c .before))
+
+loop-holds : tie.Need-loop-holds Inv-loop μ-loop
+loop-holds c =
+    let all = few (c .before) in
+    rw (all .1) (le-refl _, (none-filled (c .before .args .s .now) (all .0), rated-past-last (c .before .args .s .now)))
+
+sub-j : tie.Need-sub-j Inv-loop μ-loop
+sub-j c = omega arith
+
+-- the turn's row is one of the sheet's
+row : (c : tie.In-loop Inv-loop μ-loop) → c .before .loop .j - 1 < trancheCount (c .before .before .before .args .s .now)
+row c = omega (arith, c .before .loop .inv .0)
+
+tranche-word-requires : tie.Need-tranche-word-requires Inv-loop μ-loop
+tranche-word-requires c κs = (c .before .before .before .pre, row c, omega arith)
+
+tranche-word-requires-2 : tie.Need-tranche-word-requires-2 Inv-loop μ-loop
+tranche-word-requires-2 c κs = (c .before .before .before .before .pre, row (c .before), omega arith)
+
+tranche-word-requires-3 : tie.Need-tranche-word-requires-3 Inv-loop μ-loop
+tranche-word-requires-3 c κs = (c .before .before .before .before .before .pre, row (c .before .before), omega arith)
+
+any-present-requires : tie.Need-any-present-requires Inv-loop μ-loop
+any-present-requires c κs = search needs
+
+-- what `any_present` told of the row
+told :
+    (c : tie.After-any-present Inv-loop μ-loop) → let at = c .before .before .before .before in
+    ratedRow (at .before .before .before .args .s .now) (at .before .loop .j - 1) ≡ c .any-present .result
+told c =
+    let words = c .before in
+    simp (c .any-present .ensures, words .tranche-word3 .ensures, words .before .tranche-word2 .ensures, words .before .before .tranche-word .ensures)
+
+mul-next-2 : tie.Need-mul-next-2 Inv-loop μ-loop
+mul-next-2 c = omega (arith, row (c .before .before .before .before .before), few (c .before .before .before .before .before .before .before .before))
+
+array-write-next-2 : tie.Need-array-write-next-2 Inv-loop μ-loop
+array-write-next-2 c = omega (arith, row (c .before .before .before .before .before), few (c .before .before .before .before .before .before .before .before))
+
+loop-less : tie.Need-loop-less Inv-loop μ-loop
+loop-less c = omega arith
+
+-- the first rated row from the turn's row on
+first-from :
+    (c : tie.Joined1 Inv-loop μ-loop) → let at = c .before .before .before .before .before .before in
+    FirstRatedFrom (at .before .before .args .s .now) (at .loop .j - 1) (c .if1 .first)
+first-from c =
+    let at = c .before .before .before .before .before .before in
+    let s = at .before .before .args .s .now in
+    ⊎-elim
+    (λ w. rw (w .1) (rated-here s (at .loop .j - 1) (row (c .before .before .before .before .before)) (told (c .before) ∙ w .0 .taken)))
+    (λ w.
+    let back : at .loop .j - 1 + 1 ≡ at .loop .j = omega arith in
+    rw (w .1) (rated-later s (at .loop .j - 1) (at .loop .first) (told (c .before) ∙ w .0 .left) (rw back (at .loop .inv .1 .1))))
+    (c .if1 .came)
+
+loop-again : tie.Need-loop-again Inv-loop μ-loop
+loop-again c =
+    let at = c .before .before .before .before .before .before in
+    let start = at .before .before in (
+      omega (arith, at .loop .inv .0),
+      (
+        next-filled (start .args .s .now) (at .loop .next) (at .loop .j) (at .loop .j - 1) (c .if1 .first) (omega arith) (at .loop .inv .0) (few start .0) (at .loop .inv .1 .0) (first-from c),
+        first-from c,
+      ),
+    )
+
+returns : tie.Need-returns Inv-loop μ-loop
+returns c =
+    let none : c .before .loop .j ≡ 0 = omega arith in
+    rw none at (c .before .loop .inv .1 .0)
+
+pub next-rated-spec : {M : Type 1} → statement M
+next-rated-spec =
+    tie.close
+    (tie.spec
+    Inv-loop
+    μ-loop
+    mul-next
+    array-write-next
+    loop-holds
+    sub-j
+    tranche-word-requires
+    tranche-word-requires-2
+    tranche-word-requires-3
+    any-present-requires
+    mul-next-2
+    array-write-next-2
+    loop-less
+    loop-again
+    returns)

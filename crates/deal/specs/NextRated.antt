@@ -1,0 +1,21 @@
+-- What the table of rated rows is, which the functions that take it need. No reader has to trust this file: `next_rated` (src/inferred.rt) promises it of the table that it makes for
+-- every sheet whose words are good.
+use mathlib.Core.Bool.{true, false}
+use mathlib.Core.List.{List}
+use mathlib.Core.Path.{_≡_}
+use Prim.Native.Nat.{ℕ, _≤_, _<_}
+use lib.ListN.{length, getD}
+use Rattle.judgement.specs.DealSheet.{trancheCount}
+use Rattle.deal.specs.InferredRatings.{ratedRow}
+
+-- r is the first rated row from row j on, and the number of tranches where there is none
+pub record FirstRatedFrom (s : List ℕ) (j r : ℕ) : Type 0 where
+  pub at-least : j ≤ r
+  pub at-most : r ≤ trancheCount s
+  pub is-rated : r < trancheCount s → ratedRow s r ≡ true
+  pub none-between : (k : ℕ) → j ≤ k → k < r → ratedRow s k ≡ false
+
+-- at each row from a row on, up to the number of tranches, stands the first rated row from it on
+pub record NextRated (s next : List ℕ) (from : ℕ) : Type 0 where
+  pub size : length next ≡ 33
+  pub at-row : (j : ℕ) → from ≤ j → j ≤ trancheCount s → FirstRatedFrom s j (getD next j 0)
