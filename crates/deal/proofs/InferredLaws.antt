@@ -7,25 +7,41 @@ use mathlib.Core.Path.{_≡_, refl, sym, ap, _∙_}
 use Prim.Native.Nat.{ℕ, _-_, _≤_, _<_}
 use native.Mathlib.Nat.{eq-zero-or-pos, le-refl}
 use native.Mathlib.Omega.{arith}
-use lib.Dec.{leb, ltb}
+use lib.Dec.{leb, ltb, eqb}
 use borrow.Author.Tests.{leb-true, ltb-true, le-leb, lt-leb, lt-ltb, le-ltb, not-true}
 use Rattle.numbers.specs.First.{firstWhere, someWhere}
 use Rattle.numbers.proofs.FirstLaws.{first-is, first-none, first-passes, none-before, nowhere, somewhere, first-at-most-passing}
 use Rattle.numbers.proofs.Tests.{true-not-false, both-true, at-cond}
-use Rattle.judgement.specs.DealSheet.{trancheCount, class, months, needed}
+use Rattle.judgement.specs.DealSheet.{trancheCount, class, months, held, needed}
 use Rattle.judgement.specs.Refusals.{judged}
 use Rattle.judgement.specs.declared.Verdict.the-variants.{Sound}
 use Rattle.weights.specs.ApproachFloorCap.{rated, approach, thin}
 use Rattle.weights.specs.declared.Terms.{Terms}
 use Rattle.weights.specs.declared.Tranche.{Tranche}
 use Rattle.weights.proofs.WeightLaws.{not-thin-otherwise}
+use Rattle.deal.specs.Points.{attachmentPoint, detachmentPoint}
 use Rattle.deal.specs.Lines.{terms, tranche}
 use Rattle.deal.specs.InferredRatings.{ratedRow, serves, moreSenior, servingRow, infersRatings, infers, ratingRow, Serves, Counts}
 use Rattle.deal.proofs.ClassPointsLaw.{classes-sorted}
 
+-- ---- a test that fails after another
+
 and-false : (b : Bool) → b && false ≡ false
 and-false true = refl
 and-false false = refl
+
+-- ---- "with its own class, maturity and thickness": the ratings alone are another row's
+
+pub record KeepsItsOwn (s : List ℕ) (i : ℕ) : Type 0 where
+  pub own-attachment : tranche s i .attachment ≡ attachmentPoint s i
+  pub own-detachment : tranche s i .detachment ≡ detachmentPoint s i
+  pub own-class : tranche s i .senior ≡ eqb (class s i) 1
+  pub own-months : tranche s i .months ≡ months s i
+  pub own-held : tranche s i .held ≡ held s i
+
+pub keeps-its-own : (s : List ℕ) (i : ℕ) → KeepsItsOwn s i
+unfolding tranche
+keeps-its-own s i = record { own-attachment = refl; own-detachment = refl; own-class = refl; own-months = refl; own-held = refl }
 
 -- ---- the deals in which no rating is inferred
 
@@ -33,10 +49,10 @@ pub none-without-diligence : (d : Terms) → d .diligence ≡ false → infersRa
 none-without-diligence d e = rw e
 
 pub none-in-resecuritisation : (d : Terms) → d .resecuritisation ≡ true → infersRatings d ≡ false
-none-in-resecuritisation d e = rw e (ap (λ (b : Bool). b && not (d .irba)) (and-false (d .diligence)))
+none-in-resecuritisation d e = simp (e, and-false)
 
 pub none-under-irba : (d : Terms) → d .irba ≡ true → infersRatings d ≡ false
-none-under-irba d e = rw e (and-false (d .diligence && not (d .resecuritisation)))
+none-under-irba d e = simp (e, and-false)
 
 pub inferring : (d : Terms) → d .diligence ≡ true → d .resecuritisation ≡ false → d .irba ≡ false → infersRatings d ≡ true
 inferring d held ordinary by = rw (held, ordinary, by)
@@ -49,10 +65,10 @@ module _ (s : List ℕ) (i : ℕ) where
   unrated-serves-none j e = rw e
 
   pub senior-serves-none : (j : ℕ) → class s j < class s i → serves s i j ≡ false
-  senior-serves-none j senior = rw (lt-leb (class s i) (class s j) senior) (ap (λ (b : Bool). b && leb (months s i) (months s j)) (and-false (ratedRow s j)))
+  senior-serves-none j senior = simp (lt-leb (class s i) (class s j) senior, and-false)
 
   pub shorter-serves-none : (j : ℕ) → months s j < months s i → serves s i j ≡ false
-  shorter-serves-none j shorter = rw (lt-leb (months s i) (months s j) shorter) (and-false (ratedRow s j && leb (class s i) (class s j)))
+  shorter-serves-none j shorter = simp (lt-leb (months s i) (months s j) shorter, and-false)
 
   pub serves-means : (j : ℕ) → j < trancheCount s → serves s i j ≡ true → Serves s i j
   serves-means j l e =
@@ -188,13 +204,13 @@ module _ (s : List ℕ) (i : ℕ) where
     pub kept-without-inference : infersRatings d ≡ false → ratingRow d s i ≡ i
     unfolding ratingRow
     kept-without-inference e =
-        let none : infers d s i ≡ false = rw e (ap (λ (b : Bool). b && ltb (servingRow s i) (trancheCount s)) (and-false (not (ratedRow s i)))) in
+        let none : infers d s i ≡ false = simp (e, and-false) in
         rw none
 
     pub kept-where-none-serves : trancheCount s ≤ servingRow s i → ratingRow d s i ≡ i
     unfolding ratingRow
     kept-where-none-serves none =
-        let none : infers d s i ≡ false = rw (le-ltb (servingRow s i) (trancheCount s) none) (and-false (not (ratedRow s i) && infersRatings d)) in
+        let none : infers d s i ≡ false = simp (le-ltb (servingRow s i) (trancheCount s) none, and-false) in
         rw none
 
     pub inferred-where-found :

@@ -1,4 +1,5 @@
--- The table of rated rows is filled from the last row up: what each row writes is itself where it is rated, and else what the row after it has. No axioms.
+-- The table of rated rows is filled from the last row up: what each row writes is itself where it is rated, and else what the row after it has. The table of the rows whose ratings count is
+-- filled from the first row on. No axioms.
 use mathlib.Core.Bool.{Bool, true, false}
 use mathlib.Core.List.{List}
 use mathlib.Core.Logic.{⊎-elim}
@@ -9,8 +10,9 @@ use native.Mathlib.Omega.{arith}
 use lib.ListN.{length, getD, set, replicate, length-set, length-replicate}
 use lib.Seq.{getD-set-same, getD-set-other}
 use Rattle.judgement.specs.DealSheet.{trancheCount}
-use Rattle.deal.specs.InferredRatings.{ratedRow, serves, servingRow}
-use Rattle.deal.specs.NextRated.{FirstRatedFrom, NextRated}
+use Rattle.weights.specs.declared.Terms.{Terms}
+use Rattle.deal.specs.InferredRatings.{ratedRow, serves, ratingRow}
+use Rattle.deal.specs.NextRated.{FirstRatedFrom, NextRated, RatingRows}
 use Rattle.deal.proofs.InferredLaws.{unrated-serves-none}
 
 -- ---- the first rated row from a row on
@@ -90,3 +92,21 @@ passed-over s i j r first before k l =
     (λ z. unrated-serves-none s i k (first .none-between k (omega arith) l))
     (λ pos. before k (omega arith))
     (eq-zero-or-pos (j - k))
+
+-- ---- the table of the rows whose ratings count
+
+pub no-rows : (d : Terms) (s : List ℕ) → RatingRows d s (replicate 32 0) 0
+no-rows d s = record { size = length-replicate {A = ℕ} 32 0; at-row = λ i l. absurd (omega arith) }
+
+pub row-put :
+    (d : Terms) (s rows : List ℕ) (i r : ℕ) → i < 32 → RatingRows d s rows i → r ≡ ratingRow d s i → RatingRows d s (set rows i r) (i + 1)
+row-put d s rows i r few table is = record {
+  size = length-set rows i r ∙ table .size;
+  at-row = λ k l.
+      ⊎-elim
+      (λ z.
+      let same : k ≡ i = omega arith in
+      rw (same, getD-set-same rows i r 0 (omega (arith, table .size))) is)
+      (λ pos. rw (getD-set-other rows i k r 0 (λ same. omega arith)) (table .at-row k (omega arith)))
+      (eq-zero-or-pos (i - k));
+}

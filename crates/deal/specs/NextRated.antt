@@ -1,12 +1,13 @@
--- What the table of rated rows is, which the functions that take it need. No reader has to trust this file: `next_rated` (src/inferred.rt) promises it of the table that it makes for
--- every sheet whose words are good.
+-- What the tables of rated rows and of the rows whose ratings count are, which the functions that take them need. No reader has to trust this file: `next_rated` and `rating_rows` (src/inferred.rt)
+-- promise it of the tables that they make for every sheet whose words are good.
 use mathlib.Core.Bool.{true, false}
 use mathlib.Core.List.{List}
 use mathlib.Core.Path.{_≡_}
 use Prim.Native.Nat.{ℕ, _≤_, _<_}
 use lib.ListN.{length, getD}
 use Rattle.judgement.specs.DealSheet.{trancheCount}
-use Rattle.deal.specs.InferredRatings.{ratedRow}
+use Rattle.weights.specs.declared.Terms.{Terms}
+use Rattle.deal.specs.InferredRatings.{ratedRow, ratingRow}
 
 -- r is the first rated row from row j on, and the number of tranches where there is none
 pub record FirstRatedFrom (s : List ℕ) (j r : ℕ) : Type 0 where
@@ -19,3 +20,8 @@ pub record FirstRatedFrom (s : List ℕ) (j r : ℕ) : Type 0 where
 pub record NextRated (s next : List ℕ) (from : ℕ) : Type 0 where
   pub size : length next ≡ 33
   pub at-row : (j : ℕ) → from ≤ j → j ≤ trancheCount s → FirstRatedFrom s j (getD next j 0)
+
+-- at each of the first n rows stands the row whose ratings count for its tranche
+pub record RatingRows (d : Terms) (s rows : List ℕ) (n : ℕ) : Type 0 where
+  pub size : length rows ≡ 32
+  pub at-row : (i : ℕ) → i < n → getD rows i 0 ≡ ratingRow d s i

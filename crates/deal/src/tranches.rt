@@ -8,11 +8,9 @@ ghost use Rattle.pool.specs.PoolSums.{poolSums};
 ghost use Rattle.deal.specs.Points.{point};
 ghost use Rattle.deal.specs.Lines.{terms, tranche, riskWeightedAmount, capital};
 ghost use Rattle.deal.specs.ClassPoints.{ClassPoints};
-ghost use Rattle.deal.specs.NextRated.{NextRated};
+ghost use Rattle.deal.specs.NextRated.{RatingRows};
 ghost use Rattle.judgement.specs.Refusals.{firstOf};
 ghost use Rattle.deal.specs.Refusals.{thinVerdict};
-use crate::inferred::NEXT;
-use crate::inferred::rating_row;
 use dates::maturity_months;
 use judgement::Layout;
 use judgement::Refusal;
@@ -64,26 +62,24 @@ pub(crate) fn class_points(s: &[u64], l: Layout, nominal: u64) -> [u64; POINTS]
     points
 }
 
-// What is tranche i's own, with the ratings that count for it; its maturity is in months, however the sheet states it.
+// What is tranche i's own, with the ratings that count for it, which stand in the row that the table names; its maturity is in months, however the sheet states it.
 pub(crate) fn tranche_of(
     s: &[u64],
     l: Layout,
-    d: Terms,
     points: &[u64; POINTS],
-    next: &[u64; NEXT],
+    rows: &[u8; TRANCHES_MOST],
     i: u64,
 ) -> Tranche
-    requires { ⌜ LaidOut (now s) l × (d ≡ terms (now s)) × ClassPoints (now s) (now points) × NextRated (now s) (now next) 0 × (i < trancheCount (now s)) ⌝ }
+    requires { ⌜ LaidOut (now s) l × ClassPoints (now s) (now points) × RatingRows (terms (now s)) (now s) (now rows) (trancheCount (now s)) × (i < trancheCount (now s)) ⌝ }
     ensures { λ r. ⌜ r ≡ tranche (now (s .entry)) i ⌝ }
 {
     let class = tranche_word(s, l, i, 1);
-    let months = maturity_months(l.reporting_date, tranche_word(s, l, i, 2));
-    let row = rating_row(s, l, d, next, i, class, months);
+    let row = rows[i as usize] as u64;
     Tranche {
         attachment: points[(class + 1) as usize],
         detachment: points[class as usize],
         senior: class == 1,
-        months,
+        months: maturity_months(l.reporting_date, tranche_word(s, l, i, 2)),
         held: tranche_word(s, l, i, 3),
         first: tranche_word(s, l, row, 4),
         second: tranche_word(s, l, row, 5),
@@ -107,28 +103,25 @@ pub(crate) fn capital(held: u64, w: u64) -> u64
     rounded_up(held * w * 8, 1000000)
 }
 
-// The first tranche that is too thin for the formula. The points are asked first: most tranches have a thickness, and what else is theirs is then not needed here.
+// The first tranche that is too thin for the formula.
 pub(crate) fn judge_thickness(
     s: &[u64],
     l: Layout,
     d: Terms,
     points: &[u64; POINTS],
-    next: &[u64; NEXT],
+    rows: &[u8; TRANCHES_MOST],
 ) -> Verdict
-    requires { ⌜ LaidOut (now s) l × (d ≡ terms (now s)) × ClassPoints (now s) (now points) × NextRated (now s) (now next) 0 ⌝ }
+    requires { ⌜ LaidOut (now s) l × (d ≡ terms (now s)) × ClassPoints (now s) (now points) × RatingRows (terms (now s)) (now s) (now rows) (trancheCount (now s)) ⌝ }
     ensures { λ r. ⌜ r ≡ firstOf (λ i. thinVerdict (now (s .entry)) i) (trancheCount (now (s .entry))) ⌝ }
 {
     let tranches = l.tranches;
     let mut i = 0;
     while i < tranches {
-        let class = tranche_word(s, l, i, 1);
-        if points[class as usize] == points[(class + 1) as usize] {
-            if is_thin(tranche_of(s, l, d, points, next, i), d) {
-                return Verdict::Faulty(Refusal {
-                    number: 13,
-                    place: l.first_tranche as u64 + TRANCHE_SIZE as u64 * i,
-                });
-            }
+        if is_thin(tranche_of(s, l, points, rows, i), d) {
+            return Verdict::Faulty(Refusal {
+                number: 13,
+                place: l.first_tranche as u64 + TRANCHE_SIZE as u64 * i,
+            });
         }
         i += 1;
     }

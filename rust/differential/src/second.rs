@@ -42,12 +42,12 @@ pub fn compare_other_ratings(library: &Library, case: &Case, lent: &mut Lent) ->
     }
     let differ = |expected, said| Err(Difference::new(Part::OtherRatings, expected, (said, &case.second)));
     if first != second {
-        return differ((first, None), (second, None));
+        return differ((None, first), (None, second));
     }
     let mut rerated = Rerated::new(&case.sheet, &case.second);
     for (number, (line, other)) in first_lines.into_iter().zip(second_lines).enumerate() {
         if line != other && rerated.keeps(number) {
-            return differ((first, Some(line)), (second, Some(other)));
+            return differ((Some((number, line)), first), (Some((number, other)), second));
         }
         rerated.note(line != other);
     }

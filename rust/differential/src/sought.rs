@@ -1,5 +1,5 @@
-//! A tranche that looks for ratings among those of its sheet (S-8): which it may take, and which it takes. This is worked
-//! out from the rows alone, so that what a run meets does not rest on the side that it is held to.
+//! A tranche that looks for ratings among those of its sheet (S-8): which it may take, and which it takes. Both are worked
+//! out here from the rows, so that what a run meets does not rest on the search of the independent implementation.
 
 use crate::dates;
 use crate::sheet::{Layout, TrancheWord, RATINGS};

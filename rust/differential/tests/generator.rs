@@ -435,9 +435,9 @@ fn inferred_ratings_come_in_all_deals() {
     assert_eq!(met, all.flatten().collect());
 }
 
-/// Which lines of a sheet must be the same with these ratings changed, and which independent ones are: tranches of senior
-/// classes alone are changed; the tranche is rated, or no rating is inferred in the deal. Gives both for each line of two
-/// accepted sheets whose own ratings are kept, and nothing where one is refused.
+/// For each line of two accepted sheets that differ in ratings, where those of its own tranche are the same: whether each
+/// half of the law asks that the line be the same (senior classes alone differ; the tranche is rated, or no rating is
+/// inferred in the deal), and whether the independent lines are. Nothing where a sheet is refused.
 fn lines_with_other_ratings(case: &Case) -> Vec<([bool; 2], bool)> {
     let sheets = [&case.sheet, &case.second];
     let [Ok(deal), Ok(other)] = sheets.map(|sheet| independent::weigh(sheet, case.room as u64)) else {

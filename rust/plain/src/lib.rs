@@ -48,7 +48,7 @@ pub fn weigh(sheet: &[u64], results: &mut [u64]) -> Result<(u64, u64), Refusal> 
     refuse_empty_tranche(&deal, &terms, points)?;
     let (lines, _) = results.as_chunks_mut::<LINE_WORDS>();
     for ((line, words), points) in lines.iter_mut().zip(deal.tranches).zip(points) {
-        *line = terms.line(&terms.counted(deal.tranches, words), points);
+        *line = terms.line(&words.into(), terms.ratings(&deal, words), points);
     }
     Ok((count as u64, terms.charge as u64))
 }
@@ -58,7 +58,7 @@ fn refuse_empty_tranche(deal: &Deal, terms: &Terms, points: &[Points]) -> Result
     let empty = |(words, points): (&[u64; TRANCHE_WORDS], &Points)| {
         points.attachment == points.detachment
             && points.detachment > terms.charge
-            && terms.approach(&terms.counted(deal.tranches, words)).by_formula()
+            && terms.approach(terms.ratings(deal, words)).by_formula()
     };
     match deal.tranches.iter().zip(points).position(empty) {
         Some(number) => {

@@ -77,32 +77,30 @@ pub struct Facts {
     pub reporting_date: Option<Date>,
 }
 
-/// A tranche's row by its names. The amount is used in the points alone and is left out.
+/// A tranche's row by its names. The amount is used in the points alone and is left out, and so are the ratings: those that
+/// count may be another row's.
 pub struct Tranche {
     pub class: u64,
     /// Months, or a date's word where the deal has a reporting date.
     pub maturity: u64,
     pub held: u64,
-    pub ratings: [u64; RATINGS],
-}
-
-impl Tranche {
-    /// Whether the tranche has a rating.
-    pub fn is_rated(&self) -> bool {
-        self.ratings != [0; RATINGS]
-    }
 }
 
 impl From<&[u64; TRANCHE_WORDS]> for Tranche {
     /// Names the words of a row.
-    fn from(&[_, class, maturity, held, first, second, third]: &[u64; TRANCHE_WORDS]) -> Self {
-        Tranche {
-            class,
-            maturity,
-            held,
-            ratings: [first, second, third],
-        }
+    fn from(&[_, class, maturity, held, ..]: &[u64; TRANCHE_WORDS]) -> Self {
+        Tranche { class, maturity, held }
     }
+}
+
+/// The ratings of a tranche's row, its last words.
+pub fn ratings_of(words: &[u64; TRANCHE_WORDS]) -> &[u64; RATINGS] {
+    words.last_chunk().expect("a row has its ratings")
+}
+
+/// Whether any of these is a rating.
+pub fn is_rated(ratings: &[u64; RATINGS]) -> bool {
+    *ratings != [0; RATINGS]
 }
 
 /// Reads the whole sheet. The first bad word decides; then words that follow the last section are refused.

@@ -6,7 +6,7 @@ use crate::kind::Kind;
 use crate::limits::{LINE_WORDS, RATINGS, TRANCHE_WORDS};
 use crate::points::Points;
 use crate::rating::{self, maturity_fifths};
-use crate::sheet::{Deal, Irb, Tranche};
+use crate::sheet::{is_rated, ratings_of, Deal, Irb, Tranche};
 
 /// 1250%, in hundredths of a percent.
 const FULL: f64 = 125_000.0;
@@ -28,6 +28,14 @@ impl Approach {
 }
 
 impl Deal<'_> {
+    /// Which tranches are rated: a bit for each, the lowest for the first.
+    fn rated(&self) -> u32 {
+        let bits = self.tranches.iter().zip(0..);
+        bits.fold(0, |rated, (words, bit)| {
+            rated | u32::from(is_rated(ratings_of(words))) << bit
+        })
+    }
+
     /// The approach of every tranche; none where it depends on the tranche's ratings.
     fn approach(&self) -> Option<Approach> {
         if !self.facts.due_diligence {
@@ -49,8 +57,8 @@ pub struct Terms {
     charge_known: bool,
     /// The approach of every tranche; none where it depends on the tranche's ratings.
     approach: Option<Approach>,
-    /// Whether unrated tranches look for ratings of others: ratings count in the deal, and some tranche has one.
-    infers: bool,
+    /// The rated tranches, a bit for each; none where no approach depends on ratings.
+    rated: u32,
     reporting_date: Option<Date>,
     kind: &'static Kind,
     /// The parameter under SEC-IRBA, which takes the place of the kind's.
@@ -77,7 +85,7 @@ impl Terms {
             charge,
             charge_known,
             approach,
-            infers: approach.is_none() && deal.tranches.iter().any(|words| Tranche::from(words).is_rated()),
+            rated: if approach.is_none() { deal.rated() } else { 0 },
             reporting_date: facts.reporting_date,
             kind: Kind::of(facts),
             irba: irb.as_ref().map(|irb| Parameter::of(irb, charge, facts.stc)),
@@ -85,32 +93,37 @@ impl Terms {
         }
     }
 
-    /// A tranche of the deal with the ratings that count for it (S-8): its own, or else those that it finds among the
-    /// tranches.
-    pub fn counted(&self, tranches: &[[u64; TRANCHE_WORDS]], words: &[u64; TRANCHE_WORDS]) -> Tranche {
-        let mut tranche = Tranche::from(words);
-        if self.infers && !tranche.is_rated() {
-            tranche.ratings = self.inferred(tranches, &tranche);
+    /// The ratings that count for a tranche of the deal (S-8): its own, or else those that it finds.
+    pub fn ratings<'a>(&self, deal: &Deal<'a>, words: &'a [u64; TRANCHE_WORDS]) -> &'a [u64; RATINGS] {
+        let own = ratings_of(words);
+        if self.rated == 0 || is_rated(own) {
+            return own;
         }
-        tranche
+        self.inferred(deal, &words.into()).unwrap_or(own)
     }
 
-    /// The ratings of the first rated row of the tranche's class or a class below that has no fewer months; none where
-    /// there is no such row. Classes never fall from row to row, so this row is of the most senior class.
-    fn inferred(&self, tranches: &[[u64; TRANCHE_WORDS]], tranche: &Tranche) -> [u64; RATINGS] {
+    /// The ratings of the first rated row that is of the tranche's class or one below and has no fewer months. Classes never
+    /// fall from row to row, so this row is of the most senior class.
+    fn inferred<'a>(&self, deal: &Deal<'a>, tranche: &Tranche) -> Option<&'a [u64; RATINGS]> {
         let months = self.months(tranche.maturity);
-        let found = tranches
-            .iter()
-            .map(Tranche::from)
-            .find(|row| row.class >= tranche.class && row.is_rated() && self.months(row.maturity) >= months);
-        found.map_or([0; RATINGS], |row| row.ratings)
+        let mut left = self.rated;
+        while left != 0 {
+            let words = &deal.tranches[left.trailing_zeros() as usize];
+            let row = Tranche::from(words);
+            if row.class >= tranche.class && self.months(row.maturity) >= months {
+                return Some(ratings_of(words));
+            }
+            // Clears the lowest bit, that of this row.
+            left &= left - 1;
+        }
+        None
     }
 
     /// Which approach a tranche takes by the ratings that count for it.
-    pub fn approach(&self, tranche: &Tranche) -> Approach {
+    pub fn approach(&self, ratings: &[u64; RATINGS]) -> Approach {
         if let Some(approach) = self.approach {
             approach
-        } else if tranche.is_rated() {
+        } else if is_rated(ratings) {
             Approach::SecErba
         } else if self.charge_known {
             Approach::SecSa
@@ -120,12 +133,12 @@ impl Terms {
     }
 
     /// The result words of a tranche with the ratings that count for it.
-    pub fn line(&self, tranche: &Tranche, points: &Points) -> [u64; LINE_WORDS] {
-        let approach = self.approach(tranche);
+    pub fn line(&self, tranche: &Tranche, ratings: &[u64; RATINGS], points: &Points) -> [u64; LINE_WORDS] {
+        let approach = self.approach(ratings);
         // Floor and cap are whole, so rounding after them gives what rounding before them would.
         let figure = match approach {
             Approach::Fallback => FULL,
-            Approach::SecErba => self.limited(tranche, self.rated_figure(tranche, points)),
+            Approach::SecErba => self.limited(tranche, self.rated_figure(tranche, ratings, points)),
             Approach::SecSa => self.limited(tranche, self.formula(self.kind.parameter, points)),
             Approach::SecIrba => self.limited(tranche, self.formula(self.irba_parameter(tranche), points)),
         };
@@ -156,11 +169,11 @@ impl Terms {
     }
 
     /// The figure by the ratings that are present: of three the middle one, of fewer the highest.
-    fn rated_figure(&self, tranche: &Tranche, points: &Points) -> f64 {
+    fn rated_figure(&self, tranche: &Tranche, ratings: &[u64; RATINGS], points: &Points) -> f64 {
         let months = self.months(tranche.maturity);
         let mut figures = [0.0; RATINGS];
         let mut count = 0;
-        for &code in tranche.ratings.iter().filter(|&&code| code != 0) {
+        for &code in ratings.iter().filter(|&&code| code != 0) {
             figures[count] = rating::figure(self.kind.table, code, tranche.class == 1, months, points);
             count += 1;
         }

@@ -165,9 +165,9 @@ impl<Kind> SheetBuilder<Kind> {
         self.place(tranche, self.class + 1)
     }
 
-    /// Places a tranche in the class of the tranche placed before it, with which it ranks pari passu. Of rated tranches in
-    /// one class an unrated tranche takes the ratings of the one placed first
-    /// ([inferred ratings](Tranche#inferred-ratings)), so that their order can matter.
+    /// Places a tranche in the class of the tranche placed before it, with which it ranks pari passu. Of the rated
+    /// tranches in one class an unrated tranche takes the ratings of the first that is long enough
+    /// ([inferred ratings](Tranche#inferred-ratings)), so their order can matter.
     ///
     /// # Errors
     ///

@@ -24,8 +24,8 @@ abbrev μ-loop : tie.MeasureT-loop
 few : (c : tie.Start Inv-loop μ-loop) → (trancheCount (c .args .s .now) ≤ 32) × (c .args .l .tranches ≡ trancheCount (c .args .s .now))
 few c = (tranches-within _ (tranches-counted _ (c .pre .good)) .1, tranches-is _ _ (c .pre))
 
-mul-next : tie.Need-mul-next Inv-loop μ-loop
-mul-next c = omega (arith, few (c .before))
+cast-next : tie.Need-cast-next Inv-loop μ-loop
+cast-next c = omega (arith, few (c .before))
 
 array-write-next : tie.Need-array-write-next Inv-loop μ-loop
 array-write-next c = omega (arith, few (c .before))
@@ -62,15 +62,6 @@ told c =
     let words = c .before in
     simp (c .any-present .ensures, words .tranche-word3 .ensures, words .before .tranche-word2 .ensures, words .before .before .tranche-word .ensures)
 
-mul-next-2 : tie.Need-mul-next-2 Inv-loop μ-loop
-mul-next-2 c = omega (arith, row (c .before .before .before .before .before), few (c .before .before .before .before .before .before .before .before))
-
-array-write-next-2 : tie.Need-array-write-next-2 Inv-loop μ-loop
-array-write-next-2 c = omega (arith, row (c .before .before .before .before .before), few (c .before .before .before .before .before .before .before .before))
-
-loop-less : tie.Need-loop-less Inv-loop μ-loop
-loop-less c = omega arith
-
 -- the first rated row from the turn's row on
 first-from :
     (c : tie.Joined1 Inv-loop μ-loop) → let at = c .before .before .before .before .before .before in
@@ -85,14 +76,24 @@ first-from c =
     rw (w .1) (rated-later s (at .loop .j - 1) (at .loop .first) (told (c .before) ∙ w .0 .left) (rw back (at .loop .inv .1 .1))))
     (c .if1 .came)
 
+cast-next-2 : tie.Need-cast-next-2 Inv-loop μ-loop
+cast-next-2 c = omega (arith, first-from (c .before) .at-most, few (c .before .before .before .before .before .before .before .before .before))
+
+array-write-next-2 : tie.Need-array-write-next-2 Inv-loop μ-loop
+array-write-next-2 c = omega (arith, row (c .before .before .before .before .before .before), few (c .before .before .before .before .before .before .before .before .before))
+
+loop-less : tie.Need-loop-less Inv-loop μ-loop
+loop-less c = omega arith
+
 loop-again : tie.Need-loop-again Inv-loop μ-loop
 loop-again c =
-    let at = c .before .before .before .before .before .before in
+    let joined = c .before in
+    let at = joined .before .before .before .before .before .before in
     let start = at .before .before in (
       omega (arith, at .loop .inv .0),
       (
-        next-filled (start .args .s .now) (at .loop .next) (at .loop .j) (at .loop .j - 1) (c .if1 .first) (omega arith) (at .loop .inv .0) (few start .0) (at .loop .inv .1 .0) (first-from c),
-        first-from c,
+        next-filled (start .args .s .now) (at .loop .next) (at .loop .j) (at .loop .j - 1) (joined .if1 .first) (omega arith) (at .loop .inv .0) (few start .0) (at .loop .inv .1 .0) (first-from joined),
+        first-from joined,
       ),
     )
 
@@ -107,7 +108,7 @@ next-rated-spec =
     (tie.spec
     Inv-loop
     μ-loop
-    mul-next
+    cast-next
     array-write-next
     loop-holds
     sub-j
@@ -115,7 +116,7 @@ next-rated-spec =
     tranche-word-requires-2
     tranche-word-requires-3
     any-present-requires
-    mul-next-2
+    cast-next-2
     array-write-next-2
     loop-less
     loop-again

@@ -34,15 +34,15 @@ returns-3 c = let start = c .before .before .before .before .before in own-row-k
 few : (c : tie.Start) → trancheCount (c .args .s .now) ≤ 32
 few c = tranches-within _ (tranches-counted _ (c .pre .0 .good)) .1
 
-mul-if4 : tie.Need-mul-if4
-mul-if4 c = let start = c .before .before .before .before .before in omega (arith, start .pre .2, few start)
-
 element-copy-out-if4 : tie.Need-element-copy-out-if4
 element-copy-out-if4 c = let start = c .before .before .before .before .before in omega (arith, start .pre .2, few start)
 
 -- the table's figure for the tranche's row
 own-row : (c : tie.Start) → FirstRatedFrom (c .args .s .now) (c .args .i) (getD (c .args .next .now) (c .args .i) 0)
 own-row c = c .pre .1 .at-row (c .args .i) (omega arith) (omega (arith, c .pre .2))
+
+cast-if4 : tie.Need-cast-if4
+cast-if4 c = let start = c .before .before .before .before .before .before in omega (arith, own-row start .at-most, few start)
 
 returns-4 : tie.Need-returns-4
 returns-4 c =
@@ -77,8 +77,8 @@ rating-row-spec =
     returns
     returns-2
     returns-3
-    mul-if4
     element-copy-out-if4
+    cast-if4
     returns-4
     serving-row-requires
     returns-5

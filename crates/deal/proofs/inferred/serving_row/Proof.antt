@@ -18,111 +18,128 @@ use Rattle.deal.proofs.inferred.serving_row.Statement.{statement}
 use Rattle.deal.proofs.inferred.serving_row.Tie as tie
 
 abbrev Inv-loop : tie.InvT-loop
-Inv-loop s l next i own-class own-months tranches j₀ j =
+Inv-loop s l next i tranches class months j₀ j =
     (j ≤ trancheCount s) × ((j < trancheCount s → ratedRow s j ≡ true) × ((k : ℕ) → k < j → serves s i k ≡ false))
 
 abbrev μ-loop : tie.MeasureT-loop
-μ-loop s l next i own-class own-months tranches j₀ j = tranches - j
+μ-loop s l next i tranches class months j₀ j = tranches - j
+
+tranche-word-requires : tie.Need-tranche-word-requires Inv-loop μ-loop
+tranche-word-requires c κs = search needs
+
+tranche-word-requires-2 : tie.Need-tranche-word-requires-2 Inv-loop μ-loop
+tranche-word-requires-2 c κs = search needs
+
+maturity-months-requires : tie.Need-maturity-months-requires Inv-loop μ-loop
+maturity-months-requires c κs = search needs
 
 element-copy-out-j : tie.Need-element-copy-out-j Inv-loop μ-loop
 element-copy-out-j c = search needs
+
+-- the sheet's tranches are few
+few : (c : tie.Start Inv-loop μ-loop) → trancheCount (c .args .s .now) ≤ 32
+few c = tranches-within _ (tranches-counted _ (c .pre .0 .good)) .1
 
 -- the table's figure for a row
 at-row : (c : tie.Start Inv-loop μ-loop) (j : ℕ) → j ≤ trancheCount (c .args .s .now) → FirstRatedFrom (c .args .s .now) j (getD (c .args .next .now) j 0)
 at-row c j l = c .pre .1 .at-row j (omega arith) l
 
+cast-j : tie.Need-cast-j Inv-loop μ-loop
+cast-j c = let start = c .before .before .before .before .before in omega (arith, at-row start 0 (omega arith) .at-most, few start)
+
 loop-holds : tie.Need-loop-holds Inv-loop μ-loop
 loop-holds c =
-    let start = c .before .before in
+    let start = c .before .before .before .before .before in
     let first = at-row start 0 (omega arith) in
     (first .at-most, (first .is-rated, passed-over (start .args .s .now) (start .args .i) 0 _ first (λ k l. absurd (omega arith))))
 
--- the turn's row is one of the sheet's, which are few
-row : (c : tie.In-loop Inv-loop μ-loop) → c .before .loop .j < trancheCount (c .before .before .before .before .args .s .now)
-row c = omega (arith, tranches-is _ _ (c .before .before .before .before .pre .0))
+-- the turn's row is one of the sheet's
+row : (c : tie.In-loop Inv-loop μ-loop) → c .before .loop .j < trancheCount (c .before .before .before .before .before .before .before .args .s .now)
+row c = omega (arith, tranches-is _ _ (c .before .before .before .before .before .before .before .pre .0))
 
-few : (c : tie.Start Inv-loop μ-loop) → trancheCount (c .args .s .now) ≤ 32
-few c = tranches-within _ (tranches-counted _ (c .pre .0 .good)) .1
+tranche-word-requires-3 : tie.Need-tranche-word-requires-3 Inv-loop μ-loop
+tranche-word-requires-3 c κs = (c .before .before .before .before .before .before .before .pre .0, row c, omega arith)
 
-tranche-word-requires : tie.Need-tranche-word-requires Inv-loop μ-loop
-tranche-word-requires c κs = (c .before .before .before .before .pre .0, row c, omega arith)
+tranche-word-requires-4 : tie.Need-tranche-word-requires-4 Inv-loop μ-loop
+tranche-word-requires-4 c κs = (c .before .before .before .before .before .before .before .before .before .pre .0, row (c .before .before), omega arith)
 
-tranche-word-requires-2 : tie.Need-tranche-word-requires-2 Inv-loop μ-loop
-tranche-word-requires-2 c κs = (c .before .before .before .before .before .before .pre .0, row (c .before .before), omega arith)
+maturity-months-requires-2 : tie.Need-maturity-months-requires-2 Inv-loop μ-loop
+maturity-months-requires-2 c κs = search needs
 
-maturity-months-requires : tie.Need-maturity-months-requires Inv-loop μ-loop
-maturity-months-requires c κs = search needs
-
--- the months of the turn's row, by the layout's reporting date
-row-months :
-    (c : tie.After-maturity-months Inv-loop μ-loop) → let at = c .before .before .before .before .before in
-    c .maturity-months .result ≡ months (at .before .before .before .args .s .now) (at .loop .j)
-row-months c =
-    let start = c .before .before .before .before .before .before .before .before in
+-- the months of the tranche and of the turn's row, by the layout's reporting date
+own-months :
+    (c : tie.After-maturity-months Inv-loop μ-loop) → let start = c .before .before .before .before in
+    c .maturity-months .result ≡ months (start .args .s .now) (start .args .i)
+own-months c =
+    let start = c .before .before .before .before in
     c .maturity-months .ensures ∙ rw (reporting-date-is (start .args .s .now) (start .args .l) (start .pre .0), c .before .tranche-word2 .ensures)
+
+row-months :
+    (c : tie.After-maturity-months2 Inv-loop μ-loop) → let at = c .before .before .before .before .before in
+    c .maturity-months2 .result ≡ months (at .before .before .before .before .before .before .args .s .now) (at .loop .j)
+row-months c =
+    let start = c .before .before .before .before .before .before .before .before .before .before .before in
+    c .maturity-months2 .ensures ∙ rw (reporting-date-is (start .args .s .now) (start .args .l) (start .pre .0), c .before .tranche-word4 .ensures)
 
 returns : tie.Need-returns Inv-loop μ-loop
 returns c =
     let at = c .before .before .before .before .before .before in
-    let start = at .before .before .before in
+    let start = at .before .before .before .before .before .before in
     let s = start .args .s .now in
     let turn = row (c .before .before .before .before .before) in
-    let months-is = row-months (c .before) in
     sym
     (first-serving s (start .args .i) (start .pre .0 .good) (at .loop .j) turn
     (serves-is s (start .args .i) (at .loop .j)
     (record {
       among = turn;
       is-rated = at .loop .inv .1 .0 turn;
-      own-or-junior = omega (arith, c .before .before .before .if1 .taken, c .before .before .before .before .tranche-word .ensures, start .pre .3);
-      as-long = omega (arith, c .if2 .taken, months-is, start .pre .4);
+      own-or-junior = omega (arith, c .before .before .before .if1 .taken, c .before .before .before .before .tranche-word3 .ensures, at .before .before .before .before .tranche-word .ensures);
+      as-long = omega (arith, c .if2 .taken, row-months (c .before), own-months (at .before .before));
     }))
     (at .loop .inv .1 .1))
 
 add-j : tie.Need-add-j Inv-loop μ-loop
-add-j c = omega (arith, row (c .before .before), few (c .before .before .before .before .before .before))
-
-mul-j : tie.Need-mul-j Inv-loop μ-loop
-mul-j c = omega (arith, row (c .before .before), few (c .before .before .before .before .before .before))
+add-j c = omega (arith, row (c .before .before), few (c .before .before .before .before .before .before .before .before .before))
 
 element-copy-out-j-2 : tie.Need-element-copy-out-j-2 Inv-loop μ-loop
-element-copy-out-j-2 c = omega (arith, row (c .before .before), few (c .before .before .before .before .before .before))
+element-copy-out-j-2 c = omega (arith, row (c .before .before), few (c .before .before .before .before .before .before .before .before .before))
 
 -- the next rated row is a later one
 later :
     (c : tie.After-j2 Inv-loop μ-loop) → let at = c .before .before .before .before in
-    FirstRatedFrom (at .before .before .before .args .s .now) (at .loop .j + 1) (getD (at .before .before .before .args .next .now) (at .loop .j + 1) 0)
-later c = at-row (c .before .before .before .before .before .before .before) _ (omega (arith, row (c .before .before .before)))
+    FirstRatedFrom (at .before .before .before .before .before .before .args .s .now) (at .loop .j + 1) (getD (at .before .before .before .before .before .before .args .next .now) (at .loop .j + 1) 0)
+later c = at-row (c .before .before .before .before .before .before .before .before .before .before) _ (omega (arith, row (c .before .before .before)))
+
+cast-j-2 : tie.Need-cast-j-2 Inv-loop μ-loop
+cast-j-2 c = omega (arith, later c .at-most, few (c .before .before .before .before .before .before .before .before .before .before))
 
 loop-less : tie.Need-loop-less Inv-loop μ-loop
-loop-less c =
-    let at = c .before .before .before .before in
-    omega (arith, later c .at-least, row (c .before .before .before), tranches-is _ _ (at .before .before .before .pre .0))
+loop-less c = omega (arith, later c .at-least, row (c .before .before .before), tranches-is _ _ (c .before .before .before .before .before .before .before .before .before .before .pre .0))
 
--- the turn's row did not serve
+-- the turn's row did not serve: its class is senior to the tranche's, or its maturity shorter
 not-serving :
     (c : tie.Joined1 Inv-loop μ-loop) → let at = c .before .before .before in
-    serves (at .before .before .before .args .s .now) (at .before .before .before .args .i) (at .loop .j) ≡ false
+    serves (at .before .before .before .before .before .before .args .s .now) (at .before .before .before .before .before .before .args .i) (at .loop .j) ≡ false
 not-serving c =
     let at = c .before .before .before in
-    let start = at .before .before .before in
+    let start = at .before .before .before .before .before .before in
     let s = start .args .s .now in
     ⊎-elim
     (λ w.
-    let shorter = row-months (record { before = record { before = record { before = c .before; if1 = w .0 }; tranche-word2 = w .1 }; maturity-months = w .2 }) in
-    shorter-serves-none s (start .args .i) (at .loop .j) (omega (arith, w .3 .left, shorter, start .pre .4)))
-    (λ w. senior-serves-none s (start .args .i) (at .loop .j) (omega (arith, w .left, c .before .tranche-word .ensures, start .pre .3)))
+    let told = row-months (record { before = record { before = record { before = c .before; if1 = w .0 }; tranche-word4 = w .1 }; maturity-months2 = w .2 }) in
+    shorter-serves-none s (start .args .i) (at .loop .j) (omega (arith, w .3 .left, told, own-months (at .before .before))))
+    (λ w. senior-serves-none s (start .args .i) (at .loop .j) (omega (arith, w .left, c .before .tranche-word3 .ensures, at .before .before .before .before .tranche-word .ensures)))
     (c .if1 .came)
 
 loop-again : tie.Need-loop-again Inv-loop μ-loop
 loop-again c =
     let at = c .before .before .before .before in
-    let start = at .before .before .before in
+    let start = at .before .before .before .before .before .before in
     (later c .at-most, (later c .is-rated, passed-over (start .args .s .now) (start .args .i) _ _ (later c) (none-up-to (at .loop .inv .1 .1) (not-serving (c .before)))))
 
 returns-2 : tie.Need-returns-2 Inv-loop μ-loop
 returns-2 c =
-    let start = c .before .before .before .before in
+    let start = c .before .before .before .before .before .before .before in
     let many = tranches-is _ _ (start .pre .0) in
     many ∙ sym (none-serving (start .args .s .now) (start .args .i) (λ k l. c .before .loop .inv .1 .1 k (omega (arith, many))))
 
@@ -132,15 +149,19 @@ serving-row-spec =
     (tie.spec
     Inv-loop
     μ-loop
-    element-copy-out-j
-    loop-holds
     tranche-word-requires
     tranche-word-requires-2
     maturity-months-requires
+    element-copy-out-j
+    cast-j
+    loop-holds
+    tranche-word-requires-3
+    tranche-word-requires-4
+    maturity-months-requires-2
     returns
     add-j
-    mul-j
     element-copy-out-j-2
+    cast-j-2
     loop-less
     loop-again
     returns-2)

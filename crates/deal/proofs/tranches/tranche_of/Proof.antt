@@ -1,7 +1,7 @@
 -- `tranche_of`: each word is read from its own place, the ratings from the row that counts, the months are by the sheet's reporting date, and the points are those between the class after it and
 -- its own, which the table holds. No axioms.
 use mathlib.Core.List.{List}
-use mathlib.Core.Path.{_≡_, _∙_, ap}
+use mathlib.Core.Path.{_≡_, _∙_}
 use Prim.Native.Nat.{ℕ, _+_, _≤_, _<_}
 use native.Mathlib.Omega.{arith}
 use borrow.Author.Needs.{needs}
@@ -10,7 +10,6 @@ use lib.ListN.{getD}
 use Rattle.judgement.specs.DealSheet.{trancheCount, class, months, held, firstRating, secondRating, thirdRating}
 use Rattle.judgement.proofs.LayoutLaws.{reporting-date-is}
 use Rattle.judgement.proofs.SheetLimits.{tranches-counted, tranches-within, class-within}
-use Rattle.weights.specs.declared.Terms.{Terms}
 use Rattle.weights.specs.declared.Tranche.{Tranche}
 use Rattle.deal.specs.Points.{attachmentPoint, detachmentPoint}
 use Rattle.deal.specs.InferredRatings.{ratingRow}
@@ -54,6 +53,45 @@ made s i own m h row x y z table among own-is m-is h-is row-is x-is y-is z-is =
 tranche-word-requires : tie.Need-tranche-word-requires
 tranche-word-requires c κs = search needs
 
+-- the sheet's tranches are few, and the class is at most 32
+few : (c : tie.Start) → trancheCount (c .args .s .now) ≤ 32
+few c = tranches-within _ (tranches-counted _ (c .pre .0 .good)) .1
+
+class-low : (c : tie.After-tranche-word) → c .tranche-word .result ≤ 32
+class-low c =
+    let start = c .before .before in
+    omega (arith, c .tranche-word .ensures, class-within (start .args .s .now) (start .args .i) (start .pre .0 .good) (start .pre .3) .1, few start)
+
+element-copy-out-row : tie.Need-element-copy-out-row
+element-copy-out-row c = let start = c .before .before in omega (arith, start .pre .3, few start)
+
+-- the row whose ratings count, which is one of the sheet's
+counting-row :
+    (c : tie.Start) → let s = c .args .s .now in
+    (getD (c .args .rows .now) (c .args .i) 0 ≡ ratingRow (terms s) s (c .args .i)) × (getD (c .args .rows .now) (c .args .i) 0 < trancheCount s)
+counting-row c =
+    let s = c .args .s .now in
+    let is = c .pre .2 .at-row (c .args .i) (c .pre .3) in
+    (is, omega (arith, is, rating-row-within s (c .args .i) (terms s) (c .pre .3)))
+
+cast-row : tie.Need-cast-row
+cast-row c = let start = c .before .before .before in omega (arith, counting-row start .1, few start)
+
+add-t12 : tie.Need-add-t12
+add-t12 c = omega (arith, class-low (c .before))
+
+mul-t13 : tie.Need-mul-t13
+mul-t13 c = omega (arith, class-low (c .before))
+
+element-copy-out-t16 : tie.Need-element-copy-out-t16
+element-copy-out-t16 c = omega (arith, class-low (c .before))
+
+mul-t18 : tie.Need-mul-t18
+mul-t18 c = omega (arith, class-low (c .before .before))
+
+element-copy-out-t21 : tie.Need-element-copy-out-t21
+element-copy-out-t21 c = omega (arith, class-low (c .before .before))
+
 tranche-word-requires-2 : tie.Need-tranche-word-requires-2
 tranche-word-requires-2 c κs = search needs
 
@@ -62,83 +100,30 @@ maturity-months-requires c κs = search needs
 
 -- the months are those of the maturity's word, by the layout's reporting date
 own-months :
-    (c : tie.After-maturity-months) → let start = c .before .before .before .before in
+    (c : tie.After-maturity-months) → let start = c .before .before .before .before .before .before .before in
     c .maturity-months .result ≡ months (start .args .s .now) (start .args .i)
 own-months c =
-    let start = c .before .before .before .before in
+    let start = c .before .before .before .before .before .before .before in
     c .maturity-months .ensures ∙
     rw (reporting-date-is (start .args .s .now) (start .args .l) (start .pre .0), c .before .tranche-word2 .ensures)
-
-rating-row-requires : tie.Need-rating-row-requires
-rating-row-requires c κs =
-    let start = c .before .before .before .before in
-    (start .pre .0, start .pre .3, start .pre .4, c .before .before .tranche-word .ensures, own-months c)
-
--- the row whose ratings count, which is one of the sheet's
-counting-row :
-    (c : tie.After-rating-row) → let start = c .before .before .before .before .before in
-    c .rating-row .result ≡ ratingRow (terms (start .args .s .now)) (start .args .s .now) (start .args .i)
-counting-row c =
-    let start = c .before .before .before .before .before in
-    c .rating-row .ensures ∙ ap (λ (d : Terms). ratingRow d (start .args .s .now) (start .args .i)) (start .pre .1)
-
-row-among :
-    (c : tie.After-rating-row) → c .rating-row .result < trancheCount (c .before .before .before .before .before .args .s .now)
-row-among c =
-    let start = c .before .before .before .before .before in
-    omega (arith, counting-row c, rating-row-within (start .args .s .now) (start .args .i) (terms (start .args .s .now)) (start .pre .4))
-
--- the class is at most 32
-class-low : (c : tie.After-rating-row) → c .before .before .before .tranche-word .result ≤ 32
-class-low c =
-    let start = c .before .before .before .before .before in
-    let s = start .args .s .now in
-    omega (
-      arith,
-      c .before .before .before .tranche-word .ensures,
-      class-within s (start .args .i) (start .pre .0 .good) (start .pre .4) .1,
-      tranches-within s (tranches-counted s (start .pre .0 .good)),
-    )
-
-add-t10 : tie.Need-add-t10
-add-t10 c = omega (arith, class-low c)
-
-mul-t12 : tie.Need-mul-t12
-mul-t12 c = omega (arith, class-low c)
-
-element-copy-out-t15 : tie.Need-element-copy-out-t15
-element-copy-out-t15 c = omega (arith, class-low c)
-
-mul-t17 : tie.Need-mul-t17
-mul-t17 c = omega (arith, class-low (c .before))
-
-element-copy-out-t20 : tie.Need-element-copy-out-t20
-element-copy-out-t20 c = omega (arith, class-low (c .before))
 
 tranche-word-requires-3 : tie.Need-tranche-word-requires-3
 tranche-word-requires-3 c κs = search needs
 
 tranche-word-requires-4 : tie.Need-tranche-word-requires-4
-tranche-word-requires-4 c κs =
-    let row = c .before .before .before in
-    (row .before .before .before .before .before .pre .0, row-among row, omega arith)
+tranche-word-requires-4 c κs = let start = c .before .before .before .before .before .before .before .before in (start .pre .0, counting-row start .1, omega arith)
 
 tranche-word-requires-5 : tie.Need-tranche-word-requires-5
-tranche-word-requires-5 c κs =
-    let row = c .before .before .before .before in
-    (row .before .before .before .before .before .pre .0, row-among row, omega arith)
+tranche-word-requires-5 c κs = let start = c .before .before .before .before .before .before .before .before .before in (start .pre .0, counting-row start .1, omega arith)
 
 tranche-word-requires-6 : tie.Need-tranche-word-requires-6
-tranche-word-requires-6 c κs =
-    let row = c .before .before .before .before .before in
-    (row .before .before .before .before .before .pre .0, row-among row, omega arith)
+tranche-word-requires-6 c κs = let start = c .before .before .before .before .before .before .before .before .before .before in (start .pre .0, counting-row start .1, omega arith)
 
 returns : tie.Need-returns
 returns c =
-    let row = c .before .before .before .before .before .before in
-    let start = row .before .before .before .before .before in
-    made (start .args .s .now) (start .args .i) _ _ _ _ _ _ _ (start .pre .2) (start .pre .4) (row .before .before .before .tranche-word .ensures)
-    (own-months (row .before)) (c .before .before .before .tranche-word3 .ensures) (counting-row row) (c .before .before .tranche-word4 .ensures)
+    let start = c .before .before .before .before .before .before .before .before .before .before .before in
+    made (start .args .s .now) (start .args .i) _ _ _ _ _ _ _ (start .pre .1) (start .pre .3) (c .before .before .before .before .before .before .before .before .before .tranche-word .ensures)
+    (own-months (c .before .before .before .before)) (c .before .before .before .tranche-word3 .ensures) (counting-row start .0) (c .before .before .tranche-word4 .ensures)
     (c .before .tranche-word5 .ensures) (c .tranche-word6 .ensures)
 
 pub tranche-of-spec : {M : Type 1} → statement M
@@ -146,14 +131,15 @@ tranche-of-spec =
     tie.close
     (tie.spec
     tranche-word-requires
+    element-copy-out-row
+    cast-row
+    add-t12
+    mul-t13
+    element-copy-out-t16
+    mul-t18
+    element-copy-out-t21
     tranche-word-requires-2
     maturity-months-requires
-    rating-row-requires
-    add-t10
-    mul-t12
-    element-copy-out-t15
-    mul-t17
-    element-copy-out-t20
     tranche-word-requires-3
     tranche-word-requires-4
     tranche-word-requires-5
