@@ -26,7 +26,7 @@ use Rattle.deal.proofs.ClassPointsLaw.{classes-sorted}
 
 -- ---- a test that fails after another
 
-and-false : (b : Bool) → b && false ≡ false
+pub and-false : (b : Bool) → b && false ≡ false
 and-false true = refl
 and-false false = refl
 

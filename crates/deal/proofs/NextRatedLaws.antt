@@ -1,19 +1,22 @@
--- The table of rated rows is filled from the last row up: what each row writes is itself where it is rated, and else what the row after it has. The table of the rows whose ratings count is
--- filled from the first row on. No axioms.
-use mathlib.Core.Bool.{Bool, true, false}
+-- The table of rated rows is filled from the last row up: what each row writes is itself where it is rated, and else what the row after it has. The table of what is taken is filled
+-- from the first row on, and says which row counts. No axioms.
+use mathlib.Core.Bool.{Bool, true, false, cond, not, _&&_}
 use mathlib.Core.List.{List}
 use mathlib.Core.Logic.{⊎-elim}
 use mathlib.Core.Path.{_≡_, refl, sym, _∙_, subst}
 use Prim.Native.Nat.{ℕ, _+_, _-_, _≤_, _<_}
 use native.Mathlib.Nat.{eq-zero-or-pos, le-refl}
 use native.Mathlib.Omega.{arith}
-use lib.ListN.{length, getD, set, replicate, length-set, length-replicate}
+use lib.Dec.{ltb, eqb}
+use lib.ListN.{length, getD, set, replicate, length-set, length-replicate, getD-replicate}
 use lib.Seq.{getD-set-same, getD-set-other}
+use borrow.Author.Tests.{ltb-true, lt-ltb, le-ltb, ne-eqb}
+use Rattle.numbers.proofs.Tests.{both-true, at-cond}
 use Rattle.judgement.specs.DealSheet.{trancheCount}
 use Rattle.weights.specs.declared.Terms.{Terms}
-use Rattle.deal.specs.InferredRatings.{ratedRow, serves, ratingRow}
-use Rattle.deal.specs.NextRated.{FirstRatedFrom, NextRated, RatingRows}
-use Rattle.deal.proofs.InferredLaws.{unrated-serves-none}
+use Rattle.deal.specs.InferredRatings.{ratedRow, serves, servingRow, infersRatings, infers, ratingRow}
+use Rattle.deal.specs.NextRated.{FirstRatedFrom, NextRated, takenRow, TakenRows}
+use Rattle.deal.proofs.InferredLaws.{and-false, unrated-serves-none}
 
 -- ---- the first rated row from a row on
 
@@ -51,13 +54,13 @@ rated-later s j r e f = record {
 
 -- ---- the table
 
-pub none-filled : (s : List ℕ) → trancheCount s ≤ 32 → NextRated s (set (replicate 33 0) (trancheCount s) (trancheCount s)) (trancheCount s)
-none-filled s few = record {
-  size = length-set (replicate {A = ℕ} 33 0) (trancheCount s) (trancheCount s) ∙ length-replicate {A = ℕ} 33 0;
+pub last-filled :
+    (s next : List ℕ) → length next ≡ 33 → trancheCount s ≤ 32 → NextRated s (set next (trancheCount s) (trancheCount s)) (trancheCount s)
+last-filled s next size few = record {
+  size = length-set next (trancheCount s) (trancheCount s) ∙ size;
   at-row = λ j least most.
       let last : j ≡ trancheCount s = omega arith in
-      rw (last, getD-set-same (replicate {A = ℕ} 33 0) (trancheCount s) (trancheCount s) 0 (omega (arith, length-replicate {A = ℕ} 33 0)))
-      (rated-past-last s);
+      rw (last, getD-set-same next (trancheCount s) (trancheCount s) 0 (omega (arith, size))) (rated-past-last s);
 }
 
 pub next-filled :
@@ -93,20 +96,62 @@ passed-over s i j r first before k l =
     (λ pos. before k (omega arith))
     (eq-zero-or-pos (j - k))
 
--- ---- the table of the rows whose ratings count
+-- ---- what a tranche takes
 
-pub no-rows : (d : Terms) (s : List ℕ) → RatingRows d s (replicate 32 0) 0
-no-rows d s = record { size = length-replicate {A = ℕ} 32 0; at-row = λ i l. absurd (omega arith) }
+pub taken-none-rated : (s : List ℕ) (i : ℕ) → ratedRow s i ≡ true → takenRow true s i ≡ 0
+taken-none-rated s i e = rw e
 
-pub row-put :
-    (d : Terms) (s rows : List ℕ) (i r : ℕ) → i < 32 → RatingRows d s rows i → r ≡ ratingRow d s i → RatingRows d s (set rows i r) (i + 1)
-row-put d s rows i r few table is = record {
-  size = length-set rows i r ∙ table .size;
+pub taken-none-served : (s : List ℕ) (i : ℕ) → trancheCount s ≤ servingRow s i → takenRow true s i ≡ 0
+taken-none-served s i none = simp (le-ltb (servingRow s i) (trancheCount s) none, and-false)
+
+pub taken-found : (s : List ℕ) (i : ℕ) → ratedRow s i ≡ false → servingRow s i < trancheCount s → takenRow true s i ≡ servingRow s i + 1
+taken-found s i unrated found = simp (unrated, lt-ltb (servingRow s i) (trancheCount s) found)
+
+-- nothing, where the deal infers none
+taken-none : (s : List ℕ) (i : ℕ) → takenRow false s i ≡ 0
+taken-none s i = simp and-false
+
+-- it is a row of the sheet, and fits a byte
+pub taken-small : (inferring : Bool) (s : List ℕ) (i : ℕ) → takenRow inferring s i ≤ trancheCount s
+taken-small inferring s i =
+    at-cond (λ n. n ≤ trancheCount s) (not (ratedRow s i) && inferring && ltb (servingRow s i) (trancheCount s)) (servingRow s i + 1) 0
+    (λ e. omega (arith, ltb-true (servingRow s i) (trancheCount s) (both-true (not (ratedRow s i) && inferring) (ltb (servingRow s i) (trancheCount s)) e .1)))
+    (λ _. omega arith)
+
+-- and what it says is the row whose ratings count
+pub row-of-taken :
+    (d : Terms) (s : List ℕ) (i taken : ℕ) → taken ≡ takenRow (infersRatings d) s i → cond (eqb taken 0) i (taken - 1) ≡ ratingRow d s i
+unfolding ratingRow
+row-of-taken d s i taken is = rw is (by-test (infers d s i))
+  where
+    by-test : (b : Bool) → cond (eqb (cond b (servingRow s i + 1) 0) 0) i (cond b (servingRow s i + 1) 0 - 1) ≡ cond b (servingRow s i) i
+    by-test true = simp (ne-eqb (servingRow s i + 1) 0 (λ z. omega arith)) (omega arith)
+    by-test false = refl
+
+-- ---- the table of what is taken
+
+-- of the first n tranches
+pub record TakenTo (s taken : List ℕ) (n : ℕ) : Type 0 where
+  pub size : length taken ≡ 32
+  pub at-row : (i : ℕ) → i < n → getD taken i 0 ≡ takenRow true s i
+
+pub none-taken : (d : Terms) (s : List ℕ) → infersRatings d ≡ false → trancheCount s ≤ 32 → TakenRows d s (replicate 32 0)
+none-taken d s by few = record { at-row = λ i l. rw by (getD-replicate {A = ℕ} 32 i 0 0 (omega arith) ∙ sym (taken-none s i)) }
+
+pub taken-first : (s : List ℕ) → TakenTo s (replicate 32 0) 0
+taken-first s = record { size = length-replicate {A = ℕ} 32 0; at-row = λ i l. absurd (omega arith) }
+
+pub taken-next : (s taken : List ℕ) (i r : ℕ) → i < 32 → TakenTo s taken i → r ≡ takenRow true s i → TakenTo s (set taken i r) (i + 1)
+taken-next s taken i r few table is = record {
+  size = length-set taken i r ∙ table .size;
   at-row = λ k l.
       ⊎-elim
       (λ z.
       let same : k ≡ i = omega arith in
-      rw (same, getD-set-same rows i r 0 (omega (arith, table .size))) is)
-      (λ pos. rw (getD-set-other rows i k r 0 (λ same. omega arith)) (table .at-row k (omega arith)))
+      rw (same, getD-set-same taken i r 0 (omega (arith, table .size))) is)
+      (λ pos. rw (getD-set-other taken i k r 0 (λ same. omega arith)) (table .at-row k (omega arith)))
       (eq-zero-or-pos (i - k));
 }
+
+pub taken-all : (d : Terms) (s taken : List ℕ) → infersRatings d ≡ true → TakenTo s taken (trancheCount s) → TakenRows d s taken
+taken-all d s taken by table = record { at-row = λ i l. rw by (table .at-row i l) }

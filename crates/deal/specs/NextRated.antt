@@ -1,13 +1,14 @@
--- What the tables of rated rows and of the rows whose ratings count are, which the functions that take them need. No reader has to trust this file: `next_rated` and `rating_rows` (src/inferred.rt)
+-- What the tables of rated rows and of the rows whose ratings are taken are, which the functions that take them need. No reader has to trust this file: `next_rated` and `taken_rows` (src/inferred.rt)
 -- promise it of the tables that they make for every sheet whose words are good.
-use mathlib.Core.Bool.{true, false}
+use mathlib.Core.Bool.{Bool, true, false, cond, not, _&&_}
 use mathlib.Core.List.{List}
 use mathlib.Core.Path.{_≡_}
-use Prim.Native.Nat.{ℕ, _≤_, _<_}
+use Prim.Native.Nat.{ℕ, _+_, _≤_, _<_}
+use lib.Dec.{ltb}
 use lib.ListN.{length, getD}
 use Rattle.judgement.specs.DealSheet.{trancheCount}
 use Rattle.weights.specs.declared.Terms.{Terms}
-use Rattle.deal.specs.InferredRatings.{ratedRow, ratingRow}
+use Rattle.deal.specs.InferredRatings.{ratedRow, servingRow, infersRatings}
 
 -- r is the first rated row from row j on, and the number of tranches where there is none
 pub record FirstRatedFrom (s : List ℕ) (j r : ℕ) : Type 0 where
@@ -21,7 +22,10 @@ pub record NextRated (s next : List ℕ) (from : ℕ) : Type 0 where
   pub size : length next ≡ 33
   pub at-row : (j : ℕ) → from ≤ j → j ≤ trancheCount s → FirstRatedFrom s j (getD next j 0)
 
--- at each of the first n rows stands the row whose ratings count for its tranche
-pub record RatingRows (d : Terms) (s rows : List ℕ) (n : ℕ) : Type 0 where
-  pub size : length rows ≡ 32
-  pub at-row : (i : ℕ) → i < n → getD rows i 0 ≡ ratingRow d s i
+-- one more than the row whose ratings tranche i takes, in a deal that infers ratings or not, and 0 where its own count
+abbrev pub takenRow : Bool → List ℕ → ℕ → ℕ
+takenRow inferring s i = cond (not (ratedRow s i) && inferring && ltb (servingRow s i) (trancheCount s)) (servingRow s i + 1) 0
+
+-- at each tranche of a sheet stands what it takes
+pub record TakenRows (d : Terms) (s taken : List ℕ) : Type 0 where
+  pub at-row : (i : ℕ) → i < trancheCount s → getD taken i 0 ≡ takenRow (infersRatings d) s i

@@ -1,10 +1,13 @@
 // Whose ratings count for a tranche: its own, or those that it infers.
+ghost use mathlib.Core.Bool.{true, cond};
 ghost use mathlib.Core.Path.{_≡_};
-ghost use Prim.Native.Nat.{_<_};
+ghost use Prim.Native.Nat.{_-_, _≤_, _<_};
+ghost use lib.Dec.{eqb};
+ghost use lib.ListN.{length, getD};
 ghost use Rattle.judgement.specs.DealSheet.{trancheCount};
 ghost use Rattle.judgement.specs.LaidOut.{LaidOut};
-ghost use Rattle.deal.specs.InferredRatings.{servingRow, ratingRow};
-ghost use Rattle.deal.specs.NextRated.{NextRated, RatingRows};
+ghost use Rattle.deal.specs.InferredRatings.{servingRow, infersRatings};
+ghost use Rattle.deal.specs.NextRated.{NextRated, takenRow, TakenRows};
 use crate::tranches::tranche_word;
 use dates::maturity_months;
 use judgement::Layout;
@@ -15,13 +18,25 @@ use weights::Terms;
 // The places of the table of rated rows: one for each tranche, and one past the last. A row's number fits a byte, which keeps the tables small.
 const NEXT: usize = TRANCHES_MOST + 1;
 
-// For each row the first rated row from it on, and the number of tranches where there is none: so that a search passes over the unrated rows in one step. Filled from the
-// last row up.
-fn next_rated(s: &[u64], l: Layout) -> [u8; NEXT]
-    requires { ⌜ LaidOut (now s) l ⌝ }
-    ensures { λ r. ⌜ NextRated (now (s .entry)) r 0 ⌝ }
+// Whether ratings are inferred in the deal.
+fn infers_ratings(d: Terms) -> bool
+    ensures { λ r. ⌜ r ≡ infersRatings d ⌝ }
 {
-    let mut next = [0u8; NEXT];
+    if !d.diligence {
+        return false;
+    }
+    if d.resecuritisation {
+        return false;
+    }
+    !d.irba
+}
+
+// Fills a table that has for each row the first rated row from it on, and the number of tranches where there is none: so that a search passes over the unrated rows in one
+// step. Filled from the last row up.
+fn next_rated(s: &[u64], l: Layout, next: &mut [u8; NEXT])
+    requires { ⌜ LaidOut (now s) l × (length (now next) ≡ 33) ⌝ }
+    ensures { λ r. ⌜ NextRated (now (s .entry)) (now (next .exit)) 0 ⌝ }
+{
     let mut first = l.tranches;
     next[first as usize] = first as u8;
     let mut j = first;
@@ -36,7 +51,6 @@ fn next_rated(s: &[u64], l: Layout) -> [u8; NEXT]
         }
         next[j as usize] = first as u8;
     }
-    next
 }
 
 // The row whose ratings tranche i may take; the number of tranches where there is none. Classes never fall from row to row, so the first row that serves is the first of the
@@ -60,42 +74,49 @@ fn serving_row(s: &[u64], l: Layout, next: &[u8; NEXT], i: u64) -> u64
     tranches
 }
 
-// The row whose ratings count for tranche i: its own where the deal infers none, where it is rated, and where no row serves it.
-fn rating_row(s: &[u64], l: Layout, d: Terms, next: &[u8; NEXT], i: u64) -> u64
+// What tranche i takes, in a deal that infers ratings: one more than the row, and 0 where it takes none, being rated or with no row that serves it.
+fn taken_row(s: &[u64], l: Layout, next: &[u8; NEXT], i: u64) -> u64
     requires { ⌜ LaidOut (now s) l × NextRated (now s) (now next) 0 × (i < trancheCount (now s)) ⌝ }
-    ensures { λ r. ⌜ r ≡ ratingRow d (now (s .entry)) i ⌝ }
+    ensures { λ r. ⌜ r ≡ takenRow true (now (s .entry)) i ⌝ }
 {
-    if !d.diligence {
-        return i;
-    }
-    if d.resecuritisation {
-        return i;
-    }
-    if d.irba {
-        return i;
-    }
     if next[i as usize] as u64 == i {
-        return i;
+        return 0;
     }
     let row = serving_row(s, l, next, i);
     if row < l.tranches {
-        return row;
+        return row + 1;
     }
-    i
+    0
 }
 
-// For each tranche the row whose ratings count for it.
-pub(crate) fn rating_rows(s: &[u64], l: Layout, d: Terms) -> [u8; TRANCHES_MOST]
+// For each tranche one more than the row whose ratings it takes, and 0 where its own count: so a deal that infers none needs no more than zeros.
+pub(crate) fn taken_rows(s: &[u64], l: Layout, d: Terms) -> [u8; TRANCHES_MOST]
     requires { ⌜ LaidOut (now s) l ⌝ }
-    ensures { λ r. ⌜ RatingRows d (now (s .entry)) r (trancheCount (now (s .entry))) ⌝ }
+    ensures { λ r. ⌜ TakenRows d (now (s .entry)) r ⌝ }
 {
+    let mut taken = [0u8; TRANCHES_MOST];
+    if !infers_ratings(d) {
+        return taken;
+    }
+    let mut next = [0u8; NEXT];
+    next_rated(s, l, &mut next);
     let tranches = l.tranches;
-    let next = next_rated(s, l);
-    let mut rows = [0u8; TRANCHES_MOST];
     let mut i = 0;
     while i < tranches {
-        rows[i as usize] = rating_row(s, l, d, &next, i) as u8;
+        taken[i as usize] = taken_row(s, l, &next, i) as u8;
         i += 1;
     }
-    rows
+    taken
+}
+
+// The row whose ratings count for tranche i, by the table of what is taken.
+pub(crate) fn rating_row(taken: &[u8; TRANCHES_MOST], i: u64) -> u64
+    requires { ⌜ (i < 32) × (getD (now taken) i 0 ≤ 32) ⌝ }
+    ensures { λ r. ⌜ r ≡ cond (eqb (getD (now (taken .entry)) i 0) 0) i (getD (now (taken .entry)) i 0 - 1) ⌝ }
+{
+    let row = taken[i as usize] as u64;
+    if row == 0 {
+        return i;
+    }
+    row - 1
 }

@@ -89,12 +89,12 @@ fn weigh_pool(sheet: &[u64], l: Layout, sums: Sums, results: &mut [u64]) -> Answ
     }
     let terms = terms_of(l, sums);
     let points = tranches::class_points(sheet, l, sums.all.nominal);
-    let rows = inferred::rating_rows(sheet, l, terms);
-    let thickness = tranches::judge_thickness(sheet, l, terms, &points, &rows);
+    let taken = inferred::taken_rows(sheet, l, terms);
+    let thickness = tranches::judge_thickness(sheet, l, terms, &points, &taken);
     if let Verdict::Faulty(r) = thickness {
         return Answer::Refused(r);
     }
-    lines::write_lines(sheet, l, terms, &points, &rows, results);
+    lines::write_lines(sheet, l, terms, &points, &taken, results);
     Answer::Weighed {
         count,
         charge: terms.charge,

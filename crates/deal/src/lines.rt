@@ -9,7 +9,7 @@ ghost use Rattle.judgement.specs.DealSheet.{trancheCount};
 ghost use Rattle.judgement.specs.LaidOut.{LaidOut};
 ghost use Rattle.deal.specs.Lines.{terms, tranche, line, wordsOf};
 ghost use Rattle.deal.specs.ClassPoints.{ClassPoints};
-ghost use Rattle.deal.specs.NextRated.{RatingRows};
+ghost use Rattle.deal.specs.NextRated.{TakenRows};
 ghost use Rattle.deal.specs.Results.{lines};
 use crate::Line;
 use crate::tranches::POINTS;
@@ -43,13 +43,13 @@ fn line_of(
     l: Layout,
     d: Terms,
     points: &[u64; POINTS],
-    rows: &[u8; TRANCHES_MOST],
+    taken: &[u8; TRANCHES_MOST],
     i: u64,
 ) -> Line
-    requires { ⌜ LaidOut (now s) l × (d ≡ terms (now s)) × ClassPoints (now s) (now points) × RatingRows (terms (now s)) (now s) (now rows) (trancheCount (now s)) × (i < trancheCount (now s)) ⌝ }
+    requires { ⌜ LaidOut (now s) l × (d ≡ terms (now s)) × ClassPoints (now s) (now points) × TakenRows (terms (now s)) (now s) (now taken) × (i < trancheCount (now s)) ⌝ }
     ensures { λ r. ⌜ r ≡ line (tranche (now (s .entry)) i) (terms (now (s .entry))) ⌝ }
 {
-    let t = tranche_of(s, l, points, rows, i);
+    let t = tranche_of(s, l, points, taken, i);
     let w = weight(t, d);
     Line {
         approach: approach(t, d),
@@ -68,16 +68,16 @@ pub(crate) fn write_lines(
     l: Layout,
     d: Terms,
     points: &[u64; POINTS],
-    rows: &[u8; TRANCHES_MOST],
+    taken: &[u8; TRANCHES_MOST],
     results: &mut [u64],
 )
-    requires { ⌜ LaidOut (now s) l × (d ≡ terms (now s)) × ClassPoints (now s) (now points) × RatingRows (terms (now s)) (now s) (now rows) (trancheCount (now s)) × (lineSize * trancheCount (now s) ≤ length (now results)) ⌝ }
+    requires { ⌜ LaidOut (now s) l × (d ≡ terms (now s)) × ClassPoints (now s) (now points) × TakenRows (terms (now s)) (now s) (now taken) × (lineSize * trancheCount (now s) ≤ length (now results)) ⌝ }
     ensures { λ r. ⌜ now (results .exit) ≡ lines (now (s .entry)) (trancheCount (now (s .entry))) ++ drop (lineSize * trancheCount (now (s .entry))) (now (results .entry)) ⌝ }
 {
     let tranches = l.tranches;
     let mut i = 0;
     while i < tranches {
-        let line = line_of(s, l, d, points, rows, i);
+        let line = line_of(s, l, d, points, taken, i);
         put_line(line, LINE_SIZE * i as usize, &mut *results);
         i += 1;
     }

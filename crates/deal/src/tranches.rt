@@ -8,9 +8,10 @@ ghost use Rattle.pool.specs.PoolSums.{poolSums};
 ghost use Rattle.deal.specs.Points.{point};
 ghost use Rattle.deal.specs.Lines.{terms, tranche, riskWeightedAmount, capital};
 ghost use Rattle.deal.specs.ClassPoints.{ClassPoints};
-ghost use Rattle.deal.specs.NextRated.{RatingRows};
+ghost use Rattle.deal.specs.NextRated.{TakenRows};
 ghost use Rattle.judgement.specs.Refusals.{firstOf};
 ghost use Rattle.deal.specs.Refusals.{thinVerdict};
+use crate::inferred::rating_row;
 use dates::maturity_months;
 use judgement::Layout;
 use judgement::Refusal;
@@ -62,19 +63,19 @@ pub(crate) fn class_points(s: &[u64], l: Layout, nominal: u64) -> [u64; POINTS]
     points
 }
 
-// What is tranche i's own, with the ratings that count for it, which stand in the row that the table names; its maturity is in months, however the sheet states it.
+// What is tranche i's own, with the ratings that count for it, which stand in its own row or in the one that it takes them from; its maturity is in months, however the sheet states it.
 pub(crate) fn tranche_of(
     s: &[u64],
     l: Layout,
     points: &[u64; POINTS],
-    rows: &[u8; TRANCHES_MOST],
+    taken: &[u8; TRANCHES_MOST],
     i: u64,
 ) -> Tranche
-    requires { ⌜ LaidOut (now s) l × ClassPoints (now s) (now points) × RatingRows (terms (now s)) (now s) (now rows) (trancheCount (now s)) × (i < trancheCount (now s)) ⌝ }
+    requires { ⌜ LaidOut (now s) l × ClassPoints (now s) (now points) × TakenRows (terms (now s)) (now s) (now taken) × (i < trancheCount (now s)) ⌝ }
     ensures { λ r. ⌜ r ≡ tranche (now (s .entry)) i ⌝ }
 {
     let class = tranche_word(s, l, i, 1);
-    let row = rows[i as usize] as u64;
+    let row = rating_row(taken, i);
     Tranche {
         attachment: points[(class + 1) as usize],
         detachment: points[class as usize],
@@ -109,15 +110,15 @@ pub(crate) fn judge_thickness(
     l: Layout,
     d: Terms,
     points: &[u64; POINTS],
-    rows: &[u8; TRANCHES_MOST],
+    taken: &[u8; TRANCHES_MOST],
 ) -> Verdict
-    requires { ⌜ LaidOut (now s) l × (d ≡ terms (now s)) × ClassPoints (now s) (now points) × RatingRows (terms (now s)) (now s) (now rows) (trancheCount (now s)) ⌝ }
+    requires { ⌜ LaidOut (now s) l × (d ≡ terms (now s)) × ClassPoints (now s) (now points) × TakenRows (terms (now s)) (now s) (now taken) ⌝ }
     ensures { λ r. ⌜ r ≡ firstOf (λ i. thinVerdict (now (s .entry)) i) (trancheCount (now (s .entry))) ⌝ }
 {
     let tranches = l.tranches;
     let mut i = 0;
     while i < tranches {
-        if is_thin(tranche_of(s, l, points, rows, i), d) {
+        if is_thin(tranche_of(s, l, points, taken, i), d) {
             return Verdict::Faulty(Refusal {
                 number: 13,
                 place: l.first_tranche as u64 + TRANCHE_SIZE as u64 * i,

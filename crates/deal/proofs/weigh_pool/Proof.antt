@@ -13,7 +13,7 @@ use Rattle.judgement.proofs.SheetLimits.{tranches-counted, tranches-within}
 use Rattle.pool.proofs.PoolLaws.{sum-limits}
 use Rattle.weights.specs.declared.Terms.{Terms}
 use Rattle.deal.specs.Lines.{termsFor, terms}
-use Rattle.deal.specs.NextRated.{RatingRows}
+use Rattle.deal.specs.NextRated.{TakenRows}
 use Rattle.deal.proofs.TermsLaws.{irb-limits}
 use Rattle.deal.proofs.WeighSteps.{open-laid-out, open-terms, refused-for-room, decided-by-thickness, refused-answer, weighed-answer}
 use Rattle.deal.proofs.weigh_pool.Statement.{statement}
@@ -38,12 +38,12 @@ counted c = tranches-is _ _ (laid c)
 few : (c : tie.Start) → trancheCount (c .args .sheet .now) ≤ 32
 few c = tranches-within _ (tranches-counted _ (laid c .good)) .1
 
--- the rows whose ratings count are those by the sheet's terms
-rows-of :
-    (c : tie.Start) {d : Terms} {rows : List ℕ} → let s = c .args .sheet .now in
-    d ≡ termsFor (c .args .l) (c .args .sums) → RatingRows d s rows (trancheCount s) → RatingRows (terms s) s rows (trancheCount s)
-rows-of c {rows = rows} e table =
-    subst (λ (d : Terms). RatingRows d (c .args .sheet .now) rows (trancheCount (c .args .sheet .now))) (e ∙ open-terms _ _ _ (c .pre)) table
+-- what the tranches take is by the sheet's terms
+taken-of :
+    (c : tie.Start) {d : Terms} {taken : List ℕ} → let s = c .args .sheet .now in
+    d ≡ termsFor (c .args .l) (c .args .sums) → TakenRows d s taken → TakenRows (terms s) s taken
+taken-of c {taken = taken} e table =
+    subst (λ (d : Terms). TakenRows d (c .args .sheet .now) taken) (e ∙ open-terms _ _ _ (c .pre)) table
 
 mul-if1 : tie.Need-mul-if1
 mul-if1 c = let start = c .before .before in omega (arith, counted start, few start)
@@ -61,8 +61,8 @@ class-points-requires c κs =
     let start = c .before .before .before .before in
     (laid start, ap (λ (q : Sums). q .all .nominal) (start .pre .are-sums))
 
-rating-rows-requires : tie.Need-rating-rows-requires
-rating-rows-requires c κs = laid (c .before .before .before .before .before)
+taken-rows-requires : tie.Need-taken-rows-requires
+taken-rows-requires c κs = laid (c .before .before .before .before .before)
 
 judge-thickness-requires : tie.Need-judge-thickness-requires
 judge-thickness-requires c κs =
@@ -70,7 +70,7 @@ judge-thickness-requires c κs =
       laid start,
       c .before .before .before .before .terms-of .ensures ∙ open-terms _ _ _ (start .pre),
       c .before .before .before .class-points .ensures,
-      rows-of start (c .before .before .before .before .terms-of .ensures) (c .before .before .rating-rows .ensures),
+      taken-of start (c .before .before .before .before .terms-of .ensures) (c .before .before .taken-rows .ensures),
     )
 
 enum-known-thickness : tie.Need-enum-known-thickness
@@ -94,7 +94,7 @@ write-lines-requires c κs =
       laid start,
       c .before .before .before .before .before .before .before .before .before .before .terms-of .ensures ∙ open-terms _ _ _ (start .pre),
       c .before .before .before .before .before .before .before .before .before .class-points .ensures,
-      rows-of start (c .before .before .before .before .before .before .before .before .before .before .terms-of .ensures) (c .before .before .before .before .before .before .before .before .rating-rows .ensures),
+      taken-of start (c .before .before .before .before .before .before .before .before .before .before .terms-of .ensures) (c .before .before .before .before .before .before .before .before .taken-rows .ensures),
       omega (arith, room .if1 .left, counted start),
     )
 
@@ -121,7 +121,7 @@ weigh-pool-spec =
     returns
     terms-of-requires
     class-points-requires
-    rating-rows-requires
+    taken-rows-requires
     judge-thickness-requires
     enum-known-thickness
     returns-2

@@ -10,7 +10,7 @@ use Rattle.judgement.proofs.LayoutLaws.{tranches-is}
 use Rattle.judgement.proofs.SheetLimits.{tranches-counted, tranches-within}
 use Rattle.deal.specs.InferredRatings.{ratedRow}
 use Rattle.deal.specs.NextRated.{FirstRatedFrom, NextRated}
-use Rattle.deal.proofs.NextRatedLaws.{rated-past-last, rated-here, rated-later, none-filled, next-filled}
+use Rattle.deal.proofs.NextRatedLaws.{rated-past-last, rated-here, rated-later, last-filled, next-filled}
 use Rattle.deal.proofs.inferred.next_rated.Statement.{statement}
 use Rattle.deal.proofs.inferred.next_rated.Tie as tie
 
@@ -22,18 +22,20 @@ abbrev μ-loop : tie.MeasureT-loop
 
 -- the sheet's tranches are few, and the layout's number of them is the sheet's
 few : (c : tie.Start Inv-loop μ-loop) → (trancheCount (c .args .s .now) ≤ 32) × (c .args .l .tranches ≡ trancheCount (c .args .s .now))
-few c = (tranches-within _ (tranches-counted _ (c .pre .good)) .1, tranches-is _ _ (c .pre))
+few c = (tranches-within _ (tranches-counted _ (c .pre .0 .good)) .1, tranches-is _ _ (c .pre .0))
 
 cast-next : tie.Need-cast-next Inv-loop μ-loop
 cast-next c = omega (arith, few (c .before))
 
-array-write-next : tie.Need-array-write-next Inv-loop μ-loop
-array-write-next c = omega (arith, few (c .before))
+element-write-next : tie.Need-element-write-next Inv-loop μ-loop
+element-write-next c = omega (arith, few (c .before))
 
 loop-holds : tie.Need-loop-holds Inv-loop μ-loop
 loop-holds c =
-    let all = few (c .before) in
-    rw (all .1) (le-refl _, (none-filled (c .before .args .s .now) (all .0), rated-past-last (c .before .args .s .now)))
+    let start = c .before in
+    let all = few start in
+    rw (all .1)
+    (le-refl _, (last-filled (start .args .s .now) (start .args .next .now) (start .pre .1) (all .0), rated-past-last (start .args .s .now)))
 
 sub-j : tie.Need-sub-j Inv-loop μ-loop
 sub-j c = omega arith
@@ -43,13 +45,13 @@ row : (c : tie.In-loop Inv-loop μ-loop) → c .before .loop .j - 1 < trancheCou
 row c = omega (arith, c .before .loop .inv .0)
 
 tranche-word-requires : tie.Need-tranche-word-requires Inv-loop μ-loop
-tranche-word-requires c κs = (c .before .before .before .pre, row c, omega arith)
+tranche-word-requires c κs = (c .before .before .before .pre .0, row c, omega arith)
 
 tranche-word-requires-2 : tie.Need-tranche-word-requires-2 Inv-loop μ-loop
-tranche-word-requires-2 c κs = (c .before .before .before .before .pre, row (c .before), omega arith)
+tranche-word-requires-2 c κs = (c .before .before .before .before .pre .0, row (c .before), omega arith)
 
 tranche-word-requires-3 : tie.Need-tranche-word-requires-3 Inv-loop μ-loop
-tranche-word-requires-3 c κs = (c .before .before .before .before .before .pre, row (c .before .before), omega arith)
+tranche-word-requires-3 c κs = (c .before .before .before .before .before .pre .0, row (c .before .before), omega arith)
 
 any-present-requires : tie.Need-any-present-requires Inv-loop μ-loop
 any-present-requires c κs = search needs
@@ -79,8 +81,8 @@ first-from c =
 cast-next-2 : tie.Need-cast-next-2 Inv-loop μ-loop
 cast-next-2 c = omega (arith, first-from (c .before) .at-most, few (c .before .before .before .before .before .before .before .before .before))
 
-array-write-next-2 : tie.Need-array-write-next-2 Inv-loop μ-loop
-array-write-next-2 c = omega (arith, row (c .before .before .before .before .before .before), few (c .before .before .before .before .before .before .before .before .before))
+element-write-next-2 : tie.Need-element-write-next-2 Inv-loop μ-loop
+element-write-next-2 c = omega (arith, row (c .before .before .before .before .before .before), few (c .before .before .before .before .before .before .before .before .before))
 
 loop-less : tie.Need-loop-less Inv-loop μ-loop
 loop-less c = omega arith
@@ -109,7 +111,7 @@ next-rated-spec =
     Inv-loop
     μ-loop
     cast-next
-    array-write-next
+    element-write-next
     loop-holds
     sub-j
     tranche-word-requires
@@ -117,7 +119,7 @@ next-rated-spec =
     tranche-word-requires-3
     any-present-requires
     cast-next-2
-    array-write-next-2
+    element-write-next-2
     loop-less
     loop-again
     returns)

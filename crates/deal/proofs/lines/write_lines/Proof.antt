@@ -14,11 +14,11 @@ use Rattle.deal.proofs.lines.write_lines.Statement.{statement}
 use Rattle.deal.proofs.lines.write_lines.Tie as tie
 
 abbrev Inv-loop : tie.InvT-loop
-Inv-loop s l d points rows results₀ tranches i₀ results i =
+Inv-loop s l d points taken results₀ tranches i₀ results i =
     (i ≤ trancheCount s) × (results ≡ lines s i ++ drop (lineSize * i) results₀)
 
 abbrev μ-loop : tie.MeasureT-loop
-μ-loop s l d points rows results₀ tranches i₀ results i = tranches - i
+μ-loop s l d points taken results₀ tranches i₀ results i = tranches - i
 
 loop-holds : tie.Need-loop-holds Inv-loop μ-loop
 loop-holds c = (omega arith, lines-none _ _)

@@ -35,10 +35,10 @@ next-faulty s i place found before row place-is =
     (first-of-next (λ i. thinVerdict s i) i before ∙ rw (found, place-is)))
 
 abbrev Inv-loop : tie.InvT-loop
-Inv-loop s l d points rows tranches i₀ i = (i ≤ trancheCount s) × (firstOf (λ i. thinVerdict s i) i ≡ Sound)
+Inv-loop s l d points taken tranches i₀ i = (i ≤ trancheCount s) × (firstOf (λ i. thinVerdict s i) i ≡ Sound)
 
 abbrev μ-loop : tie.MeasureT-loop
-μ-loop s l d points rows tranches i₀ i = tranches - i
+μ-loop s l d points taken tranches i₀ i = tranches - i
 
 -- the turn's tranche is one of the sheet's
 row : (c : tie.In-loop Inv-loop μ-loop) → c .before .loop .i < trancheCount (c .before .before .before .args .s .now)

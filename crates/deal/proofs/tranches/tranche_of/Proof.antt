@@ -12,10 +12,11 @@ use Rattle.judgement.proofs.LayoutLaws.{reporting-date-is}
 use Rattle.judgement.proofs.SheetLimits.{tranches-counted, tranches-within, class-within}
 use Rattle.weights.specs.declared.Tranche.{Tranche}
 use Rattle.deal.specs.Points.{attachmentPoint, detachmentPoint}
-use Rattle.deal.specs.InferredRatings.{ratingRow}
+use Rattle.deal.specs.InferredRatings.{infersRatings, ratingRow}
 use Rattle.deal.specs.Lines.{terms, tranche}
 use Rattle.deal.specs.ClassPoints.{ClassPoints}
 use Rattle.deal.proofs.InferredLaws.{rating-row-within}
+use Rattle.deal.proofs.NextRatedLaws.{taken-small, row-of-taken}
 use Rattle.deal.proofs.tranches.tranche_of.Statement.{statement}
 use Rattle.deal.proofs.tranches.tranche_of.Tie as tie
 
@@ -62,35 +63,38 @@ class-low c =
     let start = c .before .before in
     omega (arith, c .tranche-word .ensures, class-within (start .args .s .now) (start .args .i) (start .pre .0 .good) (start .pre .3) .1, few start)
 
-element-copy-out-row : tie.Need-element-copy-out-row
-element-copy-out-row c = let start = c .before .before in omega (arith, start .pre .3, few start)
-
--- the row whose ratings count, which is one of the sheet's
-counting-row :
-    (c : tie.Start) → let s = c .args .s .now in
-    (getD (c .args .rows .now) (c .args .i) 0 ≡ ratingRow (terms s) s (c .args .i)) × (getD (c .args .rows .now) (c .args .i) 0 < trancheCount s)
-counting-row c =
+-- what the table has for the tranche: a number that fits a byte, and by it the row whose ratings count, which is one of the sheet's
+taken : (c : tie.Start) → getD (c .args .taken .now) (c .args .i) 0 ≤ 32
+taken c =
     let s = c .args .s .now in
-    let is = c .pre .2 .at-row (c .args .i) (c .pre .3) in
-    (is, omega (arith, is, rating-row-within s (c .args .i) (terms s) (c .pre .3)))
+    omega (arith, c .pre .2 .at-row (c .args .i) (c .pre .3), taken-small (infersRatings (terms s)) s (c .args .i), few c)
 
-cast-row : tie.Need-cast-row
-cast-row c = let start = c .before .before .before in omega (arith, counting-row start .1, few start)
+rating-row-requires : tie.Need-rating-row-requires
+rating-row-requires c κs = let start = c .before .before in (omega (arith, start .pre .3, few start), taken start)
 
-add-t12 : tie.Need-add-t12
-add-t12 c = omega (arith, class-low (c .before))
+counting-row :
+    (c : tie.After-rating-row) → let s = c .before .before .before .args .s .now in
+    (c .rating-row .result ≡ ratingRow (terms s) s (c .before .before .before .args .i)) × (c .rating-row .result < trancheCount s)
+counting-row c =
+    let start = c .before .before .before in
+    let s = start .args .s .now in
+    let is = c .rating-row .ensures ∙ row-of-taken (terms s) s (start .args .i) _ (start .pre .2 .at-row (start .args .i) (start .pre .3)) in
+    (is, omega (arith, is, rating-row-within s (start .args .i) (terms s) (start .pre .3)))
 
-mul-t13 : tie.Need-mul-t13
-mul-t13 c = omega (arith, class-low (c .before))
+add-t8 : tie.Need-add-t8
+add-t8 c = omega (arith, class-low (c .before))
 
-element-copy-out-t16 : tie.Need-element-copy-out-t16
-element-copy-out-t16 c = omega (arith, class-low (c .before))
+mul-t10 : tie.Need-mul-t10
+mul-t10 c = omega (arith, class-low (c .before))
 
-mul-t18 : tie.Need-mul-t18
-mul-t18 c = omega (arith, class-low (c .before .before))
+element-copy-out-t13 : tie.Need-element-copy-out-t13
+element-copy-out-t13 c = omega (arith, class-low (c .before))
 
-element-copy-out-t21 : tie.Need-element-copy-out-t21
-element-copy-out-t21 c = omega (arith, class-low (c .before .before))
+mul-t15 : tie.Need-mul-t15
+mul-t15 c = omega (arith, class-low (c .before .before))
+
+element-copy-out-t18 : tie.Need-element-copy-out-t18
+element-copy-out-t18 c = omega (arith, class-low (c .before .before))
 
 tranche-word-requires-2 : tie.Need-tranche-word-requires-2
 tranche-word-requires-2 c κs = search needs
@@ -111,19 +115,19 @@ tranche-word-requires-3 : tie.Need-tranche-word-requires-3
 tranche-word-requires-3 c κs = search needs
 
 tranche-word-requires-4 : tie.Need-tranche-word-requires-4
-tranche-word-requires-4 c κs = let start = c .before .before .before .before .before .before .before .before in (start .pre .0, counting-row start .1, omega arith)
+tranche-word-requires-4 c κs = (c .before .before .before .before .before .before .before .before .pre .0, counting-row (c .before .before .before .before .before) .1, omega arith)
 
 tranche-word-requires-5 : tie.Need-tranche-word-requires-5
-tranche-word-requires-5 c κs = let start = c .before .before .before .before .before .before .before .before .before in (start .pre .0, counting-row start .1, omega arith)
+tranche-word-requires-5 c κs = (c .before .before .before .before .before .before .before .before .before .pre .0, counting-row (c .before .before .before .before .before .before) .1, omega arith)
 
 tranche-word-requires-6 : tie.Need-tranche-word-requires-6
-tranche-word-requires-6 c κs = let start = c .before .before .before .before .before .before .before .before .before .before in (start .pre .0, counting-row start .1, omega arith)
+tranche-word-requires-6 c κs = (c .before .before .before .before .before .before .before .before .before .before .pre .0, counting-row (c .before .before .before .before .before .before .before) .1, omega arith)
 
 returns : tie.Need-returns
 returns c =
     let start = c .before .before .before .before .before .before .before .before .before .before .before in
     made (start .args .s .now) (start .args .i) _ _ _ _ _ _ _ (start .pre .1) (start .pre .3) (c .before .before .before .before .before .before .before .before .before .tranche-word .ensures)
-    (own-months (c .before .before .before .before)) (c .before .before .before .tranche-word3 .ensures) (counting-row start .0) (c .before .before .tranche-word4 .ensures)
+    (own-months (c .before .before .before .before)) (c .before .before .before .tranche-word3 .ensures) (counting-row (c .before .before .before .before .before .before .before .before) .0) (c .before .before .tranche-word4 .ensures)
     (c .before .tranche-word5 .ensures) (c .tranche-word6 .ensures)
 
 pub tranche-of-spec : {M : Type 1} → statement M
@@ -131,13 +135,12 @@ tranche-of-spec =
     tie.close
     (tie.spec
     tranche-word-requires
-    element-copy-out-row
-    cast-row
-    add-t12
-    mul-t13
-    element-copy-out-t16
-    mul-t18
-    element-copy-out-t21
+    rating-row-requires
+    add-t8
+    mul-t10
+    element-copy-out-t13
+    mul-t15
+    element-copy-out-t18
     tranche-word-requires-2
     maturity-months-requires
     tranche-word-requires-3
