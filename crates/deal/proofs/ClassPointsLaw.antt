@@ -41,12 +41,12 @@ pub record Filled (s : List ℕ) (N : ℕ) (points : List ℕ) (total j : ℕ) :
 whole-pool : (N : ℕ) → 0 < N → point N 0 ≡ 1000000
 whole-pool N pos = simp (sub-zero N, mul-div-cancel-left 1000000 pos)
 
-pub filled-none : (s : List ℕ) (N : ℕ) → 0 < N → Filled s N (replicate 34 1000000) 0 0
+pub filled-none : (s points : List ℕ) (N : ℕ) → points ≡ replicate 34 1000000 → 0 < N → Filled s N points 0 0
 unfolding sum
-filled-none s N pos = record {
-  size = length-replicate {A = ℕ} 34 1000000;
+filled-none s points N whole pos = record {
+  size = ap length whole ∙ length-replicate {A = ℕ} 34 1000000;
   total-is = refl;
-  at-first = λ c h. getD-replicate {A = ℕ} 34 c 1000000 0 (omega arith) ∙ sym (whole-pool N pos);
+  at-first = λ c h. rw whole (getD-replicate {A = ℕ} 34 c 1000000 0 (omega arith) ∙ sym (whole-pool N pos));
   at-class = λ i c l h. absurd (not-suc-le-zero l);
 }
 

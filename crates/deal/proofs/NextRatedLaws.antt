@@ -3,7 +3,7 @@
 use mathlib.Core.Bool.{Bool, true, false, cond, not, _&&_}
 use mathlib.Core.List.{List}
 use mathlib.Core.Logic.{⊎-elim}
-use mathlib.Core.Path.{_≡_, refl, sym, _∙_, subst}
+use mathlib.Core.Path.{_≡_, refl, sym, ap, _∙_}
 use Prim.Native.Nat.{ℕ, _+_, _-_, _≤_, _<_}
 use native.Mathlib.Nat.{eq-zero-or-pos, le-refl}
 use native.Mathlib.Omega.{arith}
@@ -135,11 +135,17 @@ pub record TakenTo (s taken : List ℕ) (n : ℕ) : Type 0 where
   pub size : length taken ≡ 32
   pub at-row : (i : ℕ) → i < n → getD taken i 0 ≡ takenRow true s i
 
-pub none-taken : (d : Terms) (s : List ℕ) → infersRatings d ≡ false → trancheCount s ≤ 32 → TakenRows d s (replicate 32 0)
-none-taken d s by few = record { at-row = λ i l. rw by (getD-replicate {A = ℕ} 32 i 0 0 (omega arith) ∙ sym (taken-none s i)) }
+pub none-taken :
+    (d : Terms) (s taken : List ℕ) → taken ≡ replicate 32 0 → infersRatings d ≡ false → trancheCount s ≤ 32 → TakenRows d s taken
+none-taken d s taken zeros by few = record {
+  at-row = λ i l. rw (by, zeros) (getD-replicate {A = ℕ} 32 i 0 0 (omega arith) ∙ sym (taken-none s i));
+}
 
-pub taken-first : (s : List ℕ) → TakenTo s (replicate 32 0) 0
-taken-first s = record { size = length-replicate {A = ℕ} 32 0; at-row = λ i l. absurd (omega arith) }
+pub taken-first : (s taken : List ℕ) → taken ≡ replicate 32 0 → TakenTo s taken 0
+taken-first s taken zeros = record {
+  size = ap length zeros ∙ length-replicate {A = ℕ} 32 0;
+  at-row = λ i l. absurd (omega arith);
+}
 
 pub taken-next : (s taken : List ℕ) (i r : ℕ) → i < 32 → TakenTo s taken i → r ≡ takenRow true s i → TakenTo s (set taken i r) (i + 1)
 taken-next s taken i r few table is = record {

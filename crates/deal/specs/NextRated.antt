@@ -1,5 +1,5 @@
--- What the tables of rated rows and of the rows whose ratings are taken are, which the functions that take them need. No reader has to trust this file: `next_rated` and `taken_rows` (src/inferred.rt)
--- promise it of the tables that they make for every sheet whose words are good.
+-- What the tables of rated rows and of the rows whose ratings are taken are, which the functions that take them need. No reader has to trust this file: `next_rated` and `take_rows` (src/inferred.rt)
+-- promise it of the tables that they fill for every sheet whose words are good.
 use mathlib.Core.Bool.{Bool, true, false, cond, not, _&&_}
 use mathlib.Core.List.{List}
 use mathlib.Core.Path.{_≡_}

@@ -3,7 +3,7 @@ ghost use mathlib.Core.Bool.{true, cond};
 ghost use mathlib.Core.Path.{_≡_};
 ghost use Prim.Native.Nat.{_-_, _≤_, _<_};
 ghost use lib.Dec.{eqb};
-ghost use lib.ListN.{length, getD};
+ghost use lib.ListN.{length, getD, replicate};
 ghost use Rattle.judgement.specs.DealSheet.{trancheCount};
 ghost use Rattle.judgement.specs.LaidOut.{LaidOut};
 ghost use Rattle.deal.specs.InferredRatings.{servingRow, infersRatings};
@@ -89,14 +89,14 @@ fn taken_row(s: &[u64], l: Layout, next: &[u8; NEXT], i: u64) -> u64
     0
 }
 
-// For each tranche one more than the row whose ratings it takes, and 0 where its own count: so a deal that infers none needs no more than zeros.
-pub(crate) fn taken_rows(s: &[u64], l: Layout, d: Terms) -> [u8; TRANCHES_MOST]
-    requires { ⌜ LaidOut (now s) l ⌝ }
-    ensures { λ r. ⌜ TakenRows d (now (s .entry)) r ⌝ }
+// Fills a table of zeros that has for each tranche one more than the row whose ratings it takes, and 0 where its own count: so a deal that infers none leaves it as it is.
+// Lent and not returned, so that its bytes are not copied as soon as they are written.
+pub(crate) fn take_rows(s: &[u64], l: Layout, d: Terms, taken: &mut [u8; TRANCHES_MOST])
+    requires { ⌜ LaidOut (now s) l × (now taken ≡ replicate 32 0) ⌝ }
+    ensures { λ r. ⌜ TakenRows d (now (s .entry)) (now (taken .exit)) ⌝ }
 {
-    let mut taken = [0u8; TRANCHES_MOST];
     if !infers_ratings(d) {
-        return taken;
+        return;
     }
     let mut next = [0u8; NEXT];
     next_rated(s, l, &mut next);
@@ -106,7 +106,6 @@ pub(crate) fn taken_rows(s: &[u64], l: Layout, d: Terms) -> [u8; TRANCHES_MOST]
         taken[i as usize] = taken_row(s, l, &next, i) as u8;
         i += 1;
     }
-    taken
 }
 
 // The row whose ratings count for tranche i, by the table of what is taken.

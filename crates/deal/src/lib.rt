@@ -12,6 +12,8 @@ mod inferred;
 mod lines;
 mod tranches;
 
+use crate::tranches::POINTS;
+use crate::tranches::WHOLE_POOL;
 use charge::Figures;
 use charge::Sums;
 use irba::IrbFigures;
@@ -19,6 +21,7 @@ use judgement::Layout;
 use judgement::Refusal;
 use judgement::Verdict;
 use limits::LINE_SIZE;
+use limits::TRANCHES_MOST;
 use pool::Pool;
 use weights::Terms;
 
@@ -88,8 +91,10 @@ fn weigh_pool(sheet: &[u64], l: Layout, sums: Sums, results: &mut [u64]) -> Answ
         });
     }
     let terms = terms_of(l, sums);
-    let points = tranches::class_points(sheet, l, sums.all.nominal);
-    let taken = inferred::taken_rows(sheet, l, terms);
+    let mut points = [WHOLE_POOL; POINTS];
+    tranches::class_points(sheet, l, sums.all.nominal, &mut points);
+    let mut taken = [0u8; TRANCHES_MOST];
+    inferred::take_rows(sheet, l, terms, &mut taken);
     let thickness = tranches::judge_thickness(sheet, l, terms, &points, &taken);
     if let Verdict::Faulty(r) = thickness {
         return Answer::Refused(r);

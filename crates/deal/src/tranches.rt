@@ -1,6 +1,7 @@
 // What is each tranche's own, the amounts for what is held, and refusal 13.
 ghost use mathlib.Core.Path.{_≡_};
 ghost use Prim.Native.Nat.{_+_, _≤_, _<_};
+ghost use lib.ListN.{replicate};
 ghost use Rattle.limits.specs.SheetSize.{trancheSize};
 ghost use Rattle.judgement.specs.DealSheet.{word, trancheCount, trancheAt};
 ghost use Rattle.judgement.specs.LaidOut.{LaidOut};
@@ -44,14 +45,17 @@ fn point(nominal: u64, amount: u64) -> u64
     excess(nominal, amount) * 1000000 / nominal
 }
 
-// The points between classes: at c, what is left of the pool beneath the tranches of a class below c, for c up to one more than the last class. So the
-// tranches of class c attach at c + 1 and detach at c. Classes rise by at most one from row to row, so one pass in the rows' order fills every place.
-pub(crate) fn class_points(s: &[u64], l: Layout, nominal: u64) -> [u64; POINTS]
-    requires { ⌜ LaidOut (now s) l × (nominal ≡ poolSums (now s) .all .nominal) ⌝ }
-    ensures { λ r. ⌜ ClassPoints (now (s .entry)) r ⌝ }
+// The point above all tranches: the whole pool, in millionths.
+pub(crate) const WHOLE_POOL: u64 = 1000000;
+
+// Fills the points between classes: at c, what is left of the pool beneath the tranches of a class below c, for c up to one more than the last class. So the
+// tranches of class c attach at c + 1 and detach at c. Classes rise by at most one from row to row, so one pass in the rows' order fills every place. Lent and not returned, so that
+// the table is not copied.
+pub(crate) fn class_points(s: &[u64], l: Layout, nominal: u64, points: &mut [u64; POINTS])
+    requires { ⌜ LaidOut (now s) l × (nominal ≡ poolSums (now s) .all .nominal) × (now points ≡ replicate 34 1000000) ⌝ }
+    ensures { λ r. ⌜ ClassPoints (now (s .entry)) (now (points .exit)) ⌝ }
 {
     let tranches = l.tranches;
-    let mut points = [1000000u64; POINTS];
     let mut sum = 0;
     let mut j = 0;
     while j < tranches {
@@ -60,7 +64,6 @@ pub(crate) fn class_points(s: &[u64], l: Layout, nominal: u64) -> [u64; POINTS]
         points[(class + 1) as usize] = point(nominal, sum);
         j += 1;
     }
-    points
 }
 
 // What is tranche i's own, with the ratings that count for it, which stand in its own row or in the one that it takes them from; its maturity is in months, however the sheet states it.

@@ -1,6 +1,6 @@
 -- `weigh_pool`: each refusal is the sheet's verdict and leaves the results; where there is none, the lines are written. No axioms.
 use mathlib.Core.List.{List}
-use mathlib.Core.Path.{_≡_, _∙_, ap, subst}
+use mathlib.Core.Path.{_≡_, refl, _∙_, ap, subst}
 use Prim.Native.Nat.{ℕ, _≤_}
 use native.Mathlib.Omega.{arith}
 use borrow.Author.Needs.{needs}
@@ -58,19 +58,19 @@ terms-of-requires c κs = let start = c .before .before .before in (limits start
 
 class-points-requires : tie.Need-class-points-requires
 class-points-requires c κs =
-    let start = c .before .before .before .before in
-    (laid start, ap (λ (q : Sums). q .all .nominal) (start .pre .are-sums))
+    let start = c .before .before .before .before .before in
+    (laid start, ap (λ (q : Sums). q .all .nominal) (start .pre .are-sums), refl)
 
-taken-rows-requires : tie.Need-taken-rows-requires
-taken-rows-requires c κs = laid (c .before .before .before .before .before)
+take-rows-requires : tie.Need-take-rows-requires
+take-rows-requires c κs = (laid (c .before .before .before .before .before .before .before), refl)
 
 judge-thickness-requires : tie.Need-judge-thickness-requires
 judge-thickness-requires c κs =
-    let start = c .before .before .before .before .before .before .before .before in (
+    let start = c .before .before .before .before .before .before .before .before .before .before in (
       laid start,
-      c .before .before .before .before .terms-of .ensures ∙ open-terms _ _ _ (start .pre),
-      c .before .before .before .class-points .ensures,
-      taken-of start (c .before .before .before .before .terms-of .ensures) (c .before .before .taken-rows .ensures),
+      c .before .before .before .before .before .before .terms-of .ensures ∙ open-terms _ _ _ (start .pre),
+      c .before .before .before .before .class-points .ensures,
+      taken-of start (c .before .before .before .before .before .before .terms-of .ensures) (c .before .before .take-rows .ensures),
     )
 
 enum-known-thickness : tie.Need-enum-known-thickness
@@ -78,8 +78,8 @@ enum-known-thickness c = search needs
 
 returns-2 : tie.Need-returns-2
 returns-2 c =
-    let start = c .before .before .before .before .before .before .before .before .before .before .before .before in
-    let room = c .before .before .before .before .before .before .before .before .before in
+    let start = c .before .before .before .before .before .before .before .before .before .before .before .before .before .before in
+    let room = c .before .before .before .before .before .before .before .before .before .before .before in
     refused-answer _ _
     (decided-by-thickness _ _ (start .pre .sound) (omega (arith, room .if1 .left, counted start)) (c .before .before .before .judge-thickness .ensures) ∙
     c .before .thickness .given .1)
@@ -89,12 +89,12 @@ enum-told c = search needs
 
 write-lines-requires : tie.Need-write-lines-requires
 write-lines-requires c κs =
-    let start = c .before .before .before .before .before .before .before .before .before .before .before .before .before .before in
-    let room = c .before .before .before .before .before .before .before .before .before .before .before in (
+    let start = c .before .before .before .before .before .before .before .before .before .before .before .before .before .before .before .before in
+    let room = c .before .before .before .before .before .before .before .before .before .before .before .before .before in (
       laid start,
-      c .before .before .before .before .before .before .before .before .before .before .terms-of .ensures ∙ open-terms _ _ _ (start .pre),
-      c .before .before .before .before .before .before .before .before .before .class-points .ensures,
-      taken-of start (c .before .before .before .before .before .before .before .before .before .before .terms-of .ensures) (c .before .before .before .before .before .before .before .before .taken-rows .ensures),
+      c .before .before .before .before .before .before .before .before .before .before .before .before .terms-of .ensures ∙ open-terms _ _ _ (start .pre),
+      c .before .before .before .before .before .before .before .before .before .before .class-points .ensures,
+      taken-of start (c .before .before .before .before .before .before .before .before .before .before .before .before .terms-of .ensures) (c .before .before .before .before .before .before .before .before .take-rows .ensures),
       omega (arith, room .if1 .left, counted start),
     )
 
@@ -104,13 +104,13 @@ same-length c = search needs
 returns-3 : tie.Need-returns-3
 returns-3 c =
     let thickness = c .before .before .before .before .before .before in
-    let start = c .before .before .before .before .before .before .before .before .before .before .before .before .before .before .before .before .before in
-    let room = c .before .before .before .before .before .before .before .before .before .before .before .before .before .before in
+    let start = c .before .before .before .before .before .before .before .before .before .before .before .before .before .before .before .before .before .before .before in
+    let room = c .before .before .before .before .before .before .before .before .before .before .before .before .before .before .before .before in
     weighed-answer _ _
     (decided-by-thickness _ _ (start .pre .sound) (omega (arith, room .if1 .left, counted start)) (thickness .before .before .judge-thickness .ensures) ∙
     thickness .enum-told .given .1)
     (counted start)
-    (ap (λ (d : Terms). d .charge) (c .before .before .before .before .before .before .before .before .before .before .before .before .before .terms-of .ensures ∙ open-terms _ _ _ (start .pre)))
+    (ap (λ (d : Terms). d .charge) (c .before .before .before .before .before .before .before .before .before .before .before .before .before .before .before .terms-of .ensures ∙ open-terms _ _ _ (start .pre)))
     (c .before .before .write-lines .ensures)
 
 pub weigh-pool-spec : {M : Type 1} → statement M
@@ -121,7 +121,7 @@ weigh-pool-spec =
     returns
     terms-of-requires
     class-points-requires
-    taken-rows-requires
+    take-rows-requires
     judge-thickness-requires
     enum-known-thickness
     returns-2

@@ -13,10 +13,10 @@ use Rattle.deal.proofs.tranches.class_points.Statement.{statement}
 use Rattle.deal.proofs.tranches.class_points.Tie as tie
 
 abbrev Inv-loop : tie.InvT-loop
-Inv-loop s l nominal tranches points₀ sum₀ j₀ points sum j = (j ≤ trancheCount s) × Filled s nominal points sum j
+Inv-loop s l nominal points₀ tranches sum₀ j₀ points sum j = (j ≤ trancheCount s) × Filled s nominal points sum j
 
 abbrev μ-loop : tie.MeasureT-loop
-μ-loop s l nominal tranches points₀ sum₀ j₀ points sum j = tranches - j
+μ-loop s l nominal points₀ tranches sum₀ j₀ points sum j = tranches - j
 
 -- the pool's nominal is at least 1 and at most 10^13
 nominal-limits : (c : tie.Start Inv-loop μ-loop) → (0 < c .args .nominal) × (c .args .nominal ≤ 10000000000000)
@@ -25,7 +25,7 @@ nominal-limits c =
     (omega (arith, c .pre .1, limits), omega (arith, c .pre .1, limits))
 
 loop-holds : tie.Need-loop-holds Inv-loop μ-loop
-loop-holds c = (omega arith, filled-none _ _ (nominal-limits (c .before) .0))
+loop-holds c = (omega arith, filled-none _ _ _ (c .before .pre .2) (nominal-limits (c .before) .0))
 
 -- the turn's tranche is one of the sheet's
 row : (c : tie.In-loop Inv-loop μ-loop) → c .before .loop .j < trancheCount (c .before .before .before .args .s .now)
@@ -88,8 +88,8 @@ add-points c = omega (arith, class-low (c .before .before))
 mul-points : tie.Need-mul-points Inv-loop μ-loop
 mul-points c = omega (arith, class-low (c .before .before))
 
-array-write-points : tie.Need-array-write-points Inv-loop μ-loop
-array-write-points c = omega (arith, class-low (c .before .before))
+element-write-points : tie.Need-element-write-points Inv-loop μ-loop
+element-write-points c = omega (arith, class-low (c .before .before))
 
 add-j : tie.Need-add-j Inv-loop μ-loop
 add-j c =
@@ -128,7 +128,7 @@ class-points-spec =
     point-requires
     add-points
     mul-points
-    array-write-points
+    element-write-points
     add-j
     loop-less
     loop-again

@@ -1,4 +1,4 @@
--- `taken_rows`: zeros where the deal infers none; else after i turns the table has what the first i tranches take, which fits a byte. The measure is what is left of the tranches. No axioms.
+-- `take_rows`: zeros are left where the deal infers none; else after i turns the table has what the first i tranches take, which fits a byte. The measure is what is left of the tranches. No axioms.
 use mathlib.Core.Path.{_≡_, refl, sym, _∙_}
 use Prim.Native.Nat.{_-_, _≤_, _<_}
 use native.Mathlib.Omega.{arith}
@@ -9,8 +9,8 @@ use Rattle.judgement.specs.DealSheet.{trancheCount}
 use Rattle.judgement.proofs.LayoutLaws.{tranches-is}
 use Rattle.judgement.proofs.SheetLimits.{tranches-counted, tranches-within}
 use Rattle.deal.proofs.NextRatedLaws.{TakenTo, none-taken, taken-first, taken-next, taken-all, taken-small}
-use Rattle.deal.proofs.inferred.taken_rows.Statement.{statement}
-use Rattle.deal.proofs.inferred.taken_rows.Tie as tie
+use Rattle.deal.proofs.inferred.take_rows.Statement.{statement}
+use Rattle.deal.proofs.inferred.take_rows.Tie as tie
 
 abbrev Inv-loop : tie.InvT-loop
 Inv-loop s l taken₀ next tranches i₀ taken i = (i ≤ trancheCount s) × TakenTo s taken i
@@ -20,7 +20,7 @@ abbrev μ-loop : tie.MeasureT-loop
 
 -- the sheet's tranches are few
 few : (c : tie.Start Inv-loop μ-loop) → trancheCount (c .args .s .now) ≤ 32
-few c = tranches-within _ (tranches-counted _ (c .pre .good)) .1
+few c = tranches-within _ (tranches-counted _ (c .pre .0 .good)) .1
 
 infers-ratings-requires : tie.Need-infers-ratings-requires Inv-loop μ-loop
 infers-ratings-requires c κs = search needs
@@ -29,28 +29,28 @@ returns : tie.Need-returns Inv-loop μ-loop
 returns c =
     let start = c .before .before .before in
     let none = sym (c .before .infers-ratings .ensures) ∙ not-true (c .before .infers-ratings .result) (c .if1 .taken) in
-    none-taken (start .args .d) (start .args .s .now) none (few start)
+    none-taken (start .args .d) (start .args .s .now) _ (start .pre .1) none (few start)
 
 next-rated-requires : tie.Need-next-rated-requires Inv-loop μ-loop
-next-rated-requires c κs = (c .before .before .before .before .pre, refl)
+next-rated-requires c κs = (c .before .before .before .before .pre .0, refl)
 
 loop-holds : tie.Need-loop-holds Inv-loop μ-loop
-loop-holds c = (omega arith, taken-first _)
+loop-holds c = let start = c .before .before .before .before .before in (omega arith, taken-first (start .args .s .now) (start .args .taken .now) (start .pre .1))
 
 -- the turn's tranche is one of the sheet's
 row : (c : tie.In-loop Inv-loop μ-loop) → c .before .loop .i < trancheCount (c .before .before .before .before .before .before .before .args .s .now)
-row c = omega (arith, tranches-is _ _ (c .before .before .before .before .before .before .before .pre))
+row c = omega (arith, tranches-is _ _ (c .before .before .before .before .before .before .before .pre .0))
 
 taken-row-requires : tie.Need-taken-row-requires Inv-loop μ-loop
-taken-row-requires c κs = (c .before .before .before .before .before .before .before .before .pre, c .before .before .before .next-rated .ensures, row (c .before))
+taken-row-requires c κs = (c .before .before .before .before .before .before .before .before .pre .0, c .before .before .before .next-rated .ensures, row (c .before))
 
 cast-taken : tie.Need-cast-taken Inv-loop μ-loop
 cast-taken c =
     let start = c .before .before .before .before .before .before .before .before .before in
     omega (arith, c .taken-row .ensures, taken-small true (start .args .s .now) (c .before .before .before .loop .i), few start)
 
-array-write-taken : tie.Need-array-write-taken Inv-loop μ-loop
-array-write-taken c = omega (arith, row (c .before .before), few (c .before .before .before .before .before .before .before .before .before))
+element-write-taken : tie.Need-element-write-taken Inv-loop μ-loop
+element-write-taken c = omega (arith, row (c .before .before), few (c .before .before .before .before .before .before .before .before .before))
 
 add-i : tie.Need-add-i Inv-loop μ-loop
 add-i c = omega (arith, row (c .before .before), few (c .before .before .before .before .before .before .before .before .before))
@@ -68,12 +68,12 @@ loop-again c =
 returns-2 : tie.Need-returns-2 Inv-loop μ-loop
 returns-2 c =
     let start = c .before .before .before .before .before .before .before in
-    let all : c .before .loop .i ≡ trancheCount (start .args .s .now) = omega (arith, tranches-is _ _ (start .pre)) in
+    let all : c .before .loop .i ≡ trancheCount (start .args .s .now) = omega (arith, tranches-is _ _ (start .pre .0)) in
     let by = sym (c .before .before .before .before .before .infers-ratings .ensures) ∙ not-false (c .before .before .before .before .before .infers-ratings .result) (c .before .before .before .before .if1 .left) in
     taken-all (start .args .d) (start .args .s .now) (c .before .loop .taken) by (rw all at (c .before .loop .inv .1))
 
-pub taken-rows-spec : {M : Type 1} → statement M
-taken-rows-spec =
+pub take-rows-spec : {M : Type 1} → statement M
+take-rows-spec =
     tie.close
     (tie.spec
     Inv-loop
@@ -84,7 +84,7 @@ taken-rows-spec =
     loop-holds
     taken-row-requires
     cast-taken
-    array-write-taken
+    element-write-taken
     add-i
     loop-less
     loop-again
