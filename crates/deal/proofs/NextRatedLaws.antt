@@ -16,7 +16,7 @@ use Rattle.judgement.specs.DealSheet.{trancheCount}
 use Rattle.weights.specs.declared.Terms.{Terms}
 use Rattle.deal.specs.InferredRatings.{ratedRow, serves, servingRow, infersRatings, infers, ratingRow}
 use Rattle.deal.specs.NextRated.{FirstRatedFrom, NextRated, takenRow, TakenRows}
-use Rattle.deal.proofs.InferredLaws.{and-false, unrated-serves-none}
+use Rattle.deal.proofs.InferredLaws.{and-false, unrated-serves-none, none-serving}
 
 -- ---- the first rated row from a row on
 
@@ -101,8 +101,8 @@ passed-over s i j r first before k l =
 pub taken-none-rated : (s : List ℕ) (i : ℕ) → ratedRow s i ≡ true → takenRow true s i ≡ 0
 taken-none-rated s i e = rw e
 
-pub taken-none-served : (s : List ℕ) (i : ℕ) → trancheCount s ≤ servingRow s i → takenRow true s i ≡ 0
-taken-none-served s i none = simp (le-ltb (servingRow s i) (trancheCount s) none, and-false)
+pub taken-none-served : (inferring : Bool) (s : List ℕ) (i : ℕ) → trancheCount s ≤ servingRow s i → takenRow inferring s i ≡ 0
+taken-none-served inferring s i none = simp (le-ltb (servingRow s i) (trancheCount s) none, and-false)
 
 pub taken-found : (s : List ℕ) (i : ℕ) → ratedRow s i ≡ false → servingRow s i < trancheCount s → takenRow true s i ≡ servingRow s i + 1
 taken-found s i unrated found = simp (unrated, lt-ltb (servingRow s i) (trancheCount s) found)
@@ -139,6 +139,16 @@ pub none-taken :
     (d : Terms) (s taken : List ℕ) → taken ≡ replicate 32 0 → infersRatings d ≡ false → trancheCount s ≤ 32 → TakenRows d s taken
 none-taken d s taken zeros by few = record {
   at-row = λ i l. rw (by, zeros) (getD-replicate {A = ℕ} 32 i 0 0 (omega arith) ∙ sym (taken-none s i));
+}
+
+-- or where no tranche is rated
+pub none-to-take :
+    (d : Terms) (s taken : List ℕ) (r : ℕ) → taken ≡ replicate 32 0 → FirstRatedFrom s 0 r → r ≡ trancheCount s → trancheCount s ≤ 32 → TakenRows d s taken
+none-to-take d s taken r zeros first none few = record {
+  at-row = λ i l.
+      let served = passed-over s i 0 r first (λ k h. absurd (omega arith)) in
+      let nothing = none-serving s i (λ k h. served k (omega (arith, none))) in
+      rw zeros (getD-replicate {A = ℕ} 32 i 0 0 (omega arith) ∙ sym (taken-none-served (infersRatings d) s i (omega (arith, nothing))));
 }
 
 pub taken-first : (s taken : List ℕ) → taken ≡ replicate 32 0 → TakenTo s taken 0

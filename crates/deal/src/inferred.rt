@@ -89,7 +89,7 @@ fn taken_row(s: &[u64], l: Layout, next: &[u8; NEXT], i: u64) -> u64
     0
 }
 
-// Fills a table of zeros that has for each tranche one more than the row whose ratings it takes, and 0 where its own count: so a deal that infers none leaves it as it is.
+// Fills a table of zeros that has for each tranche one more than the row whose ratings it takes, and 0 where its own count: so a deal that infers none, or has no rating, leaves it as it is.
 // Lent and not returned, so that its bytes are not copied as soon as they are written.
 pub(crate) fn take_rows(s: &[u64], l: Layout, d: Terms, taken: &mut [u8; TRANCHES_MOST])
     requires { ⌜ LaidOut (now s) l × (now taken ≡ replicate 32 0) ⌝ }
@@ -101,6 +101,9 @@ pub(crate) fn take_rows(s: &[u64], l: Layout, d: Terms, taken: &mut [u8; TRANCHE
     let mut next = [0u8; NEXT];
     next_rated(s, l, &mut next);
     let tranches = l.tranches;
+    if next[0] as u64 == tranches {
+        return;
+    }
     let mut i = 0;
     while i < tranches {
         taken[i as usize] = taken_row(s, l, &next, i) as u8;

@@ -1,4 +1,5 @@
 -- `taken_row`: the table has a rated row at itself and an unrated one at a later one. No axioms.
+use mathlib.Core.Bool.{true}
 use mathlib.Core.Path.{_≡_, sym, ap, _∙_}
 use Prim.Native.Nat.{ℕ, _+_, _≤_, _<_}
 use native.Mathlib.Omega.{arith}
@@ -54,7 +55,7 @@ returns-3 : tie.Need-returns-3
 returns-3 c =
     let start = c .before .before .before .before .before .before in
     sym
-    (taken-none-served (start .args .s .now) (start .args .i)
+    (taken-none-served true (start .args .s .now) (start .args .i)
     (omega (arith, c .if2 .left, c .before .before .serving-row .ensures, tranches-is _ _ (start .pre .0))))
 
 pub taken-row-spec : {M : Type 1} → statement M
