@@ -1,5 +1,5 @@
--- Which ratings a tranche's line depends on: two accepted sheets that are the same but for ratings of tranches of a senior class give it the same words; and where it infers none, so do two
--- that are the same but for all other tranches' ratings. No axioms.
+-- Which ratings a tranche's line depends on: two accepted sheets that are the same but for ratings of tranches of a senior class give it the same words; and where it is rated or its deal infers no
+-- rating, so do two that are the same but for other tranches' ratings. No axioms.
 use mathlib.Core.Bool.{Bool, true, false, not, _&&_}
 use mathlib.Core.List.{List}
 use mathlib.Core.Logic.{⊎-elim}
@@ -13,20 +13,20 @@ use Rattle.judgement.specs.DealSheet.{word, poolKind, reportingDate, poolAt, ro
 use Rattle.pool.specs.PoolSums.{poolSums}
 use Rattle.pool.proofs.SameSums.{same-sums-in-order}
 use Rattle.weights.specs.declared.Terms.{Terms}
-use Rattle.deal.specs.InferredRatings.{ratedRow, serves, servingRow, infersRatings, ratingRow}
+use Rattle.deal.specs.InferredRatings.{ratedRow, isReference, referenceRow, infersRatings, ratingRow}
 use Rattle.deal.specs.Lines.{terms, tranche, lineWords}
 use Rattle.judgement.specs.Refusals.{judged}
 use Rattle.deal.specs.Refusals.{verdict}
 use Rattle.deal.specs.Results.{resultsAfter}
-use Rattle.deal.specs.OtherRatings.{SameButRatings, SeniorTo, OtherThan, NoneInferred, is-rated, in-resecuritisation, under-irba, without-diligence}
+use Rattle.deal.specs.OtherRatings.{SameButRatings, SeniorTo, OtherThan, OwnRatingsOnly, SameLine, is-rated, in-resecuritisation, under-irba, without-diligence}
 use Rattle.judgement.specs.declared.Verdict.the-variants.{Sound}
 use Rattle.judgement.proofs.NeededLaws.{pool-at-least, tranches-at-past-rows, irb-at-past-tranches}
 use Rattle.judgement.proofs.SameLayout.{SameCounts, same-counts, same-irb-at, SameFacts, same-facts, same-irb-figures, same-reporting-date}
 use Rattle.judgement.proofs.SheetLimits.{facts-counted, pool-at-within}
-use Rattle.deal.proofs.InferredLaws.{none-without-diligence, none-in-resecuritisation, none-under-irba, senior-serves-none, kept-where-rated, kept-without-inference, rating-row-junior}
+use Rattle.deal.proofs.InferredLaws.{none-without-diligence, none-in-resecuritisation, none-under-irba, senior-no-reference, kept-where-rated, kept-without-inference, rating-row-junior}
 use Rattle.deal.proofs.JudgedLaws.{accepted-judged}
 use Rattle.deal.proofs.LineLaws.{results-line}
-use Rattle.deal.proofs.SameTerms.{same-terms, same-months, same-tranche, same-serving-row, same-rating-row}
+use Rattle.deal.proofs.SameTerms.{same-terms, same-months, same-tranche, same-reference-row, same-rating-row}
 
 -- ---- two sheets that are the same but for rating words of some tranches: no rating stands before the tranches, or in the first four columns of a tranche
 
@@ -98,11 +98,11 @@ module _ (s s′ : List ℕ) (some : ℕ → Type 0) (same : SameButRatings s s�
         row
         (λ c past column. same-rating (ratingRow (terms s) s i) c other column)
 
--- ---- ratings of a senior class: what serves a tranche is of its own or a junior class, so the same rows serve it
+-- ---- ratings of a senior class: a tranche's references are of its own or a junior class, so they are the same
 
 module _ (s s′ : List ℕ) (i : ℕ) (same : SameButRatings s s′ (SeniorTo s i)) (good : judged s (needed s) ≡ Sound) (l : i < trancheCount s) where
-  same-served : (j : ℕ) → serves s′ i j ≡ serves s i j
-  same-served j =
+  same-references : (j : ℕ) → isReference s′ i j ≡ isReference s i j
+  same-references j =
       ⊎-elim
       (λ e.
       rw (
@@ -115,7 +115,7 @@ module _ (s s′ : List ℕ) (i : ℕ) (same : SameButRatings s s′ (SeniorTo s
       (λ pos.
       let senior : class s j < class s i = omega arith in
       let senior′ : class s′ j < class s′ i = omega (arith, same-class s s′ (SeniorTo s i) same i, same-class s s′ (SeniorTo s i) same j) in
-      senior-serves-none s′ i j senior′ ∙ sym (senior-serves-none s i j senior))
+      senior-no-reference s′ i j senior′ ∙ sym (senior-no-reference s i j senior))
       (eq-zero-or-pos (class s i - class s j))
 
   pub tranche-apart-from-senior-ratings : tranche s′ i ≡ tranche s i
@@ -124,42 +124,35 @@ module _ (s s′ : List ℕ) (i : ℕ) (same : SameButRatings s s′ (SeniorTo s
       (same-rating-row s s′ i (ratings-count s s′ (SeniorTo s i) same) l (terms s) (terms s′)
       (ap infersRatings (ratings-terms s s′ (SeniorTo s i) same good))
       (same-rated s s′ (SeniorTo s i) same i (λ senior. omega arith))
-      (same-serving-row s s′ i (ratings-count s s′ (SeniorTo s i) same) l
+      (same-reference-row s s′ i (ratings-count s s′ (SeniorTo s i) same) l
       (λ j among. same-class s s′ (SeniorTo s i) same j)
-      (λ j among. same-served j)))
+      (λ j among. same-references j)))
       (λ senior. omega (arith, rating-row-junior s i (terms s)))
 
--- ---- other tranches' ratings, where the tranche infers none: its own ratings count in both sheets
+-- ---- other tranches' ratings, where the tranche is rated or its deal infers no rating: its own ratings count in both sheets
 
-none-inferred-by : (s : List ℕ) (i : ℕ) → NoneInferred s i → ratingRow (terms s) s i ≡ i
-none-inferred-by s i (is-rated e) = kept-where-rated s i (terms s) e
-none-inferred-by s i (in-resecuritisation e) = kept-without-inference s i (terms s) (none-in-resecuritisation (terms s) e)
-none-inferred-by s i (under-irba e) = kept-without-inference s i (terms s) (none-under-irba (terms s) e)
-none-inferred-by s i (without-diligence e) = kept-without-inference s i (terms s) (none-without-diligence (terms s) e)
+own-row-counts : (s : List ℕ) (i : ℕ) → OwnRatingsOnly s i → ratingRow (terms s) s i ≡ i
+own-row-counts s i (is-rated e) = kept-where-rated s i (terms s) e
+own-row-counts s i (in-resecuritisation e) = kept-without-inference s i (terms s) (none-in-resecuritisation (terms s) e)
+own-row-counts s i (under-irba e) = kept-without-inference s i (terms s) (none-under-irba (terms s) e)
+own-row-counts s i (without-diligence e) = kept-without-inference s i (terms s) (none-without-diligence (terms s) e)
 
 module _ (s s′ : List ℕ) (i : ℕ) (same : SameButRatings s s′ (OtherThan i)) (good : judged s (needed s) ≡ Sound) (l : i < trancheCount s) where
   -- the reason holds of both sheets
-  same-reason : NoneInferred s i → NoneInferred s′ i
+  same-reason : OwnRatingsOnly s i → OwnRatingsOnly s′ i
   same-reason (is-rated e) = is-rated (same-rated s s′ (OtherThan i) same i (λ other. other refl) ∙ e)
   same-reason (in-resecuritisation e) = in-resecuritisation (ap (λ (d : Terms). d .resecuritisation) (ratings-terms s s′ (OtherThan i) same good) ∙ e)
   same-reason (under-irba e) = under-irba (ap (λ (d : Terms). d .irba) (ratings-terms s s′ (OtherThan i) same good) ∙ e)
   same-reason (without-diligence e) = without-diligence (ap (λ (d : Terms). d .diligence) (ratings-terms s s′ (OtherThan i) same good) ∙ e)
 
-  pub tranche-apart-from-other-ratings : NoneInferred s i → tranche s′ i ≡ tranche s i
+  pub tranche-apart-from-other-ratings : OwnRatingsOnly s i → tranche s′ i ≡ tranche s i
   tranche-apart-from-other-ratings none =
-      let own = none-inferred-by s i none in
+      let own = own-row-counts s i none in
       ratings-tranche s s′ (OtherThan i) same good i l
-      (none-inferred-by s′ i (same-reason none) ∙ sym own)
+      (own-row-counts s′ i (same-reason none) ∙ sym own)
       (λ other. other own)
 
 -- ---- the theorem
-
-pub record SameLine (s s′ : List ℕ) (i room : ℕ) : Type 0 where
-  pub same-count : trancheCount s′ ≡ trancheCount s
-  pub same-terms : terms s′ ≡ terms s
-  pub same-line : lineWords (tranche s′ i) (terms s′) ≡ lineWords (tranche s i) (terms s)
-  pub same-results : (old : List ℕ) → length old ≡ room → (c : ℕ) → c < lineSize →
-      getD (resultsAfter s′ old) (lineSize * i + c) 0 ≡ getD (resultsAfter s old) (lineSize * i + c) 0
 
 -- two sheets with the same terms and the same tranche
 same-line-of :
@@ -187,11 +180,11 @@ line-apart-from-senior-ratings s s′ i room e e′ same l =
     same-line-of s s′ i room e e′ l (ratings-count s s′ (SeniorTo s i) same) (ratings-terms s s′ (SeniorTo s i) same good)
     (tranche-apart-from-senior-ratings s s′ i same good l)
 
--- where the tranche infers none, no other tranche's ratings matter
+-- where the tranche is rated, or its deal infers no rating, no other tranche's ratings matter
 pub line-apart-from-other-ratings :
-    (s s′ : List ℕ) (i room : ℕ) → verdict s room ≡ Sound → verdict s′ room ≡ Sound → SameButRatings s s′ (OtherThan i) → NoneInferred s i →
+    (s s′ : List ℕ) (i room : ℕ) → verdict s room ≡ Sound → verdict s′ room ≡ Sound → SameButRatings s s′ (OtherThan i) → OwnRatingsOnly s i →
     i < trancheCount s → SameLine s s′ i room
-line-apart-from-other-ratings s s′ i room e e′ same none l =
+line-apart-from-other-ratings s s′ i room e e′ same own l =
     let good = accepted-judged s room e in
     same-line-of s s′ i room e e′ l (ratings-count s s′ (OtherThan i) same) (ratings-terms s s′ (OtherThan i) same good)
-    (tranche-apart-from-other-ratings s s′ i same good l none)
+    (tranche-apart-from-other-ratings s s′ i same good l own)

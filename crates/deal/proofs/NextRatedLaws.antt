@@ -14,9 +14,9 @@ use borrow.Author.Tests.{ltb-true, lt-ltb, le-ltb, ne-eqb}
 use Rattle.numbers.proofs.Tests.{both-true, at-cond}
 use Rattle.judgement.specs.DealSheet.{trancheCount}
 use Rattle.weights.specs.declared.Terms.{Terms}
-use Rattle.deal.specs.InferredRatings.{ratedRow, serves, servingRow, infersRatings, infers, ratingRow}
+use Rattle.deal.specs.InferredRatings.{ratedRow, isReference, referenceRow, infersRatings, infers, ratingRow}
 use Rattle.deal.specs.NextRated.{FirstRatedFrom, NextRated, takenRow, TakenRows}
-use Rattle.deal.proofs.InferredLaws.{and-false, unrated-serves-none, none-serving}
+use Rattle.deal.proofs.InferredLaws.{and-false, unrated-no-reference, no-reference}
 
 -- ---- the first rated row from a row on
 
@@ -77,7 +77,7 @@ next-filled s next from j r is most few table first = record {
       (eq-zero-or-pos (k - j));
 }
 
--- ---- a search through it: none of the rows that it passes over serves
+-- ---- a search through it: none of the rows that it passes over is a reference
 
 pub none-up-to : {test : ℕ → Bool} {j : ℕ} → ((k : ℕ) → k < j → test k ≡ false) → test j ≡ false → (k : ℕ) → k < j + 1 → test k ≡ false
 none-up-to {test} {j} before here k l =
@@ -89,10 +89,10 @@ none-up-to {test} {j} before here k l =
     (eq-zero-or-pos (j - k))
 
 pub passed-over :
-    (s : List ℕ) (i j r : ℕ) → FirstRatedFrom s j r → ((k : ℕ) → k < j → serves s i k ≡ false) → (k : ℕ) → k < r → serves s i k ≡ false
+    (s : List ℕ) (i j r : ℕ) → FirstRatedFrom s j r → ((k : ℕ) → k < j → isReference s i k ≡ false) → (k : ℕ) → k < r → isReference s i k ≡ false
 passed-over s i j r first before k l =
     ⊎-elim
-    (λ z. unrated-serves-none s i k (first .none-between k (omega arith) l))
+    (λ z. unrated-no-reference s i k (first .none-between k (omega arith) l))
     (λ pos. before k (omega arith))
     (eq-zero-or-pos (j - k))
 
@@ -101,11 +101,11 @@ passed-over s i j r first before k l =
 pub taken-none-rated : (s : List ℕ) (i : ℕ) → ratedRow s i ≡ true → takenRow true s i ≡ 0
 taken-none-rated s i e = rw e
 
-pub taken-none-served : (inferring : Bool) (s : List ℕ) (i : ℕ) → trancheCount s ≤ servingRow s i → takenRow inferring s i ≡ 0
-taken-none-served inferring s i none = simp (le-ltb (servingRow s i) (trancheCount s) none, and-false)
+pub taken-without-reference : (inferring : Bool) (s : List ℕ) (i : ℕ) → trancheCount s ≤ referenceRow s i → takenRow inferring s i ≡ 0
+taken-without-reference inferring s i none = simp (le-ltb (referenceRow s i) (trancheCount s) none, and-false)
 
-pub taken-found : (s : List ℕ) (i : ℕ) → ratedRow s i ≡ false → servingRow s i < trancheCount s → takenRow true s i ≡ servingRow s i + 1
-taken-found s i unrated found = simp (unrated, lt-ltb (servingRow s i) (trancheCount s) found)
+pub taken-found : (s : List ℕ) (i : ℕ) → ratedRow s i ≡ false → referenceRow s i < trancheCount s → takenRow true s i ≡ referenceRow s i + 1
+taken-found s i unrated found = simp (unrated, lt-ltb (referenceRow s i) (trancheCount s) found)
 
 -- nothing, where the deal infers none
 taken-none : (s : List ℕ) (i : ℕ) → takenRow false s i ≡ 0
@@ -114,8 +114,8 @@ taken-none s i = simp and-false
 -- it is a row of the sheet, and fits a byte
 pub taken-small : (inferring : Bool) (s : List ℕ) (i : ℕ) → takenRow inferring s i ≤ trancheCount s
 taken-small inferring s i =
-    at-cond (λ n. n ≤ trancheCount s) (not (ratedRow s i) && inferring && ltb (servingRow s i) (trancheCount s)) (servingRow s i + 1) 0
-    (λ e. omega (arith, ltb-true (servingRow s i) (trancheCount s) (both-true (not (ratedRow s i) && inferring) (ltb (servingRow s i) (trancheCount s)) e .1)))
+    at-cond (λ n. n ≤ trancheCount s) (not (ratedRow s i) && inferring && ltb (referenceRow s i) (trancheCount s)) (referenceRow s i + 1) 0
+    (λ e. omega (arith, ltb-true (referenceRow s i) (trancheCount s) (both-true (not (ratedRow s i) && inferring) (ltb (referenceRow s i) (trancheCount s)) e .1)))
     (λ _. omega arith)
 
 -- and what it says is the row whose ratings count
@@ -124,8 +124,8 @@ pub row-of-taken :
 unfolding ratingRow
 row-of-taken d s i taken is = rw is (by-test (infers d s i))
   where
-    by-test : (b : Bool) → cond (eqb (cond b (servingRow s i + 1) 0) 0) i (cond b (servingRow s i + 1) 0 - 1) ≡ cond b (servingRow s i) i
-    by-test true = simp (ne-eqb (servingRow s i + 1) 0 (λ z. omega arith)) (omega arith)
+    by-test : (b : Bool) → cond (eqb (cond b (referenceRow s i + 1) 0) 0) i (cond b (referenceRow s i + 1) 0 - 1) ≡ cond b (referenceRow s i) i
+    by-test true = simp (ne-eqb (referenceRow s i + 1) 0 (λ z. omega arith)) (omega arith)
     by-test false = refl
 
 -- ---- the table of what is taken
@@ -147,8 +147,8 @@ pub none-to-take :
 none-to-take d s taken r zeros first none few = record {
   at-row = λ i l.
       let served = passed-over s i 0 r first (λ k h. absurd (omega arith)) in
-      let nothing = none-serving s i (λ k h. served k (omega (arith, none))) in
-      rw zeros (getD-replicate {A = ℕ} 32 i 0 0 (omega arith) ∙ sym (taken-none-served (infersRatings d) s i (omega (arith, nothing))));
+      let nothing = no-reference s i (λ k h. served k (omega (arith, none))) in
+      rw zeros (getD-replicate {A = ℕ} 32 i 0 0 (omega arith) ∙ sym (taken-without-reference (infersRatings d) s i (omega (arith, nothing))));
 }
 
 pub taken-first : (s taken : List ℕ) → taken ≡ replicate 32 0 → TakenTo s taken 0

@@ -14,7 +14,7 @@ use Rattle.judgement.specs.DealSheet.{word, poolKind, reportingDate, trancheCou
 use Rattle.judgement.proofs.SameLayout.{SameFacts}
 use Rattle.pool.specs.PoolSums.{poolSums}
 use Rattle.weights.specs.declared.Terms.{Terms}
-use Rattle.deal.specs.InferredRatings.{ratedRow, serves, moreSenior, servingRow, infersRatings, ratingRow}
+use Rattle.deal.specs.InferredRatings.{ratedRow, isReference, seniorReference, referenceRow, infersRatings, ratingRow}
 use Rattle.deal.specs.Points.{seniorAmount, attachmentPoint, detachmentPoint}
 use Rattle.deal.specs.Lines.{terms, tranche}
 use Rattle.deal.proofs.InferredLaws.{rating-row-within}
@@ -51,30 +51,30 @@ same-senior-amount s s′ c count amounts classes =
 -- the row whose ratings count, where as many tranches have the same classes and months and the same of them are rated, and both deals infer ratings or neither does
 module _ (s s′ : List ℕ) (i : ℕ) (count : trancheCount s′ ≡ trancheCount s) (row : i < trancheCount s) where
   -- what serves the tranche is the same
-  pub same-serving-row :
-      ((j : ℕ) → j < trancheCount s → class s′ j ≡ class s j) → ((j : ℕ) → j < trancheCount s → serves s′ i j ≡ serves s i j) →
-      servingRow s′ i ≡ servingRow s i
-  unfolding servingRow
-  same-serving-row classes served =
-      ap (firstWhere (λ j. serves s′ i j && not (moreSenior s′ i j))) count ∙
+  pub same-reference-row :
+      ((j : ℕ) → j < trancheCount s → class s′ j ≡ class s j) → ((j : ℕ) → j < trancheCount s → isReference s′ i j ≡ isReference s i j) →
+      referenceRow s′ i ≡ referenceRow s i
+  unfolding referenceRow
+  same-reference-row classes served =
+      ap (firstWhere (λ j. isReference s′ i j && not (seniorReference s′ i j))) count ∙
       first-same
-      (λ j. serves s i j && not (moreSenior s i j))
-      (λ j. serves s′ i j && not (moreSenior s′ i j))
+      (λ j. isReference s i j && not (seniorReference s i j))
+      (λ j. isReference s′ i j && not (seniorReference s′ i j))
       (trancheCount s)
       (λ j l. rw (served j l, same-more-senior j l))
     where
-      same-more-senior : (j : ℕ) → j < trancheCount s → moreSenior s′ i j ≡ moreSenior s i j
+      same-more-senior : (j : ℕ) → j < trancheCount s → seniorReference s′ i j ≡ seniorReference s i j
       same-more-senior j l =
           rw count
           (ap (λ (k : ℕ). ltb k (trancheCount s))
           (first-same
-          (λ k. serves s i k && ltb (class s k) (class s j))
-          (λ k. serves s′ i k && ltb (class s′ k) (class s′ j))
+          (λ k. isReference s i k && ltb (class s k) (class s j))
+          (λ k. isReference s′ i k && ltb (class s′ k) (class s′ j))
           (trancheCount s)
           (λ k m. rw (served k m, classes k m, classes j l))))
 
   pub same-rating-row :
-      (d d′ : Terms) → infersRatings d′ ≡ infersRatings d → ratedRow s′ i ≡ ratedRow s i → servingRow s′ i ≡ servingRow s i →
+      (d d′ : Terms) → infersRatings d′ ≡ infersRatings d → ratedRow s′ i ≡ ratedRow s i → referenceRow s′ i ≡ referenceRow s i →
       ratingRow d′ s′ i ≡ ratingRow d s i
   unfolding ratingRow
   same-rating-row d d′ by rated serving = rw (by, rated, serving, count)
@@ -118,7 +118,7 @@ alike-tranche s s′ count sums by alike maturity i l =
     (λ j c row column. alike j c row (λ e. omega arith) (omega arith))
     (maturity i l)
     (alike i 3 l (λ e. omega arith) (omega arith))
-    (same-rating-row s s′ i count l (terms s) (terms s′) by (rated i l) (same-serving-row s s′ i count l classes served))
+    (same-rating-row s s′ i count l (terms s) (terms s′) by (rated i l) (same-reference-row s s′ i count l classes served))
     (λ c past column. alike (ratingRow (terms s) s i) c (rating-row-within s i (terms s) l) (λ e. omega arith) column)
   where
     classes : (j : ℕ) → j < trancheCount s → class s′ j ≡ class s j
@@ -132,5 +132,5 @@ alike-tranche s s′ count sums by alike maturity i l =
           alike j 6 row (λ e. omega arith) (omega arith),
         )
 
-    served : (j : ℕ) → j < trancheCount s → serves s′ i j ≡ serves s i j
+    served : (j : ℕ) → j < trancheCount s → isReference s′ i j ≡ isReference s i j
     served j row = rw (rated j row, classes i l, classes j row, maturity i l, maturity j row)

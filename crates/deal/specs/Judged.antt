@@ -1,4 +1,4 @@
--- 01, "Refusals, by who can cause them", and 02, S-5 for 13 and S-6 for 14, in plain relations: why a sheet is refused, and what acceptance means. That these and the definition by steps
+-- 01, "Refusals, by who can cause them", and 02, S-5 and S-8 for 13 and S-6 for 14, in plain relations: why a sheet is refused, and what acceptance means. That these and the definition by steps
 -- (Refusals.antt) say the same is proved in proofs/JudgedLaws.antt. What the words decide is in Judged.antt of `judgement`.
 use mathlib.Core.Bool.{true, false}
 use mathlib.Core.List.{List}
@@ -19,7 +19,7 @@ pub record RoomShort (s : List ℕ) (room : ℕ) (r : Refusal) : Type 0 where
   pub place-is : r .place ≡ 0
 
 -- "13: SEC-SA applies, A equals D, and D is above the pool charge; place of the tranche amount.", at the first such tranche; 02, S-5: "the thin-tranche refusal covers approach 3
--- tranches"
+-- tranches"; S-8: "An unrated tranche that finds one no longer meets 13."
 pub record TrancheThin (s : List ℕ) (room : ℕ) (r : Refusal) : Type 0 where
   pub words : WordsGood s
   pub enough : lineSize * trancheCount s ≤ room

@@ -1,4 +1,4 @@
--- 01, "The deal sheet" and "Which approach, then floor, then cap", and 02, S-1, S-5, S-6 and S-8: what the tranches of a sheet share, what is each tranche's own, and the line that they
+-- 01, "The deal sheet" and "Which approach, then floor, then cap", and 02, S-1, S-5, S-6 and S-8: what the tranches of a sheet share, what each is weighed by, and the line that they
 -- make.
 use mathlib.Core.Bool.{Bool, cond}
 use mathlib.Core.List.{List, [], _∷_}
@@ -19,7 +19,7 @@ use Rattle.deal.specs.InferredRatings.{ratingRow}
 use Rattle.deal.specs.Points.{attachmentPoint, detachmentPoint}
 use Rattle.deal.specs.declared.Line.{Line}
 
--- ---- what the tranches share, and what is a tranche's own
+-- ---- what the tranches share, and what each is weighed by
 
 -- whether approach 3 applies to the deal
 abbrev pub irbaFor : Layout → Bool
@@ -46,7 +46,8 @@ termsFor l q = record {
 unfoldable pub terms : List ℕ → Terms
 terms s = termsFor (layout s) (poolSums s)
 
--- what is a tranche's own: "Class 1 is the senior class.", and the ratings that count for it: S-8: "It takes that row's ratings, with its own class, maturity and thickness."
+-- what a tranche is weighed by: its own points, class ("Class 1 is the senior class."), months and held amount, and the ratings that count for it. S-8: "It takes that row's ratings, with its
+-- own class, maturity and thickness."
 unfoldable pub tranche : List ℕ → ℕ → Tranche
 tranche s i = record {
   attachment = attachmentPoint s i;

@@ -8,7 +8,7 @@ use lib.Dec.{ltb}
 use lib.ListN.{length, getD}
 use Rattle.judgement.specs.DealSheet.{trancheCount}
 use Rattle.weights.specs.declared.Terms.{Terms}
-use Rattle.deal.specs.InferredRatings.{ratedRow, servingRow, infersRatings}
+use Rattle.deal.specs.InferredRatings.{ratedRow, referenceRow, infersRatings}
 
 -- r is the first rated row from row j on, and the number of tranches where there is none
 pub record FirstRatedFrom (s : List ℕ) (j r : ℕ) : Type 0 where
@@ -22,10 +22,10 @@ pub record NextRated (s next : List ℕ) (from : ℕ) : Type 0 where
   pub size : length next ≡ 33
   pub at-row : (j : ℕ) → from ≤ j → j ≤ trancheCount s → FirstRatedFrom s j (getD next j 0)
 
--- one more than the row whose ratings tranche i takes, in a deal that infers ratings or not, and 0 where its own count
+-- one more than the row whose ratings tranche i takes, where the deal infers ratings or does not, and 0 where it infers none
 abbrev pub takenRow : Bool → List ℕ → ℕ → ℕ
-takenRow inferring s i = cond (not (ratedRow s i) && inferring && ltb (servingRow s i) (trancheCount s)) (servingRow s i + 1) 0
+takenRow inferring s i = cond (not (ratedRow s i) && inferring && ltb (referenceRow s i) (trancheCount s)) (referenceRow s i + 1) 0
 
--- at each tranche of a sheet stands what it takes
+-- at each tranche of a sheet stands that number
 pub record TakenRows (d : Terms) (s taken : List ℕ) : Type 0 where
   pub at-row : (i : ℕ) → i < trancheCount s → getD taken i 0 ≡ takenRow (infersRatings d) s i

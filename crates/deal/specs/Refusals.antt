@@ -1,4 +1,4 @@
--- 01, "Refusals, by who can cause them", and 02, S-5 for 13 and S-6 for 14: what is judged after the words (Refusals.antt of `judgement`), and the order of all.
+-- 01, "Refusals, by who can cause them", and 02, S-5 and S-8 for 13 and S-6 for 14: what is judged after the words (Refusals.antt of `judgement`), and the order of all.
 use mathlib.Core.Bool.{cond}
 use mathlib.Core.List.{List}
 use Prim.Native.Nat.{ℕ, _*_}
@@ -15,7 +15,8 @@ use Rattle.judgement.specs.Refusals.{refused, orElse, firstOf, wordsVerdict}
 abbrev pub roomVerdict : List ℕ → ℕ → Verdict
 roomVerdict s room = cond (ltb room (lineSize * trancheCount s)) (refused 14 0) Sound
 
--- "13: SEC-SA applies, A equals D, and D is above the pool charge; place of the tranche amount."; 02, S-5: "the thin-tranche refusal covers approach 3 tranches"
+-- "13: SEC-SA applies, A equals D, and D is above the pool charge; place of the tranche amount."; 02, S-5: "the thin-tranche refusal covers approach 3 tranches"; S-8: "An
+-- unrated tranche that finds one no longer meets 13.", since `tranche` has the ratings that count and `thin` goes by the approach (`reference-not-thin`, proofs/InferredLaws.antt)
 abbrev pub thinVerdict : List ℕ → ℕ → Verdict
 thinVerdict s i = cond (thin (tranche s i) (terms s)) (refused 13 (trancheAt s i)) Sound
 

@@ -6,7 +6,7 @@ ghost use lib.Dec.{eqb};
 ghost use lib.ListN.{length, getD, replicate};
 ghost use Rattle.judgement.specs.DealSheet.{trancheCount};
 ghost use Rattle.judgement.specs.LaidOut.{LaidOut};
-ghost use Rattle.deal.specs.InferredRatings.{servingRow, infersRatings};
+ghost use Rattle.deal.specs.InferredRatings.{referenceRow, infersRatings};
 ghost use Rattle.deal.specs.NextRated.{NextRated, takenRow, TakenRows};
 use crate::tranches::tranche_word;
 use dates::maturity_months;
@@ -53,11 +53,11 @@ fn next_rated(s: &[u64], l: Layout, next: &mut [u8; NEXT])
     }
 }
 
-// The row whose ratings tranche i may take; the number of tranches where there is none. Classes never fall from row to row, so the first row that serves is the first of the
-// most senior class that does.
-fn serving_row(s: &[u64], l: Layout, next: &[u8; NEXT], i: u64) -> u64
+// The row of the reference that counts for tranche i; the number of tranches where there is none. Classes never fall from row to row, so the first reference in the rows' order is the
+// first of the most senior class.
+fn reference_row(s: &[u64], l: Layout, next: &[u8; NEXT], i: u64) -> u64
     requires { ⌜ LaidOut (now s) l × NextRated (now s) (now next) 0 × (i < trancheCount (now s)) ⌝ }
-    ensures { λ r. ⌜ r ≡ servingRow (now (s .entry)) i ⌝ }
+    ensures { λ r. ⌜ r ≡ referenceRow (now (s .entry)) i ⌝ }
 {
     let tranches = l.tranches;
     let class = tranche_word(s, l, i, 1);
@@ -74,7 +74,7 @@ fn serving_row(s: &[u64], l: Layout, next: &[u8; NEXT], i: u64) -> u64
     tranches
 }
 
-// What tranche i takes, in a deal that infers ratings: one more than the row, and 0 where it takes none, being rated or with no row that serves it.
+// What tranche i takes, in a deal that infers ratings: one more than the row, and 0 where it takes none, being rated or without a reference.
 fn taken_row(s: &[u64], l: Layout, next: &[u8; NEXT], i: u64) -> u64
     requires { ⌜ LaidOut (now s) l × NextRated (now s) (now next) 0 × (i < trancheCount (now s)) ⌝ }
     ensures { λ r. ⌜ r ≡ takenRow true (now (s .entry)) i ⌝ }
@@ -82,7 +82,7 @@ fn taken_row(s: &[u64], l: Layout, next: &[u8; NEXT], i: u64) -> u64
     if next[i as usize] as u64 == i {
         return 0;
     }
-    let row = serving_row(s, l, next, i);
+    let row = reference_row(s, l, next, i);
     if row < l.tranches {
         return row + 1;
     }

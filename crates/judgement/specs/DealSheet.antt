@@ -95,7 +95,7 @@ class s i = word s (trancheAt s i + 1)
 abbrev pub maturity : List ℕ → ℕ → ℕ
 maturity s i = word s (trancheAt s i + 2)
 
--- the months of the final legal maturity, which the weights read, however its word is written
+-- the months of the final legal maturity, which the weights and the inference of ratings read, however its word is written
 abbrev pub months : List ℕ → ℕ → ℕ
 months s i = maturityMonths (reportingDate s) (maturity s i)
 

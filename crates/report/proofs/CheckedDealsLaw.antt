@@ -9,7 +9,7 @@ use borrow.Author.Tests.{leb-true, ltb-true}
 use Rattle.numbers.proofs.Tests.{both-true}
 use Rattle.files.specs.FileForm.{lowestFirst, wordsTo, bytesOf, fileBytes}
 use Rattle.series.specs.Series.{factorial, low}
-use Rattle.series.specs.Ends.{lowerExponent, upperExponent, upperEnd, lowerEnd, Counts, Passes, PassesFromBelow}
+use Rattle.series.specs.Ends.{lowerExponent, upperExponent, upperEnd, lowerEnd, CountingReference, Passes, PassesFromBelow}
 use Rattle.series.specs.TableEntry.{entry}
 use Rattle.formula.specs.FixedPoint.{fineDecay, decayBelow, decayAbove, meanDecayOfLarge, meanDecayAbove, productAbove, units, formulaProduct, weightNumerator, formulaWeight, rawWeight}
 use Rattle.series.proofs.EndLaws.{passing-close, from-below-close}
@@ -21,7 +21,7 @@ use Rattle.numbers.specs.Sum.{sum}
 use Rattle.charge.specs.PoolCharge.{knownCharge, poolCharge}
 use Rattle.pool.specs.PoolSums.{poolSums}
 use Rattle.deal.specs.Points.{seniorAmount, attachmentPoint, detachmentPoint}
-use Rattle.deal.specs.InferredRatings.{servingRow, ratingRow}
+use Rattle.deal.specs.InferredRatings.{referenceRow, ratingRow}
 use Rattle.deal.specs.Lines.{terms, tranche, line, lineWords}
 use Rattle.judgement.specs.Refusals.{fault, judge, firstOf, wordsVerdict}
 use Rattle.deal.specs.Refusals.{verdict}
@@ -38,7 +38,7 @@ unfolding
     poolAt rows tranchesAt trancheCount irbAt irbFigures needed layout
     fault judge firstOf wordsVerdict verdict
     sum poolSums knownCharge poolCharge seniorAmount attachmentPoint detachmentPoint
-    firstWhere servingRow ratingRow
+    firstWhere referenceRow ratingRow
     exactWeight weightByRating weightByRatings lowWeightByRatings
     factorial low entry fineDecay decayBelow decayAbove meanDecayOfLarge meanDecayAbove productAbove units formulaProduct weightNumerator formulaWeight rawWeight
     formulaRawWeight tableWeight weight thin terms tranche line lineWords lines replyTo fileReply

@@ -1,6 +1,6 @@
--- 01, "Which approach, then floor, then cap", and 02, S-1, "STC deals", S-5, "SEC-IRBA", and S-6, "Both ends in the report" (d374 paragraph 31 for due diligence, 42 to 47 for the
+-- 01, "Which approach, then floor, then cap", and 02, S-1, "STC deals", S-5, "SEC-IRBA", S-6, "Both ends in the report", and S-8, "Inferred ratings" (d374 paragraph 31 for due diligence, 42 to 47 for the
 -- order of approaches, which CRE40.41 to CRE40.47 give; 56, 85, 94, 115 and 118 for the parameter, 64, 87, 96 and 114 for the floor, 88, 89 and 97 for the cap; CRE42.14 for the
--- floors of STC deals): approach and weight of a tranche, as functions of the tranche's own inputs and of the deal's terms alone. Weights are counted in hundredths of a percent.
+-- floors of STC deals): approach and weight of a tranche, as functions of what the tranche is weighed by and of the deal's terms alone. Weights are counted in hundredths of a percent.
 use mathlib.Core.Bool.{Bool, cond, not, _&&_, _||_}
 use mathlib.Core.Option.{Option·getD}
 use mathlib.Core.Path.{_≡_}
@@ -18,7 +18,7 @@ use Rattle.weights.specs.declared.Tranche.{Tranche}
 
 -- ---- approach
 
--- "Any of the tranche's three ratings present"
+-- "Any of the tranche's three ratings present"; S-8: the ratings that count for it, its own or those that it infers (`tranche`, Lines.antt of `deal`)
 abbrev pub rated : Tranche → Bool
 rated t = anyPresent (t .first) (t .second) (t .third)
 

@@ -1,4 +1,4 @@
-// Approach and weight of one tranche, from what is its own and what the deal's tranches share.
+// Approach and weight of one tranche, from what it is weighed by and what the deal's tranches share.
 ghost use mathlib.Core.Bool.{true};
 ghost use mathlib.Core.Path.{_≡_};
 ghost use Rattle.numbers.specs.BothEnds.{atBoth};
@@ -25,7 +25,7 @@ pub struct Terms {
     pub irb: IrbFigures,
 }
 
-// What is a tranche's own: its points, whether it is of the senior class, its months to maturity, the amount held and its three ratings.
+// What a tranche is weighed by: its points, whether it is of the senior class, its months to maturity, the amount held and the three ratings that count for it, its own or inferred ones.
 pub struct Tranche {
     pub attachment: u64,
     pub detachment: u64,

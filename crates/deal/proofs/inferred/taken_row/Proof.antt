@@ -9,7 +9,7 @@ use Rattle.judgement.specs.DealSheet.{trancheCount}
 use Rattle.judgement.proofs.LayoutLaws.{tranches-is}
 use Rattle.judgement.proofs.SheetLimits.{tranches-counted, tranches-within}
 use Rattle.deal.specs.NextRated.{FirstRatedFrom}
-use Rattle.deal.proofs.NextRatedLaws.{taken-none-rated, taken-none-served, taken-found}
+use Rattle.deal.proofs.NextRatedLaws.{taken-none-rated, taken-without-reference, taken-found}
 use Rattle.deal.proofs.inferred.taken_row.Statement.{statement}
 use Rattle.deal.proofs.inferred.taken_row.Tie as tie
 
@@ -33,8 +33,8 @@ returns c =
     let here : getD (start .args .next .now) (start .args .i) 0 ≡ start .args .i = omega (arith, c .if1 .taken) in
     sym (taken-none-rated (start .args .s .now) (start .args .i) (rw here at (own-row start .is-rated (omega (arith, here, start .pre .2)))))
 
-serving-row-requires : tie.Need-serving-row-requires
-serving-row-requires c κs = search needs
+reference-row-requires : tie.Need-reference-row-requires
+reference-row-requires c κs = search needs
 
 add-result : tie.Need-add-result
 add-result c =
@@ -44,7 +44,7 @@ add-result c =
 returns-2 : tie.Need-returns-2
 returns-2 c =
     let start = c .before .before .before .before .before .before in
-    let row = c .before .before .serving-row .ensures in
+    let row = c .before .before .reference-row .ensures in
     ap (λ (r : ℕ). r + 1) row ∙
     sym
     (taken-found (start .args .s .now) (start .args .i)
@@ -55,8 +55,8 @@ returns-3 : tie.Need-returns-3
 returns-3 c =
     let start = c .before .before .before .before .before .before in
     sym
-    (taken-none-served true (start .args .s .now) (start .args .i)
-    (omega (arith, c .if2 .left, c .before .before .serving-row .ensures, tranches-is _ _ (start .pre .0))))
+    (taken-without-reference true (start .args .s .now) (start .args .i)
+    (omega (arith, c .if2 .left, c .before .before .reference-row .ensures, tranches-is _ _ (start .pre .0))))
 
 pub taken-row-spec : {M : Type 1} → statement M
-taken-row-spec = tie.close (tie.spec element-copy-out-if1 cast-if1 returns serving-row-requires add-result returns-2 returns-3)
+taken-row-spec = tie.close (tie.spec element-copy-out-if1 cast-if1 returns reference-row-requires add-result returns-2 returns-3)

@@ -1,4 +1,4 @@
--- `serving_row`: none of the rows before the turn's serves, and the turn's is rated; the first that serves is that of 02's words. The measure is what is left of the tranches. No axioms.
+-- `reference_row`: none of the rows before the turn's isReference, and the turn's is rated; the first that serves is that of 02's words. The measure is what is left of the tranches. No axioms.
 use mathlib.Core.Bool.{true, false}
 use mathlib.Core.Logic.{⊎-elim}
 use mathlib.Core.Path.{_≡_, sym, _∙_}
@@ -10,16 +10,16 @@ use borrow.Author.Needs.{needs}
 use Rattle.judgement.specs.DealSheet.{trancheCount, months}
 use Rattle.judgement.proofs.LayoutLaws.{tranches-is, reporting-date-is}
 use Rattle.judgement.proofs.SheetLimits.{tranches-counted, tranches-within}
-use Rattle.deal.specs.InferredRatings.{ratedRow, serves}
+use Rattle.deal.specs.InferredRatings.{ratedRow, isReference}
 use Rattle.deal.specs.NextRated.{FirstRatedFrom, NextRated}
-use Rattle.deal.proofs.InferredLaws.{serves-is, first-serving, none-serving, senior-serves-none, shorter-serves-none}
+use Rattle.deal.proofs.InferredLaws.{reference-is, first-reference, no-reference, senior-no-reference, shorter-no-reference}
 use Rattle.deal.proofs.NextRatedLaws.{none-up-to, passed-over}
-use Rattle.deal.proofs.inferred.serving_row.Statement.{statement}
-use Rattle.deal.proofs.inferred.serving_row.Tie as tie
+use Rattle.deal.proofs.inferred.reference_row.Statement.{statement}
+use Rattle.deal.proofs.inferred.reference_row.Tie as tie
 
 abbrev Inv-loop : tie.InvT-loop
 Inv-loop s l next i tranches class months j₀ j =
-    (j ≤ trancheCount s) × ((j < trancheCount s → ratedRow s j ≡ true) × ((k : ℕ) → k < j → serves s i k ≡ false))
+    (j ≤ trancheCount s) × ((j < trancheCount s → ratedRow s j ≡ true) × ((k : ℕ) → k < j → isReference s i k ≡ false))
 
 abbrev μ-loop : tie.MeasureT-loop
 μ-loop s l next i tranches class months j₀ j = tranches - j
@@ -88,8 +88,8 @@ returns c =
     let s = start .args .s .now in
     let turn = row (c .before .before .before .before .before) in
     sym
-    (first-serving s (start .args .i) (start .pre .0 .good) (at .loop .j) turn
-    (serves-is s (start .args .i) (at .loop .j)
+    (first-reference s (start .args .i) (start .pre .0 .good) (at .loop .j) turn
+    (reference-is s (start .args .i) (at .loop .j)
     (record {
       among = turn;
       is-rated = at .loop .inv .1 .0 turn;
@@ -117,34 +117,34 @@ loop-less : tie.Need-loop-less Inv-loop μ-loop
 loop-less c = omega (arith, later c .at-least, row (c .before .before .before), tranches-is _ _ (c .before .before .before .before .before .before .before .before .before .before .pre .0))
 
 -- the turn's row did not serve: its class is senior to the tranche's, or its maturity shorter
-not-serving :
+turn-no-reference :
     (c : tie.Joined1 Inv-loop μ-loop) → let at = c .before .before .before in
-    serves (at .before .before .before .before .before .before .args .s .now) (at .before .before .before .before .before .before .args .i) (at .loop .j) ≡ false
-not-serving c =
+    isReference (at .before .before .before .before .before .before .args .s .now) (at .before .before .before .before .before .before .args .i) (at .loop .j) ≡ false
+turn-no-reference c =
     let at = c .before .before .before in
     let start = at .before .before .before .before .before .before in
     let s = start .args .s .now in
     ⊎-elim
     (λ w.
     let told = row-months (record { before = record { before = record { before = c .before; if1 = w .0 }; tranche-word4 = w .1 }; maturity-months2 = w .2 }) in
-    shorter-serves-none s (start .args .i) (at .loop .j) (omega (arith, w .3 .left, told, own-months (at .before .before))))
-    (λ w. senior-serves-none s (start .args .i) (at .loop .j) (omega (arith, w .left, c .before .tranche-word3 .ensures, at .before .before .before .before .tranche-word .ensures)))
+    shorter-no-reference s (start .args .i) (at .loop .j) (omega (arith, w .3 .left, told, own-months (at .before .before))))
+    (λ w. senior-no-reference s (start .args .i) (at .loop .j) (omega (arith, w .left, c .before .tranche-word3 .ensures, at .before .before .before .before .tranche-word .ensures)))
     (c .if1 .came)
 
 loop-again : tie.Need-loop-again Inv-loop μ-loop
 loop-again c =
     let at = c .before .before .before .before in
     let start = at .before .before .before .before .before .before in
-    (later c .at-most, (later c .is-rated, passed-over (start .args .s .now) (start .args .i) _ _ (later c) (none-up-to (at .loop .inv .1 .1) (not-serving (c .before)))))
+    (later c .at-most, (later c .is-rated, passed-over (start .args .s .now) (start .args .i) _ _ (later c) (none-up-to (at .loop .inv .1 .1) (turn-no-reference (c .before)))))
 
 returns-2 : tie.Need-returns-2 Inv-loop μ-loop
 returns-2 c =
     let start = c .before .before .before .before .before .before .before in
     let many = tranches-is _ _ (start .pre .0) in
-    many ∙ sym (none-serving (start .args .s .now) (start .args .i) (λ k l. c .before .loop .inv .1 .1 k (omega (arith, many))))
+    many ∙ sym (no-reference (start .args .s .now) (start .args .i) (λ k l. c .before .loop .inv .1 .1 k (omega (arith, many))))
 
-pub serving-row-spec : {M : Type 1} → statement M
-serving-row-spec =
+pub reference-row-spec : {M : Type 1} → statement M
+reference-row-spec =
     tie.close
     (tie.spec
     Inv-loop
