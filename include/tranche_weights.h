@@ -122,10 +122,15 @@ enum {
 #define TRANCHE_WEIGHTS_TEXT_BYTES                                                                                                                       \
     (7 + 9 + 6 + (2 + TRANCHE_WEIGHTS_MOST_TRANCHES * (1 + TRANCHE_WEIGHTS_LINE_WORDS) + 2) * (TRANCHE_WEIGHTS_NUMBER_DIGITS + 1))
 
-/* The approaches. */
+/*
+ * The approaches. An unrated tranche takes all three rating words of a rated tranche of its own class or of a junior one whose maturity in months is at least as long: of
+ * several the most senior class counts, and in it the first row. It keeps its own class, maturity and thickness. A rating that was taken so is not passed on, and nothing is
+ * taken in a re-securitisation, under SEC-IRBA and without due diligence. So TRANCHE_WEIGHTS_BY_SEC_ERBA on a tranche with no rating of its own says that its rating is
+ * inferred.
+ */
 enum {
     TRANCHE_WEIGHTS_BY_FALLBACK = 0, /* the fallback of 1250% */
-    TRANCHE_WEIGHTS_BY_SEC_ERBA = 1, /* the deal's rating table: of two ratings the higher weight, of three the middle one */
+    TRANCHE_WEIGHTS_BY_SEC_ERBA = 1, /* the deal's rating table, by own or inferred ratings: of two the higher weight, of three the middle one */
     TRANCHE_WEIGHTS_BY_SEC_SA = 2,   /* the formula, by the standardised approach */
     TRANCHE_WEIGHTS_BY_SEC_IRBA = 3  /* the formula, by the IRB section */
 };

@@ -40,7 +40,13 @@ static const uint64_t lines[TRANCHE_WEIGHTS_LINE_WORDS + 1] = {
 #define OTHER_WEIGHT 1517
 #define OTHER_LEAST_WEIGHT 1516
 
-/* The same sheet with a fifth fact, the STC mark, and the weight of its line; the facts of a re-securitisation with that mark, and its place. */
+/* A deal whose class 1 is unrated, over a class 2 rated BBB that runs as long: at five years BBB has 105% in class 1; the place of its maturity. */
+static const uint64_t inferring_sheet[] = {4, 0, 0, 1, 0, 1, 1000, 1000, 100, 0, 2, 800, 1, 72, 800, 0, 0, 0, 200, 2, 72, 200, 9, 0, 0};
+#define INFERRING_WORDS (sizeof inferring_sheet / sizeof *inferring_sheet)
+#define INFERRING_MONTHS_PLACE 13
+#define INFERRED_WEIGHT 10500
+
+/* The first sheet with a fifth fact, the STC mark, and the weight of its line; the facts of a re-securitisation with that mark, and its place. */
 static const uint64_t stc_sheet[WORDS + 1] = {5, 0, 0, 1, 1, 1, 1, 100, 100, 100, 0, 1, 80, 1, 60, 80, 1, 0, 0};
 #define STC_WEIGHT 1000
 static const uint64_t stc_resecuritisation[] = {5, 0, 1, 1, 1, 1};
@@ -270,6 +276,20 @@ static void *try_dates(void *unused)
     return unused;
 }
 
+/* Inferred ratings: an unrated class 1 over a rated class 2 as long takes its rating; one that is a month longer does not, and goes by the formula. */
+static void *try_inferred(void *unused)
+{
+    struct given g = weigh(inferring_sheet, INFERRING_WORDS, RESULTS);
+    due(g.number == TRANCHE_WEIGHTS_ACCEPTED && g.results[TRANCHE_WEIGHTS_WORD_APPROACH] == TRANCHE_WEIGHTS_BY_SEC_ERBA, "an inferred rating");
+    due(g.results[TRANCHE_WEIGHTS_WORD_WEIGHT] == INFERRED_WEIGHT, "the weight by an inferred rating");
+    uint64_t longer[INFERRING_WORDS];
+    memcpy(longer, inferring_sheet, sizeof longer);
+    longer[INFERRING_MONTHS_PLACE]++;
+    g = weigh(longer, INFERRING_WORDS, RESULTS);
+    due(g.number == TRANCHE_WEIGHTS_ACCEPTED && g.results[TRANCHE_WEIGHTS_WORD_APPROACH] == TRANCHE_WEIGHTS_BY_SEC_SA, "no rating that runs as long");
+    return unused;
+}
+
 /* The least weight, where it is another than the weight. */
 static void *try_least_weight(void *unused)
 {
@@ -467,6 +487,7 @@ int main(int argc, char **argv)
     on_stack(SHEET_STACK, try_weigh);
     on_stack(SHEET_STACK, try_stc);
     on_stack(SHEET_STACK, try_dates);
+    on_stack(SHEET_STACK, try_inferred);
     on_stack(SHEET_STACK, try_least_weight);
     on_stack(SHEET_STACK, try_irb);
     on_stack(SHEET_STACK, try_blocks);
