@@ -1095,7 +1095,7 @@ def inferred_cases(line):
         yield from taken_cases(line, reference)
     elif why and would_find(line.deal, own):
         yield "nothing taken, %s, approach %d" % (why, line.approach)
-    elif not any(own.codes) and any(any(t.codes) for t in line.deal.tranches):
+    elif not why and not any(own.codes) and any(any(t.codes) for t in line.deal.tranches):
         yield "none found, approach %d" % line.approach
 
 
@@ -1105,7 +1105,7 @@ def sheet_cases(words, text):
     deal = judged(words)
     for own in deal.tranches:
         reference = reference_of(deal, own)
-        if reference and words[reference.at + 2] < words[own.at + 2]:
+        if reference and not exemption(deal) and words[reference.at + 2] < words[own.at + 2]:
             yield "taken from an earlier day"
         if number == 13 and place == own.at and not any(own.codes):
             if would_find(deal, own):

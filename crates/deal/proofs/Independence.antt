@@ -7,17 +7,14 @@ use mathlib.Core.Path.{_≡_, refl, sym, ap, _∙_, subst}
 use Prim.Native.Nat.{ℕ, _+_, _*_, _-_, _≤_, _<_}
 use native.Mathlib.Nat.{eq-zero-or-pos, le-refl}
 use native.Mathlib.Omega.{arith}
-use lib.ListN.{length, getD}
-use Rattle.limits.specs.SheetSize.{lineSize}
-use Rattle.judgement.specs.DealSheet.{word, poolKind, reportingDate, poolAt, rowAt, tranchesAt, trancheCount, trancheAt, class, maturity, months, held, irbPlace, needed}
+use Rattle.judgement.specs.DealSheet.{word, poolKind, reportingDate, poolAt, rowAt, tranchesAt, trancheCount, trancheAt, class, months, irbPlace, needed}
 use Rattle.pool.specs.PoolSums.{poolSums}
 use Rattle.pool.proofs.SameSums.{same-sums-in-order}
 use Rattle.weights.specs.declared.Terms.{Terms}
-use Rattle.deal.specs.InferredRatings.{ratedRow, isReference, referenceRow, infersRatings, ratingRow}
+use Rattle.deal.specs.InferredRatings.{ratedRow, isReference, infersRatings, ratingRow}
 use Rattle.deal.specs.Lines.{terms, tranche, lineWords}
 use Rattle.judgement.specs.Refusals.{judged}
 use Rattle.deal.specs.Refusals.{verdict}
-use Rattle.deal.specs.Results.{resultsAfter}
 use Rattle.deal.specs.OtherRatings.{SameButRatings, SeniorTo, OtherThan, OwnRatingsOnly, SameLine, is-rated, in-resecuritisation, under-irba, without-diligence}
 use Rattle.judgement.specs.declared.Verdict.the-variants.{Sound}
 use Rattle.judgement.proofs.NeededLaws.{pool-at-least, tranches-at-past-rows, irb-at-past-tranches}

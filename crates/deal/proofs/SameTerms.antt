@@ -50,7 +50,7 @@ same-senior-amount s s′ c count amounts classes =
 
 -- the row whose ratings count, where as many tranches have the same classes and months and the same of them are rated, and both deals infer ratings or neither does
 module _ (s s′ : List ℕ) (i : ℕ) (count : trancheCount s′ ≡ trancheCount s) (row : i < trancheCount s) where
-  -- what serves the tranche is the same
+  -- its references are the same
   pub same-reference-row :
       ((j : ℕ) → j < trancheCount s → class s′ j ≡ class s j) → ((j : ℕ) → j < trancheCount s → isReference s′ i j ≡ isReference s i j) →
       referenceRow s′ i ≡ referenceRow s i

@@ -1,4 +1,4 @@
--- 02, S-8, "Inferred ratings": "CRE42 obliges a bank to infer a rating where it can." (CRE42.9 and CRE42.10, whose reference exposure is the rated tranche; d374 paragraphs 72 and 73): whose
+-- 02, S-8, "Inferred ratings": "CRE42 obliges a bank to infer a rating where it can." (CRE42.9 and CRE42.10, whose reference securitisation exposure is the rated tranche; d374 paragraphs 72 and 73): whose
 -- ratings count for a tranche. By steps first, then in plain relations; that both say the same of every sheet whose words are good is proved in proofs/InferredLaws.antt.
 use mathlib.Core.Bool.{Bool, true, false, cond, not, _&&_}
 use mathlib.Core.List.{List}

@@ -9,7 +9,7 @@ use borrow.Author.Tests.{leb-true, ltb-true}
 use Rattle.numbers.proofs.Tests.{both-true}
 use Rattle.files.specs.FileForm.{lowestFirst, wordsTo, bytesOf, fileBytes}
 use Rattle.series.specs.Series.{factorial, low}
-use Rattle.series.specs.Ends.{lowerExponent, upperExponent, upperEnd, lowerEnd, CountingReference, Passes, PassesFromBelow}
+use Rattle.series.specs.Ends.{lowerExponent, upperExponent, upperEnd, lowerEnd, Counts, Passes, PassesFromBelow}
 use Rattle.series.specs.TableEntry.{entry}
 use Rattle.formula.specs.FixedPoint.{fineDecay, decayBelow, decayAbove, meanDecayOfLarge, meanDecayAbove, productAbove, units, formulaProduct, weightNumerator, formulaWeight, rawWeight}
 use Rattle.series.proofs.EndLaws.{passing-close, from-below-close}

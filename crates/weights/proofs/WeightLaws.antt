@@ -296,16 +296,7 @@ pub thin-above-charge :
 unfolding thin
 thin-above-charge t d by same = simp (by, eq-eqb (t .attachment) (t .detachment) same)
 
--- one that has a thickness is never too thin
-pub thick-not-thin : (t : Tranche) (d : Terms) → (t .attachment ≡ t .detachment → ⊥) → thin t d ≡ false
-unfolding thin
-thick-not-thin t d apart = by-approach (byFormula t d) refl
-  where
-    by-approach : (b : Bool) → byFormula t d ≡ b → thin t d ≡ false
-    by-approach true e = simp (e, ne-eqb (t .attachment) (t .detachment) apart)
-    by-approach false e = rw e
-
--- and neither is one that is not weighed by the formula
+-- one that is not weighed by the formula is never too thin
 pub not-thin-otherwise : (t : Tranche) (d : Terms) → byFormula t d ≡ false → thin t d ≡ false
 unfolding thin
 not-thin-otherwise t d e = rw e

@@ -182,7 +182,8 @@ impl InferredFeature {
                 ..*row
             };
             let table = Table::of(seen.kind == DealKind::Stc);
-            kept && rating::weight(table, &tranche, thickness) != rated.weight
+            let other = rating::weight(table, &tranche, thickness).max(seen.floor());
+            kept && (other < rated.weight || other > rated.weight && !seen.capped)
         };
         let &Tranche { class, months, .. } = sought.own();
         match self {

@@ -63,7 +63,7 @@ impl Rerated {
     }
 }
 
-/// What must be met on some line of two sheets that differ in ratings, but in those of another tranche than the line's.
+/// What must be met on some line of two sheets that differ in ratings, though not in those of the line's own tranche.
 #[derive(Debug, Clone, Copy, PartialEq, Eq)]
 pub enum LawFeature {
     /// Senior classes have other ratings, and the tranche takes those of another one.

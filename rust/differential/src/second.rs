@@ -237,18 +237,20 @@ mod tests {
         }
     }
 
+    /// How often a library that weighs so is found out by the second sheets of a relation between ratings.
+    fn found_by_ratings(relation: Relation, weigh: Weigh) -> usize {
+        let library = Library {
+            weigh,
+            ..Library::PROVED
+        };
+        let other = |case: &Case| compare_other_ratings(&library, case, &mut Lent::default()).map(|_| ());
+        differences(relation, other)
+    }
+
     /// A library for which the ratings matter of a tranche that must not, to the points or to the least weights, is found
     /// out with either second sheet; so is one for which they matter to the charge. The proved one is not.
     #[test]
     fn other_ratings_are_compared() {
-        let compare = |relation, weigh| {
-            let library = Library {
-                weigh,
-                ..Library::PROVED
-            };
-            let other = |case: &Case| compare_other_ratings(&library, case, &mut Lent::default()).map(|_| ());
-            differences(relation, other)
-        };
         for relation in [Relation::OtherRatings, Relation::SeniorRatings] {
             let wrong: [Weigh; 3] = [
                 |sheet, results| ratings_matter(LineWord::Attachment, sheet, results),
@@ -256,9 +258,9 @@ mod tests {
                 rating_order_matters,
             ];
             for weigh in wrong {
-                assert!(compare(relation, weigh) > 10);
+                assert!(found_by_ratings(relation, weigh) > 10);
             }
-            assert_eq!(compare(relation, Library::PROVED.weigh), 0);
+            assert_eq!(found_by_ratings(relation, Library::PROVED.weigh), 0);
         }
     }
 
@@ -294,16 +296,8 @@ mod tests {
     /// which they change lines of rated tranches by other ratings of any.
     #[test]
     fn both_halves_of_the_law_are_compared() {
-        let compare = |relation, weigh| {
-            let library = Library {
-                weigh,
-                ..Library::PROVED
-            };
-            let other = |case: &Case| compare_other_ratings(&library, case, &mut Lent::default()).map(|_| ());
-            differences(relation, other)
-        };
-        assert!(compare(Relation::SeniorRatings, junior_lines_follow) > 10);
-        assert!(compare(Relation::OtherRatings, rated_lines_follow) > 10);
+        assert!(found_by_ratings(Relation::SeniorRatings, junior_lines_follow) > 10);
+        assert!(found_by_ratings(Relation::OtherRatings, rated_lines_follow) > 10);
     }
 
     /// A library for which a fact of 0 matters, in the answer, in a line's least weight or in a refusal's place, is found

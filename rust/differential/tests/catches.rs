@@ -1322,7 +1322,10 @@ fn found_in_chain(deal: &Weighing, tranche: &Tranche) -> Option<Tranche> {
     let ranked = others.filter(|row| row.class >= tranche.class && row.months >= tranche.months);
     let rated = ranked.filter_map(|row| match is_rated(row) {
         true => Some(*row),
-        false => deal.found(row),
+        false => deal.found(row).map(|found| Tranche {
+            ratings: found.ratings,
+            ..*row
+        }),
     });
     rated.reduce(|one, other| if other.class < one.class { other } else { one })
 }

@@ -14,7 +14,8 @@ use crate::sheet_error::SheetError;
 /// maturity and thickness. It can take those of each tranche that has a rating of its own, is in its class, placed before
 /// it or after it, or in a class below, and has an equal or longer maturity in months (with a reporting date, those of
 /// [`Date::months_to`]). Of these the most senior class counts, and in it the tranche that is placed first; all its ratings
-/// are taken. So a rating can change the lines of its own class and of those above it, and of no class below.
+/// are taken. So a rating can change the lines of its own class and of those above it, and of no class below, as long as the
+/// sheet is not refused.
 ///
 /// Nothing is taken in a re-securitisation, in a deal under SEC-IRBA and without due diligence.
 ///

@@ -396,7 +396,7 @@ fn with_ratings_written(words: &[u64]) -> Result<(Vec<u64>, usize), SheetError> 
     Ok((written, count))
 }
 
-/// Every sheet has the answer of the sheet with the ratings written that its tranches can take, but where nothing is
+/// Every sheet has the answer of the sheet with the ratings written that its tranches can take; also where nothing is
 /// taken: in a re-securitisation, under SEC-IRBA and without due diligence they play no part, written or not.
 #[test]
 fn ratings_that_are_taken_can_be_written() -> Result<(), SheetError> {

@@ -1,4 +1,4 @@
--- `reference_row`: none of the rows before the turn's isReference, and the turn's is rated; the first that serves is that of 02's words. The measure is what is left of the tranches. No axioms.
+-- `reference_row`: none of the rows before the turn's is a reference, and the turn's is rated; the first reference is the row of 02's words. The measure is what is left of the tranches. No axioms.
 use mathlib.Core.Bool.{true, false}
 use mathlib.Core.Logic.{⊎-elim}
 use mathlib.Core.Path.{_≡_, sym, _∙_}
@@ -11,7 +11,7 @@ use Rattle.judgement.specs.DealSheet.{trancheCount, months}
 use Rattle.judgement.proofs.LayoutLaws.{tranches-is, reporting-date-is}
 use Rattle.judgement.proofs.SheetLimits.{tranches-counted, tranches-within}
 use Rattle.deal.specs.InferredRatings.{ratedRow, isReference}
-use Rattle.deal.specs.NextRated.{FirstRatedFrom, NextRated}
+use Rattle.deal.specs.NextRated.{FirstRatedFrom}
 use Rattle.deal.proofs.InferredLaws.{reference-is, first-reference, no-reference, senior-no-reference, shorter-no-reference}
 use Rattle.deal.proofs.NextRatedLaws.{none-up-to, passed-over}
 use Rattle.deal.proofs.inferred.reference_row.Statement.{statement}
