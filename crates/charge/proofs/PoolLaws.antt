@@ -1,9 +1,10 @@
--- Over sums within their limits no charge and no share is above 1,000,000, and no average is above 125,000; the base charge of a mixed one is rounded up first. No axioms.
+-- Over sums within their limits no charge and no share is above 1,000,000, and no average is above 125,000; the base charge of a mixed one is rounded up first; over weights in percent base charge and average are those of 01's own figures. No axioms.
 use mathlib.Core.Bool.{false}
-use mathlib.Core.Path.{_≡_, refl}
+use mathlib.Core.Path.{_≡_, refl, ap}
 use Prim.Native.Nat.{ℕ, _+_, _*_, _-_, _≤_}
 use native.Mathlib.Nat.{le-refl, mul-le-mul-left}
 use native.Mathlib.Omega.{arith}
+use Rattle.numbers.specs.Rounding.{roundedUp}
 use Rattle.numbers.proofs.RoundingLaws.{rounded-up-at-most}
 use Rattle.numbers.proofs.Tests.{at-cond}
 use Rattle.charge.specs.PoolCharge.{baseCharge, lateShare, knownCharge, unknownExposure, mostlyKnown, poolCharge, mixedCharge, poolAverage}
@@ -44,7 +45,7 @@ pool-charge-at-most-million q l =
 
 -- the base charge is rounded up before it is mixed in: 20.5 millionths count as 21, of which a rest of 5% is 1.05
 pub base-rounded-first :
-    mixedCharge (record { charge = 0; loss = 0; loans = 1; retail = false; share = 950000; average = 0 }) (record { exposure = 1600; nominal = 1; weighted = 41 }) ≡ 2
+    mixedCharge (record { charge = 0; loss = 0; loans = 1; retail = false; share = 950000; average = 0 }) (record { exposure = 1600; nominal = 1; weighted = 4100 }) ≡ 2
 unfolding mixedCharge
 base-rounded-first = refl
 
@@ -59,3 +60,11 @@ mixed-charge-at-most-million f t l share charge =
 
 pub pool-average-at-most : (q : Sums) → SumLimits q → poolAverage q ≤ 125000
 pool-average-at-most q l = rounded-up-at-most _ _ 125000 (omega arith)
+
+-- ---- 02, S-9: "charge and cap come out as before.": where the weights are in percent and their weighted sum is w, the sum in hundredths is 100 × w, and 01's figures are 800 and 100
+
+pub same-base-charge : (t : Totals) (w : ℕ) → t .weighted ≡ 100 * w → baseCharge t ≡ roundedUp (800 * w) (t .exposure)
+same-base-charge t w e = ap (λ (x : ℕ). roundedUp x (t .exposure)) (omega (arith, e))
+
+pub same-average : (q : Sums) (w : ℕ) → q .all .weighted ≡ 100 * w → poolAverage q ≡ roundedUp (100 * w) (q .all .exposure)
+same-average q w e = ap (λ (x : ℕ). roundedUp x (q .all .exposure)) e

@@ -11,9 +11,9 @@ use Rattle.charge.specs.declared.Totals.{Totals}
 abbrev pub largestSum : ℕ
 largestSum = 10000000000000
 
--- the highest risk weight of a row, in percent
+-- the highest risk weight of a row, in hundredths of a percent
 abbrev pub highestWeight : ℕ
-highestWeight = 1250
+highestWeight = 125000
 
 unfoldable pub sumsWithin : Sums → Bool
 sumsWithin q =

@@ -6,7 +6,7 @@ ghost use Rattle.charge.specs.Figures.{highestFigures, figures, irbaFigu
 use irba::IrbFigures;
 use numbers::rounded_up;
 
-// Sums over rows of a pool: exposure, nominal, and exposure × risk weight, the risk weight in percent.
+// Sums over rows of a pool: exposure, nominal, and exposure × risk weight, the risk weight in hundredths of a percent.
 pub struct Totals {
     pub exposure: u64,
     pub nominal: u64,
@@ -37,17 +37,11 @@ const LATE_CHARGE: u64 = 500000;
 // The largest sum of amounts: 1,000 rows of 10^10.
 const LARGEST_SUM: u64 = 10000000000000;
 
-// The highest risk weight of a row, in the unit of the rows' weights, percent.
-const HIGHEST_WEIGHT: u64 = 1250;
+// 1250%, the highest risk weight of a row and the highest average, in hundredths of a percent.
+const HIGHEST_WEIGHT: u64 = 125000;
 
-// The charge of a risk weight of one unit: 8% of a percent, in millionths.
-const UNIT_CHARGE: u64 = 800;
-
-// The weight of one unit in hundredths of a percent, in which averages are counted.
-const UNIT_AVERAGE: u64 = 100;
-
-// 1250%, the highest average.
-const HIGHEST_AVERAGE: u64 = 125000;
+// The charge of a risk weight of one unit: 8% of a hundredth of a percent, in millionths.
+const UNIT_CHARGE: u64 = 8;
 
 // Whether the sums are within the limits under which nothing overflows. The first two tests keep the products of the next two small.
 fn sums_within(q: Sums) -> bool
@@ -125,7 +119,7 @@ fn pool_average(q: Sums) -> u64
     requires { ⌜ SumLimits q ⌝ }
     ensures { λ r. ⌜ r ≡ poolAverage q ⌝ }
 {
-    rounded_up(UNIT_AVERAGE * q.all.weighted, q.all.exposure)
+    rounded_up(q.all.weighted, q.all.exposure)
 }
 
 // The highest figures, for sums that no sheet has, so that no caller gets one that is too low.
@@ -135,7 +129,7 @@ fn highest_figures() -> Figures
     Figures {
         known: false,
         charge: MILLION,
-        average: HIGHEST_AVERAGE,
+        average: HIGHEST_WEIGHT,
     }
 }
 
@@ -173,7 +167,7 @@ fn irb_within(f: IrbFigures) -> bool
     if MILLION < f.charge {
         return false;
     }
-    f.average <= HIGHEST_AVERAGE
+    f.average <= HIGHEST_WEIGHT
 }
 
 // The figures under SEC-IRBA of a pool with these sums and this IRB section; the highest where sums or section are outside their limits, which no sheet's are.

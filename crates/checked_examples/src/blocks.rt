@@ -1,9 +1,9 @@
 // Totals by portfolio of pools whose rows all differ, so that a row in the wrong block shows, and the sums of single blocks, past the last one too.
-ghost use mathlib.Core.Path.{_≡_};
 ghost use Prim.Native.Nat.{_≤_, _<_};
-ghost use lib.ListN.{length};
-ghost use Rattle.limits.specs.SheetSize.{rowsMost, wordLimit};
+ghost use Rattle.limits.specs.SheetSize.{rowsMost};
 ghost use Rattle.buffers.specs.CountWithin.{HasBytes};
+use crate::conversions::print_converted;
+use crate::conversions::words_within;
 use crate::edges::FIRST_ROW;
 use crate::edges::POOL_AT;
 use crate::edges::THIN;
@@ -33,14 +33,25 @@ fn status_of(i: u64, resecuritisation: u64) -> u64 {
     if resecuritisation == 1 { 3 } else { i % 3 }
 }
 
+// The risk weight of row i, from 0, in that unit: in hundredths of a percent few are whole percents.
+fn weight_of(i: u64, unit: u64) -> u64
+    requires { ⌜ i < rowsMost ⌝ }
+{
+    if unit == 1 { 125000 - 37 * i } else { 1250 - i }
+}
+
 // A sheet with the most pool rows, of which no two have an exposure, a nominal amount or a risk weight in common.
-fn with_different_rows(sheet: [u64; WORD_LIMIT], resecuritisation: u64) -> [u64; WORD_LIMIT] {
+fn with_different_rows(
+    sheet: [u64; WORD_LIMIT],
+    resecuritisation: u64,
+    unit: u64,
+) -> [u64; WORD_LIMIT] {
     let mut filled = sheet;
     for i in 0..ROWS_MOST {
         let at = FIRST_ROW + ROW_SIZE * i;
         filled[at] = exposure_of(i as u64);
         filled[at + 1] = 2000000 + 3 * i as u64;
-        filled[at + 2] = 1250 - i as u64;
+        filled[at + 2] = weight_of(i as u64, unit);
         filled[at + 3] = status_of(i as u64, resecuritisation);
     }
     filled
@@ -48,7 +59,7 @@ fn with_different_rows(sheet: [u64; WORD_LIMIT], resecuritisation: u64) -> [u64;
 
 // A sheet whose pool is so many of these rows, with one tranche of 10^6, of class 1, 60 months, held in full and rated below CCC-: in an ordinary deal the cap
 // lowers its 1250% to the average of the pool. What follows the tranche is no part of the sheet.
-fn different_sheet(rows: usize, resecuritisation: u64) -> [u64; WORD_LIMIT]
+fn different_sheet(rows: usize, resecuritisation: u64, unit: u64) -> [u64; WORD_LIMIT]
     requires { ⌜ rows ≤ rowsMost ⌝ }
 {
     let mut facts = [0u64; WORD_LIMIT];
@@ -56,7 +67,8 @@ fn different_sheet(rows: usize, resecuritisation: u64) -> [u64; WORD_LIMIT]
     facts[2] = resecuritisation;
     facts[3] = 1;
     facts[4] = 1;
-    let mut sheet = with_different_rows(facts, resecuritisation);
+    facts[7] = unit;
+    let mut sheet = with_different_rows(facts, resecuritisation, unit);
     sheet[POOL_AT] = rows as u64;
     let at = FIRST_ROW + ROW_SIZE * rows;
     sheet[at] = 1;
@@ -70,42 +82,50 @@ fn different_sheet(rows: usize, resecuritisation: u64) -> [u64; WORD_LIMIT]
     sheet
 }
 
-// How many words a sheet of so many different rows has, with so many more at its end. Promised: the lent list has so many (`HasBytes`, here of words), so that a caller can cut it there.
+// How many words a sheet of so many different rows has, with so many more at its end.
 fn different_length(rows: usize, more: usize, sheet: &[u64]) -> usize
-    requires { ⌜ (rows ≤ rowsMost) × (more ≤ 1) × (length (now sheet) ≡ wordLimit) ⌝ }
+    requires { ⌜ (rows ≤ rowsMost) × (more ≤ 1) ⌝ }
     ensures { λ r. ⌜ HasBytes r (now (sheet .entry)) ⌝ }
 {
-    FIRST_ROW + ROW_SIZE * rows + 1 + TRANCHE_SIZE + more
+    words_within(
+        (FIRST_ROW + ROW_SIZE * rows + 1 + TRANCHE_SIZE + more) as u64,
+        sheet,
+    )
 }
 
-// Writes both texts of a sheet of so many different rows.
-fn print_pool(rows: usize, resecuritisation: u64)
+// Writes both texts of a sheet of so many different rows, and how it is converted.
+fn print_pool(rows: usize, resecuritisation: u64, unit: u64)
     requires { ⌜ rows ≤ rowsMost ⌝ }
 {
-    let sheet = different_sheet(rows, resecuritisation);
+    let sheet = different_sheet(rows, resecuritisation, unit);
     let length = different_length(rows, 0, &sheet);
     let mut file = [0u8; BYTE_LIMIT];
     print_labelled(b"different rows ", rows as u64);
     print_labelled(b", re-securitisation ", resecuritisation);
+    print_labelled(b", unit ", unit);
     io::write_all(STDOUT_FILENO, b"\n");
     if files::store(&sheet[..length], &mut file) {
         let size = buffers::within(8 * length as u64, &file);
         print_texts(&file[..size]);
     }
+    print_converted(&sheet[..length], true);
 }
 
-// Writes both texts of the smallest pool, of pools that end before, at and just past the end of a block, of the largest one, and of one in a
-// re-securitisation.
+// Writes both texts of the smallest pool, of pools that end before, at and just past the end of a block, of the largest one, of one in a re-securitisation and
+// of some in hundredths of a percent; and how each is converted.
 pub(crate) fn print_pools() {
-    print_pool(1, 0);
-    print_pool(49, 0);
-    print_pool(50, 0);
-    print_pool(51, 0);
-    print_pool(99, 0);
-    print_pool(100, 0);
-    print_pool(101, 0);
-    print_pool(1000, 0);
-    print_pool(101, 1);
+    print_pool(1, 0, 0);
+    print_pool(49, 0, 0);
+    print_pool(50, 0, 0);
+    print_pool(51, 0, 0);
+    print_pool(99, 0, 0);
+    print_pool(100, 0, 0);
+    print_pool(101, 0, 0);
+    print_pool(1000, 0, 0);
+    print_pool(101, 1, 0);
+    print_pool(1, 0, 1);
+    print_pool(101, 0, 1);
+    print_pool(1000, 0, 1);
 }
 
 // Writes three sums, with a space before each.
@@ -152,17 +172,17 @@ fn print_blocks(name: &[u8], rows: u64, sheet: &[u64]) {
 }
 
 // Writes some blocks of a sheet of so many different rows.
-fn print_different(rows: usize)
+fn print_different(name: &[u8], rows: usize, unit: u64)
     requires { ⌜ rows ≤ rowsMost ⌝ }
 {
-    let sheet = different_sheet(rows, 0);
+    let sheet = different_sheet(rows, 0, unit);
     let length = different_length(rows, 0, &sheet);
-    print_blocks(b"different rows ", rows as u64, &sheet[..length]);
+    print_blocks(name, rows as u64, &sheet[..length]);
 }
 
 // Writes some blocks of two sheets of 51 different rows that are refused: with 3, and with 6 for the risk weight of the last row, which block 1 has alone.
 fn print_refused() {
-    let longer = different_sheet(51, 0);
+    let longer = different_sheet(51, 0, 0);
     let length = different_length(51, 1, &longer);
     print_blocks(b"a word too many, rows ", 51, &longer[..length]);
     let mut bad = longer;
@@ -173,9 +193,11 @@ fn print_refused() {
 
 // Writes single blocks of accepted sheets, of refused ones, and of one that is refused where it is weighed, with 13, which no block gets.
 pub(crate) fn print_single_blocks() {
-    print_different(50);
-    print_different(51);
-    print_different(1000);
+    print_different(b"different rows ", 50, 0);
+    print_different(b"different rows ", 51, 0);
+    print_different(b"different rows ", 1000, 0);
+    print_different(b"hundredths, different rows ", 51, 1);
+    print_different(b"hundredths, different rows ", 1000, 1);
     print_refused();
     let thin = THIN;
     print_blocks(b"thin tranche, rows ", 2, &thin);

@@ -1,5 +1,7 @@
 // What is not kept as a written sheet: results that are too short (14), files of a bad length (15), and the largest deals.
+use crate::conversions::print_converted;
 use crate::examples::print_texts;
+use crate::figures::print_labelled;
 use deal::Answer;
 use judgement::Refusal;
 use libc::STDOUT_FILENO;
@@ -219,24 +221,25 @@ fn with_irb_section(sheet: [u64; WORD_LIMIT], share: u64) -> [u64; WORD_LIMIT] {
     filled
 }
 
-// Writes both texts of the largest deal, as many words as a sheet has, of a mixed pool with that risk weight of all rows, that STC mark and that share.
-pub(crate) fn print_largest(weight: u64, stc: u64, share: u64) {
+// Writes both texts of the largest deal, as many words as a sheet has, of a mixed pool with that risk weight of all rows in that unit, that STC mark and that
+// share; and how it is converted.
+pub(crate) fn print_largest(weight: u64, unit: u64, stc: u64, share: u64) {
     let mut facts = [0u64; WORD_LIMIT];
     facts[0] = FACTS_MOST as u64;
     facts[1] = 2;
     facts[3] = 1;
     facts[4] = 1;
     facts[5] = stc;
+    facts[7] = unit;
     let sheet = with_irb_section(with_tranches(with_rows(facts, weight)), share);
     let mut file = [0u8; BYTE_LIMIT];
-    io::write_all(STDOUT_FILENO, b"largest deal, risk weight ");
-    io::print_decimal(STDOUT_FILENO, weight);
-    io::write_all(STDOUT_FILENO, b", STC mark ");
-    io::print_decimal(STDOUT_FILENO, stc);
-    io::write_all(STDOUT_FILENO, b", share ");
-    io::print_decimal(STDOUT_FILENO, share);
+    print_labelled(b"largest deal, risk weight ", weight);
+    print_labelled(b", unit ", unit);
+    print_labelled(b", STC mark ", stc);
+    print_labelled(b", share ", share);
     io::write_all(STDOUT_FILENO, b"\n");
     if files::store(&sheet, &mut file) {
         print_texts(&file);
     }
+    print_converted(&sheet, true);
 }

@@ -1,4 +1,5 @@
 // The examples that are written as sheets: each argument names one.
+use crate::conversions::print_file_converted;
 use crate::reading;
 use libc::STDOUT_FILENO;
 use limits::BYTE_LIMIT;
@@ -35,19 +36,20 @@ pub(crate) fn print_texts(file: &[u8]) {
     print_totals(file);
 }
 
-// Writes both texts of a sheet that is written as a text.
+// Writes both texts of a sheet that is written as a text, and how it is converted.
 fn print_sheet(text: &[u8]) {
     let mut file = [0u8; BYTE_LIMIT];
     let made = sheet_text::sheet_bytes(text, &mut file);
     if let Made::Bytes(n) = made {
         let length = buffers::within(n, &file);
         print_texts(&file[..length]);
+        print_file_converted(&file[..length]);
     } else {
         io::write_all(STDOUT_FILENO, b"no sheet\n");
     }
 }
 
-// Writes the name of an example and both texts of it.
+// Writes the name of an example, both texts of it and how it is converted.
 fn print_example(i: usize) {
     let mut name = io::buffer();
     let length = os::arg(i, &mut name);

@@ -12,7 +12,7 @@ use Rattle.judgement.specs.Refusals.{refused, orElse, firstOf, wordsVerdict}
 use Rattle.judgement.specs.declared.Verdict.{Verdict}
 use Rattle.judgement.specs.declared.Verdict.the-variants.{Sound, Faulty}
 use Rattle.judgement.proofs.MovedVerdicts.{atMoved, moved-or-else, moved-cond, first-of-moved}
-use Rattle.judgement.proofs.FilledFacts.{same-rows, same-tranche-count, tranche-at-moved, same-row-word, same-tranche-word, filled-same-kind, filled-same-facts, filled-same-irb, filled-same-date, kept-place, later-place, words-moved}
+use Rattle.judgement.proofs.FilledFacts.{same-rows, same-tranche-count, tranche-at-moved, same-row-word, same-tranche-word, filled-same-kind, filled-same-facts, filled-same-irb, filled-same-date, filled-same-unit, kept-place, later-place, words-moved}
 use Rattle.judgement.proofs.NeededLaws.{pool-at-least, tranches-at-past-rows}
 use Rattle.pool.specs.PoolSums.{poolSums}
 use Rattle.pool.proofs.SameSums.{same-sums-in-order}
@@ -32,7 +32,7 @@ module _ (n : ℕ) (s : List ℕ) (c : CanFill n s) where
   -- ---- what the tranches share, and what is a tranche's own
 
   filled-sums : poolSums f ≡ poolSums s
-  filled-sums = same-sums-in-order s f (same-rows n s c) (λ i k row column. same-row-word n s c i k)
+  filled-sums = same-sums-in-order s f (same-rows n s c) (filled-same-unit n s c) (λ i k row column. same-row-word n s c i k)
 
   filled-terms : terms f ≡ terms s
   filled-terms = same-terms s f (filled-same-kind n s c) (filled-same-facts n s c) (filled-same-irb n s c) filled-sums
@@ -90,7 +90,7 @@ module _ (n : ℕ) (s : List ℕ) (c : CanFill n s) where
     same-results = λ old. rw (verdict-moved (length old)) (results-kept old (verdict s (length old)));
   }
 
--- ---- a sheet, and the same sheet with one fact more, which is 0: S-1's "a sheet with four facts counts as 0", S-3's "0 or absent means months as before."
+-- ---- a sheet, and the same sheet with one fact more, which is 0: S-1's "a sheet with four facts counts as 0", S-3's "0 or absent means months as before.", S-9's 0 for whole percent
 
 take-whole : (xs ys : List ℕ) → take (length xs) (xs ++ ys) ≡ xs
 take-whole [] ys = refl

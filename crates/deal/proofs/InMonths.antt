@@ -11,14 +11,15 @@ use lib.Dec.{eqb}
 use borrow.Author.Tests.{leb-true, eqb-true, eqb-false}
 use Rattle.numbers.proofs.Tests.{at-cond}
 use Rattle.faults.specs.GoodWords.{GoodFact, GoodTranche}
-use Rattle.judgement.specs.DealSheet.{word, poolKind, resecuritisation, hasFact, reportingDate, poolAt, rows, rowAt, tranchesAt, trancheCount, trancheAt, amount, months, held, firstRating, secondRating, thirdRating, hasIrb, irbAt, irbPlace}
+use Rattle.judgement.specs.DealSheet.{word, poolKind, resecuritisation, hasFact, reportingDate, unitAt, inHundredths, poolAt, rows, rowAt, tranchesAt, trancheCount, trancheAt, amount, months, held, firstRating, secondRating, thirdRating, hasIrb, irbAt, irbPlace}
 use Rattle.judgement.specs.GoodSheet.{GoodRowOf, GoodTrancheOf, GoodIrbOf, GoodSheet}
 use Rattle.judgement.specs.Refusals.{wordsVerdict}
 use Rattle.judgement.specs.declared.Verdict.the-variants.{Sound}
 use Rattle.judgement.proofs.GoodSheetLaw.{good-sheet, good-sheet-words}
 use Rattle.judgement.proofs.JudgedLaws.{words-accepted, accepted-words}
 use Rattle.judgement.proofs.NeededLaws.{tranches-at-past-rows, irb-at-past-tranches}
-use Rattle.judgement.proofs.SameLayout.{SameCounts, same-counts, same-irb-at, same-needed, SameFacts, same-facts, same-irb-figures, same-good-row}
+use Rattle.judgement.proofs.AlikeSheets.{same-irb-column, same-irb-count, same-irb-row, good-alike}
+use Rattle.judgement.proofs.SameLayout.{SameCounts, same-counts, same-irb-at, same-needed, SameFacts, same-facts, same-unit, same-irb-figures, same-good-row}
 use Rattle.pool.specs.PoolSums.{poolSums}
 use Rattle.pool.proofs.SameSums.{same-sums-in-order}
 use Rattle.deal.specs.InferredRatings.{infersRatings}
@@ -50,9 +51,12 @@ module _ (s s′ : List ℕ) (r : InMonths s s′) (words : wordsVerdict s ≡ S
       let is : c ≡ 2 = omega arith in
       other is)
 
+  first : word s′ 0 ≡ word s 0
+  first = same-before 0 (λ e. omega arith) (omega arith)
+
   counts : SameCounts s s′
   counts =
-      same-counts s s′ (same-before 0 (λ e. omega arith) (omega arith))
+      same-counts s s′ first
       (same-before (poolAt s) (λ e. omega (arith, date-before-pool)) (omega (arith, tranches-at-past-rows s)))
       (same-before (tranchesAt s) (λ e. omega (arith, date-before-pool, tranches-at-past-rows s)) (le-refl _))
 
@@ -64,6 +68,11 @@ module _ (s s′ : List ℕ) (r : InMonths s s′) (words : wordsVerdict s ≡ S
       same-facts s s′ (λ p other h before. same-before p (λ e. omega arith) (omega (arith, tranches-at-past-rows s)))
       (omega (arith, date-before-pool))
 
+  unit : inHundredths s′ ≡ inHundredths s
+  unit =
+      same-unit s s′ first
+      (λ before. same-before unitAt (λ e. omega arith) (omega (arith, tranches-at-past-rows s)))
+
   same-row-word : (i c : ℕ) → i < rows s → c < 4 → word s′ (rowAt s i + c) ≡ word s (rowAt s i + c)
   same-row-word i c row column =
       same-before (rowAt s i + c) (λ e. omega (arith, date-before-pool)) (omega (arith, tranches-at-past-rows s))
@@ -74,9 +83,6 @@ module _ (s s′ : List ℕ) (r : InMonths s s′) (words : wordsVerdict s ≡ S
       r .same-word p
       (λ e. omega (arith, date-before-pool, tranches-at-past-rows s, irb-at-past-tranches s))
       (λ i l e. omega (arith, irb-at-past-tranches s))
-
-  same-irb-column : (c : ℕ) → word s′ (irbPlace s c) ≡ word s (irbPlace s c)
-  same-irb-column c = same-irb-word (irbPlace s c) (omega arith)
 
   same-amount : (j : ℕ) → word s′ (trancheAt s j) ≡ word s (trancheAt s j)
   same-amount j = simp add-zero at (same-column j 0 (λ e. omega arith) (omega arith))
@@ -109,7 +115,7 @@ module _ (s s′ : List ℕ) (r : InMonths s s′) (words : wordsVerdict s ≡ S
 
   row-in-months : (i : ℕ) → i < rows s → GoodRowOf s′ i
   row-in-months i row =
-      same-good-row s s′ i (facts .same-resecuritisation) (counts .pool-at) (λ c column. same-row-word i c row column) (good .each-row i row)
+      same-good-row s s′ i (facts .same-resecuritisation) unit (counts .pool-at) (λ c column. same-row-word i c row column) (good .each-row i row)
 
   -- a tranche's words stay good where its maturity is its months and there is no reporting date
   by-months : (i : ℕ) → i < trancheCount s → GoodTranche 0 (amount s i) (months s i) (held s i) (firstRating s i) (secondRating s i) (thirdRating s i)
@@ -142,43 +148,13 @@ module _ (s s′ : List ℕ) (r : InMonths s s′) (words : wordsVerdict s ≡ S
       )
       (by-months i row)
 
-  irb-in-months : hasIrb s′ ≡ true → GoodIrbOf s′
-  irb-in-months has =
-      rw (
-        kind,
-        same-irb-at s s′ counts,
-        same-irb-column 0,
-        same-irb-column 1,
-        same-irb-column 2,
-        same-irb-column 3,
-        same-irb-column 4,
-        same-irb-column 5,
-      )
-      (good .irb-row (rw kind at has))
-
   good-in-months : GoodSheet s′
-  good-in-months = record {
-    facts-least = rw (same-before 0 (λ e. omega arith) (omega arith)) (good .facts-least);
-    facts-most = rw (same-before 0 (λ e. omega arith) (omega arith)) (good .facts-most);
-    each-fact = λ p least before. fact-in-months p least (omega (arith, before, counts .pool-at));
-    rows-least = rw (counts .row-count) (good .rows-least);
-    rows-most = rw (counts .row-count) (good .rows-most);
-    each-row = λ i row. row-in-months i (omega (arith, row, counts .row-count));
-    tranches-least = rw (counts .tranche-count) (good .tranches-least);
-    tranches-most = rw (counts .tranche-count) (good .tranches-most);
-    each-tranche = λ i row. tranche-in-months i (omega (arith, row, counts .tranche-count));
-    each-class = λ i row.
-        rw (
-          counts .tranches-at,
-          same-column i 1 (λ e. omega arith) (omega arith),
-          same-column (i - 1) 1 (λ e. omega arith) (omega arith),
-        )
-        (good .each-class i (omega (arith, row, counts .tranche-count)));
-    irb-count = λ has.
-        rw (same-irb-at s s′ counts, same-irb-word (irbAt s) (le-refl _)) (good .irb-count (rw kind at has));
-    irb-row = irb-in-months;
-    length-is = omega (arith, r .same-length, good .length-is, same-needed s s′ counts kind);
-  }
+  good-in-months =
+      good-alike s s′ good first counts fact-in-months row-in-months tranche-in-months
+      (λ i row. rw (counts .tranches-at) (same-column i 1 (λ e. omega arith) (omega arith)))
+      (same-irb-count s s′ good first counts kind same-irb-word)
+      (same-irb-row s s′ good first counts kind same-irb-word)
+      (omega (arith, r .same-length, good .length-is, same-needed s s′ counts kind))
 
   words-in-months : wordsVerdict s′ ≡ Sound
   words-in-months = accepted-words s′ (good-sheet-words s′ good-in-months)
@@ -186,12 +162,12 @@ module _ (s s′ : List ℕ) (r : InMonths s s′) (words : wordsVerdict s ≡ S
   -- ---- the terms, the tranches and the answer
 
   sums : poolSums s′ ≡ poolSums s
-  sums = same-sums-in-order s s′ (counts .row-count) (λ i c row column. rw (counts .pool-at) (same-row-word i c row column))
+  sums = same-sums-in-order s s′ (counts .row-count) unit (λ i c row column. rw (counts .pool-at) (same-row-word i c row column))
 
   shared : terms s′ ≡ terms s
   shared =
       same-terms s s′ kind facts
-      (same-irb-figures s s′ kind (λ c column. rw (same-irb-at s s′ counts) (same-irb-column c)))
+      (same-irb-figures s s′ kind (λ c column. same-irb-column s s′ good first counts kind same-irb-word c))
       sums
 
   own : (i : ℕ) → i < trancheCount s → tranche s′ i ≡ tranche s i

@@ -7,7 +7,7 @@ use mathlib.Core.Path.{_≡_, refl, sym, ap, _∙_, subst}
 use Prim.Native.Nat.{ℕ, _+_, _*_, _-_, _≤_, _<_}
 use native.Mathlib.Nat.{eq-zero-or-pos, le-refl}
 use native.Mathlib.Omega.{arith}
-use Rattle.judgement.specs.DealSheet.{word, poolKind, reportingDate, poolAt, rowAt, tranchesAt, trancheCount, trancheAt, class, months, irbPlace, needed}
+use Rattle.judgement.specs.DealSheet.{word, poolKind, reportingDate, unitAt, inHundredths, poolAt, rowAt, tranchesAt, trancheCount, trancheAt, class, months, irbPlace, needed}
 use Rattle.pool.specs.PoolSums.{poolSums}
 use Rattle.pool.proofs.SameSums.{same-sums-in-order}
 use Rattle.weights.specs.declared.Terms.{Terms}
@@ -18,7 +18,7 @@ use Rattle.deal.specs.Refusals.{verdict}
 use Rattle.deal.specs.OtherRatings.{SameButRatings, SeniorTo, OtherThan, OwnRatingsOnly, SameLine, is-rated, in-resecuritisation, under-irba, without-diligence}
 use Rattle.judgement.specs.declared.Verdict.the-variants.{Sound}
 use Rattle.judgement.proofs.NeededLaws.{pool-at-least, tranches-at-past-rows, irb-at-past-tranches}
-use Rattle.judgement.proofs.SameLayout.{SameCounts, same-counts, same-irb-at, SameFacts, same-facts, same-irb-figures, same-reporting-date}
+use Rattle.judgement.proofs.SameLayout.{SameCounts, same-counts, same-irb-at, SameFacts, same-facts, same-unit, same-irb-figures, same-reporting-date}
 use Rattle.judgement.proofs.SheetLimits.{facts-counted, pool-at-within}
 use Rattle.deal.proofs.InferredLaws.{none-without-diligence, none-in-resecuritisation, none-under-irba, senior-no-reference, kept-where-rated, kept-without-inference, rating-row-junior}
 use Rattle.deal.proofs.JudgedLaws.{accepted-judged}
@@ -56,9 +56,12 @@ module _ (s s′ : List ℕ) (some : ℕ → Type 0) (same : SameButRatings s s�
   same-rated : (j : ℕ) → (some j → ⊥) → ratedRow s′ j ≡ ratedRow s j
   same-rated j other = rw (same-rating j 4 other (omega arith), same-rating j 5 other (omega arith), same-rating j 6 other (omega arith))
 
+  ratings-unit : inHundredths s′ ≡ inHundredths s
+  ratings-unit = same-unit s s′ (same-head 0 (omega arith)) (λ before. same-head unitAt (omega (arith, tranches-at-past-rows s)))
+
   ratings-sums : poolSums s′ ≡ poolSums s
   ratings-sums =
-      same-sums-in-order s s′ (ratings-counts .row-count)
+      same-sums-in-order s s′ (ratings-counts .row-count) ratings-unit
       (λ j c row column. rw (ratings-counts .pool-at) (same-head (rowAt s j + c) (omega (arith, tranches-at-past-rows s))))
 
   ratings-kind : poolKind s′ ≡ poolKind s
@@ -75,7 +78,7 @@ module _ (s s′ : List ℕ) (some : ℕ → Type 0) (same : SameButRatings s s�
 
     ratings-date : reportingDate s′ ≡ reportingDate s
     ratings-date =
-        same-reporting-date s s′ (λ p other before. same-head p (omega (arith, tranches-at-past-rows s))) (pool-at-within s (facts-counted s good) .0)
+        same-reporting-date s s′ (same-head 0 (omega arith)) (λ before. same-head 6 (omega (arith, tranches-at-past-rows s)))
 
     pub ratings-terms : terms s′ ≡ terms s
     ratings-terms = same-terms s s′ ratings-kind ratings-facts (same-irb-figures s s′ ratings-kind same-irb-word) ratings-sums

@@ -9,10 +9,10 @@ use native.Mathlib.Omega.{arith}
 use lib.ListN.{length}
 use borrow.Author.Tests.{lt-ltb}
 use Rattle.limits.specs.SheetSize.{factsLeast}
-use Rattle.judgement.specs.DealSheet.{word, poolKind, irbFigures, reportingDate, poolAt, rows, rowAt, tranchesAt, trancheCount, trancheAt, irbPlace, needed}
+use Rattle.judgement.specs.DealSheet.{word, poolKind, irbFigures, reportingDate, unitAt, inHundredths, poolAt, rows, rowAt, tranchesAt, trancheCount, trancheAt, irbPlace, needed}
 use Rattle.pool.specs.PoolSums.{poolSums}
 use Rattle.pool.specs.OrderOfRows.{Reordered}
-use Rattle.pool.proofs.SameSums.{same-sums}
+use Rattle.pool.proofs.SameSums.{same-sums, same-weight}
 use Rattle.deal.specs.InferredRatings.{infersRatings}
 use Rattle.deal.specs.Lines.{terms, tranche}
 use Rattle.judgement.specs.Refusals.{rowOf, fault, judge, judged}
@@ -23,7 +23,7 @@ use Rattle.judgement.specs.declared.Verdict.the-variants.{Sound}
 use Rattle.judgement.proofs.FirstFault.{first-of-all}
 use Rattle.judgement.proofs.NeededLaws.{pool-at-least, tranches-at-past-rows, irb-at-past-tranches, row-word-needed}
 use Rattle.judgement.proofs.Judgement.{good-word, fault-of-row, InSection, in-section}
-use Rattle.judgement.proofs.SameLayout.{SameCounts, same-counts, same-irb-at, same-needed, SameFacts, same-facts, same-irb-figures, same-reporting-date}
+use Rattle.judgement.proofs.SameLayout.{SameCounts, same-counts, same-irb-at, same-needed, SameFacts, same-facts, same-unit, same-irb-figures, same-reporting-date}
 use Rattle.judgement.proofs.SheetLimits.{facts-counted, pool-at-within}
 use Rattle.judgement.proofs.JudgedLaws.{judged-good}
 use Rattle.deal.proofs.JudgedLaws.{accepted-means, accepted-judged, accepted-when}
@@ -43,10 +43,17 @@ module _ (s s′ : List ℕ) (π σ : ℕ → ℕ) (r : Reordered s s′ π σ) 
   order-needed : needed s′ ≡ needed s
   order-needed = same-needed s s′ order-counts order-kind
 
+  order-unit : inHundredths s′ ≡ inHundredths s
+  order-unit = same-unit s s′ (r .same-before 0 (omega arith)) (λ before. r .same-before unitAt (omega arith))
+
+  order-row : (i c : ℕ) → i < rows s → c < 4 → word s′ (rowAt s′ i + c) ≡ word s (rowAt s (π i) + c)
+  order-row i c row column = rw (order-counts .pool-at) (r .row-moved i c row column)
+
   order-sums : poolSums s′ ≡ poolSums s
   order-sums =
       same-sums s s′ π σ (order-counts .row-count) (r .permutation)
-      (λ i c row column. rw (order-counts .pool-at) (r .row-moved i c row column))
+      (λ i c row other column. order-row i c row column)
+      (λ i row. same-weight s s′ i (π i) order-unit (order-row i 2 row (omega arith)))
 
   -- ---- where the first word is good, the facts are the same
 
@@ -60,7 +67,7 @@ module _ (s s′ : List ℕ) (π σ : ℕ → ℕ) (r : Reordered s s′ π σ) 
         (λ c column. rw (same-irb-at s s′ order-counts) (r .same-after (irbPlace s c) (omega (arith, irb-at-past-tranches s))))
 
     order-date : reportingDate s′ ≡ reportingDate s
-    order-date = same-reporting-date s s′ (λ p other before. r .same-before p (omega arith)) facts
+    order-date = same-reporting-date s s′ (r .same-before 0 (omega arith)) (λ before. r .same-before 6 (omega arith))
 
     order-terms : terms s′ ≡ terms s
     order-terms = same-terms s s′ order-kind order-facts order-irb order-sums
@@ -88,6 +95,7 @@ module _ (s s′ : List ℕ) (π σ : ℕ → ℕ) (r : Reordered s s′ π σ) 
           order-kind,
           order-facts .same-resecuritisation,
           order-date,
+          order-unit,
           r .same-after (trancheAt s (i - 1) + 1) (omega arith),
           r .same-after (trancheAt s i) (omega arith),
         )
@@ -98,7 +106,7 @@ module _ (s s′ : List ℕ) (π σ : ℕ → ℕ) (r : Reordered s s′ π σ) 
         let many : i < rows s′ = omega (arith, order-counts .row-count) in
         ap (fault s′) (sym place) ∙
         fault-of-row s′ i c many column ∙
-        rw (place, order-facts .same-resecuritisation, r .row-moved i c row column)
+        rw (place, order-facts .same-resecuritisation, order-unit, r .row-moved i c row column)
         (sym (fault-of-row s (π i) c (r .permutation .forth i row) column))
 
   -- ---- the judgement

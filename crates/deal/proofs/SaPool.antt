@@ -11,14 +11,15 @@ use borrow.Author.Tests.{eqb-true, eqb-false}
 use Rattle.numbers.proofs.Tests.{true-not-false}
 use Rattle.limits.specs.SheetSize.{factsLeast}
 use Rattle.faults.specs.GoodWords.{GoodFact}
-use Rattle.judgement.specs.DealSheet.{word, poolKind, resecuritisation, dueDiligence, reportingDate, poolAt, rows, rowAt, tranchesAt, trancheCount, trancheAt, hasIrb, irbFigures, layout}
+use Rattle.judgement.specs.DealSheet.{word, poolKind, resecuritisation, dueDiligence, reportingDate, unitAt, inHundredths, poolAt, rows, rowAt, tranchesAt, trancheCount, trancheAt, hasIrb, irbFigures, layout}
 use Rattle.judgement.specs.GoodSheet.{GoodRowOf, GoodTrancheOf, GoodSheet}
 use Rattle.judgement.specs.Refusals.{wordsVerdict}
 use Rattle.judgement.specs.declared.Verdict.the-variants.{Sound}
 use Rattle.judgement.proofs.GoodSheetLaw.{good-sheet, good-sheet-words}
 use Rattle.judgement.proofs.JudgedLaws.{words-accepted, accepted-words}
 use Rattle.judgement.proofs.NeededLaws.{has-no-irb, no-irb-words, needed-is, tranches-at-past-rows, irb-at-past-tranches}
-use Rattle.judgement.proofs.SameLayout.{SameCounts, same-counts, same-irb-at, SameFacts, same-facts, same-reporting-date, same-good-row}
+use Rattle.judgement.proofs.AlikeSheets.{good-alike}
+use Rattle.judgement.proofs.SameLayout.{SameCounts, same-counts, same-irb-at, SameFacts, same-facts, same-unit, same-reporting-date, same-good-row}
 use Rattle.pool.specs.PoolSums.{poolSums}
 use Rattle.pool.proofs.SameSums.{same-sums-in-order}
 use Rattle.weights.specs.ApproachFloorCap.{thin}
@@ -59,7 +60,14 @@ module _ (s s′ : List ℕ) (r : AsSaPool s s′) (words : wordsVerdict s ≡ S
   facts = same-facts s s′ (λ p other h before. same-before p other (omega (arith, tranches-at-past-rows s))) facts-before-pool
 
   date : reportingDate s′ ≡ reportingDate s
-  date = same-reporting-date s s′ (λ p other before. same-before p other (omega (arith, tranches-at-past-rows s))) facts-before-pool
+  date =
+      same-reporting-date s s′ (same-before 0 (λ e. omega arith) (omega arith))
+      (λ before. same-before 6 (λ e. omega arith) (omega (arith, tranches-at-past-rows s)))
+
+  unit : inHundredths s′ ≡ inHundredths s
+  unit =
+      same-unit s s′ (same-before 0 (λ e. omega arith) (omega arith))
+      (λ before. same-before unitAt (λ e. omega arith) (omega (arith, tranches-at-past-rows s)))
 
   same-row-word : (i c : ℕ) → i < rows s → c < 4 → word s′ (rowAt s i + c) ≡ word s (rowAt s i + c)
   same-row-word i c row column =
@@ -91,7 +99,7 @@ module _ (s s′ : List ℕ) (r : AsSaPool s s′) (words : wordsVerdict s ≡ S
 
   row-of-sa : (i : ℕ) → i < rows s → GoodRowOf s′ i
   row-of-sa i row =
-      same-good-row s s′ i (facts .same-resecuritisation) (counts .pool-at) (λ c column. same-row-word i c row column) (good .each-row i row)
+      same-good-row s s′ i (facts .same-resecuritisation) unit (counts .pool-at) (λ c column. same-row-word i c row column) (good .each-row i row)
 
   tranche-of-sa : (i : ℕ) → i < trancheCount s → GoodTrancheOf s′ i
   tranche-of-sa i row =
@@ -108,23 +116,12 @@ module _ (s s′ : List ℕ) (r : AsSaPool s s′) (words : wordsVerdict s ≡ S
       (good .each-tranche i row)
 
   good-of-sa : GoodSheet s′
-  good-of-sa = record {
-    facts-least = rw (same-before 0 (λ e. omega arith) (omega arith)) (good .facts-least);
-    facts-most = rw (same-before 0 (λ e. omega arith) (omega arith)) (good .facts-most);
-    each-fact = λ p least before. fact-of-sa p least (omega (arith, before, counts .pool-at));
-    rows-least = rw (counts .row-count) (good .rows-least);
-    rows-most = rw (counts .row-count) (good .rows-most);
-    each-row = λ i row. row-of-sa i (omega (arith, row, counts .row-count));
-    tranches-least = rw (counts .tranche-count) (good .tranches-least);
-    tranches-most = rw (counts .tranche-count) (good .tranches-most);
-    each-tranche = λ i row. tranche-of-sa i (omega (arith, row, counts .tranche-count));
-    each-class = λ i row.
-        let here : i < trancheCount s = omega (arith, row, counts .tranche-count) in
-        rw (counts .tranches-at, same-column i 1 here (omega arith), same-column (i - 1) 1 (omega arith) (omega arith)) (good .each-class i here);
-    irb-count = λ has. absurd (no-irb-either has);
-    irb-row = λ has. absurd (no-irb-either has);
-    length-is = omega (arith, r .no-section, needed-is s′, no-irb-words s′ no-irb, same-irb-at s s′ counts);
-  }
+  good-of-sa =
+      good-alike s s′ good (same-before 0 (λ e. omega arith) (omega arith)) counts fact-of-sa row-of-sa tranche-of-sa
+      (λ i row. rw (counts .tranches-at) (same-column i 1 row (omega arith)))
+      (λ has. absurd (no-irb-either has))
+      (λ has. absurd (no-irb-either has))
+      (omega (arith, r .no-section, needed-is s′, no-irb-words s′ no-irb, same-irb-at s s′ counts))
 
   words-of-sa : wordsVerdict s′ ≡ Sound
   words-of-sa = accepted-words s′ (good-sheet-words s′ good-of-sa)
@@ -132,7 +129,7 @@ module _ (s s′ : List ℕ) (r : AsSaPool s s′) (words : wordsVerdict s ≡ S
   -- ---- the terms but for the figures of the section, which no line reads, and the tranches
 
   sums : poolSums s′ ≡ poolSums s
-  sums = same-sums-in-order s s′ (counts .row-count) (λ i c row column. rw (counts .pool-at) (same-row-word i c row column))
+  sums = same-sums-in-order s s′ (counts .row-count) unit (λ i c row column. rw (counts .pool-at) (same-row-word i c row column))
 
   not-irba′ : terms s′ .irba ≡ false
   unfolding terms layout

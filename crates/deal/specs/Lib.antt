@@ -11,4 +11,5 @@ pub mod OtherRatings
 pub mod FilledAnswer
 pub mod SameAnswer
 pub mod InMonths
+pub mod OtherUnit
 pub mod SaPool

@@ -1,4 +1,5 @@
--- No word's fault has the number 12, which "no longer occurs" (02, S-5), nor 13 or 14: these are judged after the words, by tranche and by the room for results. No axioms.
+-- No word's fault has the number 12, which "no longer occurs" (02, S-5), nor 13 or 14: these are judged after the words, by tranche and by the room for results; nor 19, which only a conversion
+-- gets (S-9). No axioms.
 use mathlib.Core.Bool.{Bool, true, false, cond, _&&_, _||_}
 use mathlib.Core.Path.{_≡_}
 use Prim.Native.Nat.{ℕ, _<_}
@@ -14,12 +15,14 @@ pub record WordNumber (n : ℕ) : Type 0 where
   pub not-pool-kind : n ≡ 12 → ⊥
   pub not-thin : n ≡ 13 → ⊥
   pub not-room : n ≡ 14 → ⊥
+  pub not-whole-percent : n ≡ 19 → ⊥
 
 below-12 : (n : ℕ) → n < 12 → WordNumber n
-below-12 n h = record { not-pool-kind = λ e. omega arith; not-thin = λ e. omega arith; not-room = λ e. omega arith }
+below-12 n h = record { not-pool-kind = λ e. omega arith; not-thin = λ e. omega arith; not-room = λ e. omega arith; not-whole-percent = λ e. omega arith }
 
-above-14 : (n : ℕ) → 14 < n → WordNumber n
-above-14 n h = record { not-pool-kind = λ e. omega arith; not-thin = λ e. omega arith; not-room = λ e. omega arith }
+between-14-and-19 : (n : ℕ) → 14 < n → n < 19 → WordNumber n
+between-14-and-19 n h l =
+    record { not-pool-kind = λ e. omega arith; not-thin = λ e. omega arith; not-room = λ e. omega arith; not-whole-percent = λ e. omega arith }
 
 -- a number that is picked from two, and one that stands unless the word is good
 
@@ -43,14 +46,14 @@ fact-number resecuritised p w =
     picked (eqb p 1) _ _
     (stands 4 (leb w 2) (below-12 4 (omega arith)))
     (picked (eqb p 5) _ _
-    (picked (resecuritised && eqb w 1) _ _ (above-14 16 (omega arith)) (code-number w))
-    (picked (eqb p 6) _ _ (stands 17 (eqb w 0 || namesDay w) (above-14 17 (omega arith)))
+    (picked (resecuritised && eqb w 1) _ _ (between-14-and-19 16 (omega arith) (omega arith)) (code-number w))
+    (picked (eqb p 6) _ _ (stands 17 (eqb w 0 || namesDay w) (between-14-and-19 17 (omega arith) (omega arith)))
     (code-number w)))
 
-pub row-number : (resecuritised : Bool) (column w : ℕ) → WordNumber (rowFault resecuritised column w)
-row-number resecuritised column w =
+pub row-number : (resecuritised hundredths : Bool) (column w : ℕ) → WordNumber (rowFault resecuritised hundredths column w)
+row-number resecuritised hundredths column w =
     picked (ltb column 2) _ _ (stands 5 (poolAmountInLimits w) (below-12 5 (omega arith)))
-    (picked (eqb column 2) _ _ (stands 6 (riskWeightInLimits w) (below-12 6 (omega arith)))
+    (picked (eqb column 2) _ _ (stands 6 (riskWeightInLimits hundredths w) (below-12 6 (omega arith)))
     (stands 7 (statusAllowed resecuritised w) (below-12 7 (omega arith))))
 
 pub tranche-number : (reportingDate i before whole column w : ℕ) → WordNumber (trancheFault reportingDate i before whole column w)
@@ -58,9 +61,9 @@ tranche-number reportingDate i before whole column w =
     picked (eqb column 0) _ _ (stands 8 (trancheAmountInLimits w) (below-12 8 (omega arith)))
     (picked (eqb column 1) _ _ (stands 9 (classInOrder i before w) (below-12 9 (omega arith)))
     (picked (eqb column 2) _ _
-    (picked (maturityAllowed reportingDate w) _ _ (stands 10 (monthsInLimits (maturityMonths reportingDate w)) (below-12 10 (omega arith))) (above-14 17 (omega arith)))
+    (picked (maturityAllowed reportingDate w) _ _ (stands 10 (monthsInLimits (maturityMonths reportingDate w)) (below-12 10 (omega arith))) (between-14-and-19 17 (omega arith) (omega arith)))
     (picked (eqb column 3) _ _ (stands 8 (heldInLimits whole w) (below-12 8 (omega arith)))
     (stands 11 (listed w) (below-12 11 (omega arith))))))
 
 pub irb-number : (kind column w : ℕ) → WordNumber (irbFault kind column w)
-irb-number kind column w = stands 18 (irbInLimits kind column w) (above-14 18 (omega arith))
+irb-number kind column w = stands 18 (irbInLimits kind column w) (between-14-and-19 18 (omega arith) (omega arith))

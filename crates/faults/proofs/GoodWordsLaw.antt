@@ -1,4 +1,4 @@
--- A fact, a pool row, a tranche row, a class and an IRB section keep the limits of 01's "The deal sheet" and 02's S-1, S-3 and S-5 just where their words have no fault. No axioms.
+-- A fact, a pool row, a tranche row, a class and an IRB section keep the limits of 01's "The deal sheet" and 02's S-1, S-3, S-5 and S-9 just where their words have no fault. No axioms.
 use mathlib.Core.Bool.{Bool, true, false, cond, _&&_, _||_}
 use mathlib.Core.Logic.{_⊎_, inl, inr, ⊎-elim}
 use mathlib.Core.Path.{_≡_, refl}
@@ -12,7 +12,7 @@ use Rattle.dates.specs.Calendar.{namesDay, Day}
 use Rattle.dates.specs.Maturity.{maturityMonths, maturityAllowed}
 use Rattle.dates.proofs.CalendarLaws.{day-named, named-day}
 use Rattle.dates.proofs.MaturityLaws.{later-day, day-later}
-use Rattle.faults.specs.WordFaults.{yesOrNo, codeFault, factFault, riskWeightInLimits, statusAllowed, rowFault, classInOrder, heldInLimits, trancheFault, shareAllowed, irbFault}
+use Rattle.faults.specs.WordFaults.{yesOrNo, codeFault, factFault, highestWeight, riskWeightInLimits, statusAllowed, rowFault, classInOrder, heldInLimits, trancheFault, shareAllowed, irbFault}
 use Rattle.faults.specs.GoodWords.{GoodFact, GoodRow, GoodTranche, NextClass, GoodClass, GoodIrb}
 use Rattle.faults.proofs.FaultLaws.{unless-zero, no-fault-within}
 
@@ -98,20 +98,22 @@ fact-good resecuritised (suc (suc p)) w least g = by-place (eqb (suc (suc p)) 5)
 
 -- ---- pool rows
 
-module _ (resecuritised : Bool) (e n w t : ℕ) where
+module _ (resecuritised hundredths : Bool) (e n w t : ℕ) where
   pub good-row :
-      rowFault resecuritised 0 e ≡ 0 → rowFault resecuritised 1 n ≡ 0 → rowFault resecuritised 2 w ≡ 0 → rowFault resecuritised 3 t ≡ 0 →
-      GoodRow resecuritised e n w t
+      rowFault resecuritised hundredths 0 e ≡ 0 → rowFault resecuritised hundredths 1 n ≡ 0 → rowFault resecuritised hundredths 2 w ≡ 0 →
+      rowFault resecuritised hundredths 3 t ≡ 0 → GoodRow resecuritised hundredths e n w t
   good-row first second third fourth =
       let exposures = no-fault-within 5 1 10000000000 e (omega arith) first in
       let nominals = no-fault-within 5 1 10000000000 n (omega arith) second in
+      let most : w ≤ highestWeight hundredths = leb-true w _ (unless-zero 6 (riskWeightInLimits hundredths w) (omega arith) third) in
       let allowed = unless-zero 7 (statusAllowed resecuritised t) (omega arith) fourth in
       record {
         exposure-least = exposures .0;
         exposure-most = exposures .1;
         nominal-least = nominals .0;
         nominal-most = nominals .1;
-        weight-most = omega (arith, leb-true w _ (unless-zero 6 (riskWeightInLimits w) (omega arith) third));
+        weight-percent = λ u. omega (arith, rw u at most);
+        weight-hundredths = λ u. omega (arith, rw u at most);
         status-ordinary = λ r. omega (arith, leb-true t _ (rw r at allowed));
         status-resecuritised = λ r. eqb-true t 3 (rw r at allowed);
       }
@@ -122,17 +124,21 @@ status-good :
 status-good true w ordinary tranches = eq-eqb w 3 (tranches refl)
 status-good false w ordinary tranches = le-leb w 2 (ordinary refl)
 
-module _ (resecuritised : Bool) (e n w t : ℕ) (g : GoodRow resecuritised e n w t) where
-  pub exposure-good : rowFault resecuritised 0 e ≡ 0
+weight-in-limits : (hundredths : Bool) (w : ℕ) → (hundredths ≡ false → w ≤ 1250) → (hundredths ≡ true → w ≤ 125000) → w ≤ highestWeight hundredths
+weight-in-limits true w percent fine = fine refl
+weight-in-limits false w percent fine = percent refl
+
+module _ (resecuritised hundredths : Bool) (e n w t : ℕ) (g : GoodRow resecuritised hundredths e n w t) where
+  pub exposure-good : rowFault resecuritised hundredths 0 e ≡ 0
   exposure-good = simp (within-is 1 10000000000 e (g .exposure-least) (g .exposure-most))
 
-  pub nominal-good : rowFault resecuritised 1 n ≡ 0
+  pub nominal-good : rowFault resecuritised hundredths 1 n ≡ 0
   nominal-good = simp (within-is 1 10000000000 n (g .nominal-least) (g .nominal-most))
 
-  pub weight-good : rowFault resecuritised 2 w ≡ 0
-  weight-good = simp (le-leb w 1250 (g .weight-most))
+  pub weight-good : rowFault resecuritised hundredths 2 w ≡ 0
+  weight-good = simp (le-leb w (highestWeight hundredths) (weight-in-limits hundredths w (g .weight-percent) (g .weight-hundredths)))
 
-  pub row-status-good : rowFault resecuritised 3 t ≡ 0
+  pub row-status-good : rowFault resecuritised hundredths 3 t ≡ 0
   row-status-good = simp (status-good resecuritised t (g .status-ordinary) (g .status-resecuritised))
 
 -- ---- tranche rows; r is the reporting date or 0, i the row's number and b the class of the row before it

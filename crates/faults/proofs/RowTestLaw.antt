@@ -8,10 +8,11 @@ use Rattle.numbers.proofs.Tests.{both-true}
 use Rattle.faults.specs.WordFaults.{rowFault, rowIsGood}
 
 pub row-faultless :
-    (resecuritised : Bool) (e n w t : ℕ) → rowIsGood resecuritised e n w t ≡ true →
-    (rowFault resecuritised 0 e ≡ 0) × ((rowFault resecuritised 1 n ≡ 0) × ((rowFault resecuritised 2 w ≡ 0) × (rowFault resecuritised 3 t ≡ 0)))
-row-faultless resecuritised e n w t good =
-    let first = both-true (eqb (rowFault resecuritised 0 e) 0) _ good in
-    let second = both-true (eqb (rowFault resecuritised 1 n) 0) _ (first .1) in
-    let third = both-true (eqb (rowFault resecuritised 2 w) 0) (eqb (rowFault resecuritised 3 t) 0) (second .1) in
+    (resecuritised hundredths : Bool) (e n w t : ℕ) → rowIsGood resecuritised hundredths e n w t ≡ true →
+    (rowFault resecuritised hundredths 0 e ≡ 0) ×
+    ((rowFault resecuritised hundredths 1 n ≡ 0) × ((rowFault resecuritised hundredths 2 w ≡ 0) × (rowFault resecuritised hundredths 3 t ≡ 0)))
+row-faultless resecuritised hundredths e n w t good =
+    let first = both-true (eqb (rowFault resecuritised hundredths 0 e) 0) _ good in
+    let second = both-true (eqb (rowFault resecuritised hundredths 1 n) 0) _ (first .1) in
+    let third = both-true (eqb (rowFault resecuritised hundredths 2 w) 0) (eqb (rowFault resecuritised hundredths 3 t) 0) (second .1) in
     (eqb-true _ 0 (first .0), (eqb-true _ 0 (second .0), (eqb-true _ 0 (third .0), eqb-true _ 0 (third .1))))

@@ -1,4 +1,4 @@
--- 01, "The deal sheet", and 02, S-1, S-3 and S-5, in plain relations: the limits that a good fact, pool row, tranche row and IRB section keep. That a word keeps them just where it has no fault
+-- 01, "The deal sheet", and 02, S-1, S-3, S-5 and S-9, in plain relations: the limits that a good fact, pool row, tranche row and IRB section keep. That a word keeps them just where it has no fault
 -- (WordFaults.antt; a fact stands at place 1 or after) is proved in proofs/GoodWordsLaw.antt.
 use mathlib.Core.Bool.{Bool, true, false}
 use mathlib.Core.Logic.{_⊎_}
@@ -10,7 +10,7 @@ use Rattle.dates.specs.Maturity.{maturityMonths}
 
 -- "pool kind (0 SA, 1 IRB, 2 mixed); re-securitisation; due diligence held; pool composition known. The last three are 0 no, 1 yes." The kind is at
 -- place 1. 02, S-1: "A fifth fact says so (0 no, 1 yes)"; "An STC mark on a re-securitisation gets 16": none is good there. S-3: "A sixth
--- fact is the reporting date, ...; 0 or absent means months as before."
+-- fact is the reporting date, ...; 0 or absent means months as before." S-9: "A seventh fact is the unit of the risk weight word: 0 whole percent, 1 hundredths"
 pub record GoodFact (resecuritised : Bool) (p w : ℕ) : Type 0 where
   pub pool-kind : p ≡ 1 → w ≤ 2
   pub code : 1 < p → (p ≡ 6 → ⊥) → w ≤ 1
@@ -18,13 +18,14 @@ pub record GoodFact (resecuritised : Bool) (p w : ℕ) : Type 0 where
   pub reporting-date : p ≡ 6 → (w ≡ 0) ⊎ Day w
 
 -- "A row: exposure amount and nominal amount, each 1 to 10^10; risk weight in whole percent, 0 to 1250; status (0 paying, 1 delinquent, 2 not known,
--- 3 securitisation tranche).": a 3 in a re-securitisation and nowhere else
-pub record GoodRow (resecuritised : Bool) (exposure nominal weight status : ℕ) : Type 0 where
+-- 3 securitisation tranche).": a 3 in a re-securitisation and nowhere else. 02, S-9: "0 whole percent, 1 hundredths up to 125,000"
+pub record GoodRow (resecuritised hundredths : Bool) (exposure nominal weight status : ℕ) : Type 0 where
   pub exposure-least : 1 ≤ exposure
   pub exposure-most : exposure ≤ 10000000000
   pub nominal-least : 1 ≤ nominal
   pub nominal-most : nominal ≤ 10000000000
-  pub weight-most : weight ≤ 1250
+  pub weight-percent : hundredths ≡ false → weight ≤ 1250
+  pub weight-hundredths : hundredths ≡ true → weight ≤ 125000
   pub status-ordinary : resecuritised ≡ false → status ≤ 2
   pub status-resecuritised : resecuritised ≡ true → status ≡ 3
 

@@ -1,4 +1,4 @@
--- 01, "Refusals, by who can cause them", and 02, S-1, for 16, S-3, for 17, and S-5, for 18: the fault of one word by its value and its column, the refusal's number, or 0 where it has none.
+-- 01, "Refusals, by who can cause them", and 02, S-1, for 16, S-3, for 17, S-5, for 18, and S-9, for risk weights in hundredths: the fault of one word by its value and its column, the refusal's number, or 0 where it has none.
 -- Which word of a sheet stands where, and which fault decides, is in DealSheet.antt and Refusals.antt of `judgement`.
 use mathlib.Core.Bool.{Bool, cond, _&&_, _||_}
 use Prim.Native.Nat.{ℕ, _+_}
@@ -37,7 +37,8 @@ stcFault resecuritised w = cond (resecuritised && eqb w 1) 16 (codeFault w)
 abbrev pub reportingDateFault : ℕ → ℕ
 reportingDateFault w = unless 17 (eqb w 0 || namesDay w)
 
--- the fault of the fact at place p: the pool kind is at 1, the STC mark at 5, the reporting date at 6, and the others are "0 no, 1 yes"
+-- the fault of the fact at place p: the pool kind is at 1, the STC mark at 5, the reporting date at 6, and the others are "0 no, 1 yes"; 02, S-9: "A seventh fact is the unit of
+-- the risk weight word: 0 whole percent, 1 hundredths", with the same two codes
 abbrev pub factFault : Bool → ℕ → ℕ → ℕ
 factFault resecuritised p w =
     cond (eqb p 1) (poolKindFault w)
@@ -47,32 +48,36 @@ factFault resecuritised p w =
 
 -- ---- a pool row
 
--- "exposure amount and nominal amount, each 1 to 10^10; risk weight in whole percent, 0 to 1250"
+-- "exposure amount and nominal amount, each 1 to 10^10"
 abbrev pub poolAmountInLimits : ℕ → Bool
 poolAmountInLimits w = within 1 10000000000 w
 
-abbrev pub riskWeightInLimits : ℕ → Bool
-riskWeightInLimits w = leb w 1250
+-- "risk weight in whole percent, 0 to 1250"; 02, S-9: "0 whole percent, 1 hundredths up to 125,000": the highest word in the sheet's unit
+abbrev pub highestWeight : Bool → ℕ
+highestWeight hundredths = cond hundredths 125000 1250
+
+abbrev pub riskWeightInLimits : Bool → ℕ → Bool
+riskWeightInLimits hundredths w = leb w (highestWeight hundredths)
 
 -- "a status above 3; a 3 in an ordinary deal; any other in a re-securitisation", turned round
 abbrev pub statusAllowed : Bool → ℕ → Bool
 statusAllowed resecuritised w = cond resecuritised (eqb w 3) (leb w 2)
 
--- "5: a pool amount outside 1 to 10^10. 6: a risk weight above 1250. 7: a status ..." The columns of a pool row, from 0: exposure amount, nominal
--- amount, risk weight, status
-abbrev pub rowFault : Bool → ℕ → ℕ → ℕ
-rowFault resecuritised column w =
+-- "5: a pool amount outside 1 to 10^10. 6: a risk weight above 1250.", above 125,000 in hundredths. "7: a status ..." The columns of a pool row, from 0: exposure amount,
+-- nominal amount, risk weight, status
+abbrev pub rowFault : Bool → Bool → ℕ → ℕ → ℕ
+rowFault resecuritised hundredths column w =
     cond (ltb column 2) (unless 5 (poolAmountInLimits w))
-    (cond (eqb column 2) (unless 6 (riskWeightInLimits w))
+    (cond (eqb column 2) (unless 6 (riskWeightInLimits hundredths w))
     (unless 7 (statusAllowed resecuritised w)))
 
 -- whether none of a row's four words has a fault
-abbrev pub rowIsGood : Bool → ℕ → ℕ → ℕ → ℕ → Bool
-rowIsGood resecuritised exposure nominal weight status =
-    eqb (rowFault resecuritised 0 exposure) 0 &&
-    (eqb (rowFault resecuritised 1 nominal) 0 &&
-    (eqb (rowFault resecuritised 2 weight) 0 &&
-    eqb (rowFault resecuritised 3 status) 0))
+abbrev pub rowIsGood : Bool → Bool → ℕ → ℕ → ℕ → ℕ → Bool
+rowIsGood resecuritised hundredths exposure nominal weight status =
+    eqb (rowFault resecuritised hundredths 0 exposure) 0 &&
+    (eqb (rowFault resecuritised hundredths 1 nominal) 0 &&
+    (eqb (rowFault resecuritised hundredths 2 weight) 0 &&
+    eqb (rowFault resecuritised hundredths 3 status) 0))
 
 -- ---- a tranche row
 

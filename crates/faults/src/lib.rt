@@ -1,19 +1,22 @@
 // The fault of one word of a sheet, by its value and its column: the refusal's number in 01 or 02, or 0. Functions of numbers alone, open to all inputs.
 ghost use mathlib.Core.Path.{_≡_};
-ghost use Rattle.faults.specs.WordFaults.{unless, countFault, codeFault, poolKindFault, stcFault, reportingDateFault, factFault, statusAllowed, rowFault, rowIsGood, classInOrder, maturityFault, trancheFault, shareAllowed, irbInLimits, irbFault};
+ghost use Rattle.faults.specs.WordFaults.{unless, countFault, codeFault, poolKindFault, stcFault, reportingDateFault, factFault, highestWeight, statusAllowed, rowFault, rowIsGood, classInOrder, maturityFault, trancheFault, shareAllowed, irbInLimits, irbFault};
 use dates::maturity_allowed;
 use dates::maturity_months;
 use dates::names_day;
 use numbers::within;
 
-// The limits of 01's amounts, risk weights and maturities.
+// The limits of 01's amounts and maturities.
 const POOL_AMOUNT: u64 = 10000000000;
-
-const RISK_WEIGHT: u64 = 1250;
 
 const TRANCHE_AMOUNT: u64 = 10000000000000;
 
 const MONTHS: u64 = 1200;
+
+// 1250%, the highest risk weight, in each unit of its word.
+const HIGHEST_PERCENT: u64 = 1250;
+
+const HIGHEST_HUNDREDTHS: u64 = 125000;
 
 // The limits of 02's shares, charges and losses, of its numbers of loans and of its average weights.
 const MILLION: u64 = 1000000;
@@ -71,7 +74,7 @@ fn reporting_date_fault(w: u64) -> u64
     unless(17, names_day(w))
 }
 
-// The fault of the fact at place p: the pool kind at 1, the STC mark at 5, the reporting date at 6, a yes or no elsewhere.
+// The fault of the fact at place p: the pool kind at 1, the STC mark at 5, the reporting date at 6, a yes or no elsewhere, and 0 or 1 for the unit of risk weights at 7.
 pub fn fact_fault(resecuritised: bool, p: u64, w: u64) -> u64
     ensures { λ r. ⌜ r ≡ factFault resecuritised p w ⌝ }
 {
@@ -100,15 +103,26 @@ fn status_allowed(resecuritised: bool, w: u64) -> bool
     false
 }
 
-// The fault of a pool row's word, by its column.
-pub fn row_fault(resecuritised: bool, column: u64, w: u64) -> u64
-    ensures { λ r. ⌜ r ≡ rowFault resecuritised column w ⌝ }
+// The highest risk weight, as a word in the sheet's unit.
+fn highest_weight(hundredths: bool) -> u64
+    ensures { λ r. ⌜ r ≡ highestWeight hundredths ⌝ }
+{
+    if hundredths {
+        HIGHEST_HUNDREDTHS
+    } else {
+        HIGHEST_PERCENT
+    }
+}
+
+// The fault of a pool row's word, by its column; `hundredths` where risk weights are in hundredths of a percent.
+pub fn row_fault(resecuritised: bool, hundredths: bool, column: u64, w: u64) -> u64
+    ensures { λ r. ⌜ r ≡ rowFault resecuritised hundredths column w ⌝ }
 {
     if column < 2 {
         return unless(5, within(1, POOL_AMOUNT, w));
     }
     if column == 2 {
-        return unless(6, w <= RISK_WEIGHT);
+        return unless(6, w <= highest_weight(hundredths));
     }
     unless(7, status_allowed(resecuritised, w))
 }
@@ -116,12 +130,13 @@ pub fn row_fault(resecuritised: bool, column: u64, w: u64) -> u64
 // Whether none of a pool row's four words has a fault, in one test for all four: most rows are good, and this is sooner told than each word's fault.
 pub fn row_is_good(
     resecuritised: bool,
+    hundredths: bool,
     exposure: u64,
     nominal: u64,
     weight: u64,
     status: u64,
 ) -> bool
-    ensures { λ r. ⌜ r ≡ rowIsGood resecuritised exposure nominal weight status ⌝ }
+    ensures { λ r. ⌜ r ≡ rowIsGood resecuritised hundredths exposure nominal weight status ⌝ }
 {
     if !within(1, POOL_AMOUNT, exposure) {
         return false;
@@ -129,7 +144,7 @@ pub fn row_is_good(
     if !within(1, POOL_AMOUNT, nominal) {
         return false;
     }
-    if weight > RISK_WEIGHT {
+    if weight > highest_weight(hundredths) {
         return false;
     }
     status_allowed(resecuritised, status)

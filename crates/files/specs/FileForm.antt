@@ -9,7 +9,7 @@ use Rattle.limits.specs.SheetSize.{byteLimit}
 
 -- ---- the length of a file
 
--- a length that gets no 15: 01's 33,848, raised by 8 for each word that a sheet has gained since, is `byteLimit`, now 33,920
+-- a length that gets no 15: 01's 33,848, raised by 8 for each word that a sheet has gained since, is `byteLimit`, now 33,928
 abbrev pub goodLength : List ℕ → Bool
 goodLength file = eqb (length file % 8) 0 && leb (length file) byteLimit
 

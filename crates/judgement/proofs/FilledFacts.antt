@@ -13,7 +13,7 @@ use borrow.Author.Tests.{lt-ltb, le-ltb, ne-eqb}
 use Rattle.numbers.proofs.Tests.{within-is, same-ltb, same-eqb}
 use Rattle.faults.proofs.GoodWordsLaw.{fact-good}
 use Rattle.limits.specs.SheetSize.{factsLeast, factsMost}
-use Rattle.judgement.specs.DealSheet.{word, poolKind, resecuritisation, fact, reportingDate, poolAt, rows, rowAt, tranchesAt, trancheCount, trancheAt, amount, irbAt, irbPlace, irbFigures, irbWords, needed}
+use Rattle.judgement.specs.DealSheet.{word, poolKind, resecuritisation, fact, reportingDate, inHundredths, poolAt, rows, rowAt, tranchesAt, trancheCount, trancheAt, amount, irbAt, irbPlace, irbFigures, irbWords, needed}
 use Rattle.judgement.specs.FilledFacts.{CanFill, filled, moved}
 use Rattle.judgement.specs.Refusals.{rowOf, fault, refused, judgeWith, judge, firstOf, judged, wordsFollow, wordsVerdict}
 use Rattle.judgement.specs.declared.Verdict.the-variants.{Sound}
@@ -171,6 +171,9 @@ module _ (n : ℕ) (s : List ℕ) (c : CanFill n s) where
   pub filled-same-date : reportingDate f ≡ reportingDate s
   filled-same-date = same-later-fact 6 (omega arith)
 
+  pub filled-same-unit : inHundredths f ≡ inHundredths s
+  filled-same-unit = rw (same-later-fact 7 (omega arith))
+
   -- ---- its IRB section
 
   pub filled-same-irb : irbFigures f ≡ irbFigures s
@@ -233,6 +236,7 @@ module _ (n : ℕ) (s : List ℕ) (c : CanFill n s) where
         filled-same-kind,
         filled-same-facts .same-resecuritisation,
         filled-same-date,
+        filled-same-unit,
         same-distance (poolAt s) p,
         same-distance (tranchesAt s) p,
         before,

@@ -1,4 +1,4 @@
--- A sheet keeps the limits of 01's "The deal sheet" and 02's S-1, S-3 and S-5 just when each word that it needs is there and has no fault, and none follows. No axioms.
+-- A sheet keeps the limits of 01's "The deal sheet" and 02's S-1, S-3, S-5 and S-9 just when each word that it needs is there and has no fault, and none follows. No axioms.
 use mathlib.Core.Bool.{Bool, true, false}
 use mathlib.Core.List.{List}
 use mathlib.Core.Logic.{⊎-elim}
@@ -10,7 +10,7 @@ use Rattle.limits.specs.SheetSize.{factsLeast, factsMost, rowsMost, tranchesMos
 use Rattle.faults.specs.WordFaults.{rowFault, trancheFault, irbFault}
 use Rattle.numbers.proofs.Tests.{within-is}
 use Rattle.faults.proofs.GoodWordsLaw.{fact-good, exposure-good, nominal-good, weight-good, row-status-good, class-good, amount-good, maturity-good, held-good, first-good, second-good, third-good, irb-charge-good, irb-loss-good, irb-loans-good, irb-retail-good, irb-share-good, irb-average-good}
-use Rattle.judgement.specs.DealSheet.{word, poolKind, resecuritisation, reportingDate, poolAt, rows, rowAt, tranchesAt, trancheCount, trancheAt, amount, class, hasIrb, irbAt, irbPlace, needed}
+use Rattle.judgement.specs.DealSheet.{word, poolKind, resecuritisation, reportingDate, inHundredths, poolAt, rows, rowAt, tranchesAt, trancheCount, trancheAt, amount, class, hasIrb, irbAt, irbPlace, needed}
 use Rattle.judgement.specs.Refusals.{fault}
 use Rattle.judgement.specs.Judged.{WordsGood}
 use Rattle.judgement.specs.GoodSheet.{GoodRowOf, GoodIrbOf, GoodSheet}
@@ -45,11 +45,11 @@ good-sheet s words =
 
 -- ---- the words of a row, of a tranche and of the IRB section, by column
 
-row-sound : (s : List ℕ) (i c : ℕ) → GoodRowOf s i → c < 4 → rowFault (resecuritisation s) c (word s (rowAt s i + c)) ≡ 0
-row-sound s i zero g column = rw (add-zero (rowAt s i)) (exposure-good _ _ _ _ _ g)
-row-sound s i (suc zero) g column = nominal-good _ _ _ _ _ g
-row-sound s i (suc (suc zero)) g column = weight-good _ _ _ _ _ g
-row-sound s i (suc (suc (suc zero))) g column = row-status-good _ _ _ _ _ g
+row-sound : (s : List ℕ) (i c : ℕ) → GoodRowOf s i → c < 4 → rowFault (resecuritisation s) (inHundredths s) c (word s (rowAt s i + c)) ≡ 0
+row-sound s i zero g column = rw (add-zero (rowAt s i)) (exposure-good _ _ _ _ _ _ g)
+row-sound s i (suc zero) g column = nominal-good _ _ _ _ _ _ g
+row-sound s i (suc (suc zero)) g column = weight-good _ _ _ _ _ _ g
+row-sound s i (suc (suc (suc zero))) g column = row-status-good _ _ _ _ _ _ g
 row-sound s i (suc (suc (suc (suc c)))) g column = absurd (omega arith)
 
 tranche-sound :

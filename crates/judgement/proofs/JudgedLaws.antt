@@ -12,7 +12,7 @@ use lib.ListN.{length}
 use borrow.Author.Tests.{ltb-true, ltb-false, eqb-false, lt-ltb, le-ltb, eq-eqb, ne-eqb}
 use Rattle.limits.specs.SheetSize.{factsLeast, factsMost, rowsMost, rowSize, tranchesMost, trancheSize, irbRows, irbSize, wordLimit}
 use Rattle.faults.proofs.FaultNumbers.{WordNumber, picked, count-number, fact-number, row-number, tranche-number, irb-number}
-use Rattle.judgement.specs.DealSheet.{word, poolKind, resecuritisation, reportingDate, poolAt, tranchesAt, amount, class, irbAt, needed}
+use Rattle.judgement.specs.DealSheet.{word, poolKind, resecuritisation, reportingDate, inHundredths, poolAt, tranchesAt, amount, class, irbAt, needed}
 use Rattle.judgement.specs.Refusals.{rowOf, columnOf, fault, refused, judgeWith, judge, judged, wordsFollow, wordsVerdict}
 use Rattle.judgement.specs.Judged.{GoodWord, GoodBelow, BadHere, bad, missing, FirstBad, WordsGood, WordsRefusal, first-bad, words-follow}
 use Rattle.judgement.specs.declared.Refusal.{Refusal}
@@ -191,7 +191,7 @@ accepted-words s g =
 pub sheet-within : (s : List ℕ) → WordsGood s → length s ≤ wordLimit
 sheet-within s g = omega (arith, g .none-follows, needed-at-most s (good-judged s (needed s) (g .good)))
 
--- ---- the numbers: no word's fault has the number 12, 13 or 14, and so no refusal by the words has
+-- ---- the numbers: no word's fault has the number 12, 13, 14 or 19, and so no refusal by the words has
 
 pub fault-number : (s : List ℕ) (p : ℕ) → WordNumber (fault s p)
 unfolding fault
@@ -200,7 +200,7 @@ fault-number s p =
     (picked (ltb p (poolAt s)) _ _ (fact-number (resecuritisation s) p (word s p))
     (picked (eqb p (poolAt s)) _ _ (count-number 1 rowsMost (word s p))
     (picked (ltb p (tranchesAt s)) _ _
-    (row-number (resecuritisation s) (columnOf rowSize (poolAt s) p) (word s p))
+    (row-number (resecuritisation s) (inHundredths s) (columnOf rowSize (poolAt s) p) (word s p))
     (picked (eqb p (tranchesAt s)) _ _ (count-number 1 tranchesMost (word s p))
     (picked (ltb p (irbAt s)) _ _
     (let i = rowOf trancheSize (tranchesAt s) p in
@@ -213,6 +213,12 @@ words-number s r (first-bad b) = at-place (b .here)
   where
     at-place : BadHere s r → WordNumber (r .number)
     at-place (bad w) = rw (← (w .fault-is)) (fault-number s (r .place))
-    at-place (missing number place) = record { not-pool-kind = λ e. omega arith; not-thin = λ e. omega arith; not-room = λ e. omega arith }
+    at-place (missing number place) =
+        record { not-pool-kind = λ e. omega arith; not-thin = λ e. omega arith; not-room = λ e. omega arith; not-whole-percent = λ e. omega arith }
 words-number s r (words-follow w) =
-    record { not-pool-kind = λ e. omega (arith, w .number-is); not-thin = λ e. omega (arith, w .number-is); not-room = λ e. omega (arith, w .number-is) }
+    record {
+      not-pool-kind = λ e. omega (arith, w .number-is);
+      not-thin = λ e. omega (arith, w .number-is);
+      not-room = λ e. omega (arith, w .number-is);
+      not-whole-percent = λ e. omega (arith, w .number-is);
+    }

@@ -9,7 +9,7 @@ use native.Mathlib.Omega.{arith}
 use lib.Dec.{ltb, eqb}
 use lib.ListN.{length}
 use borrow.Author.Tests.{ltb-true, eqb-true, lt-ltb, le-ltb, eq-eqb, ne-eqb}
-use Rattle.judgement.specs.DealSheet.{word, poolKind, resecuritisation, reportingDate, poolAt, rows, rowAt, tranchesAt, trancheCount, trancheAt, amount, class, irbAt, irbPlace}
+use Rattle.judgement.specs.DealSheet.{word, poolKind, resecuritisation, reportingDate, inHundredths, poolAt, rows, rowAt, tranchesAt, trancheCount, trancheAt, amount, class, irbAt, irbPlace}
 use Rattle.limits.specs.SheetSize.{factsLeast, factsMost, rowsMost, tranchesMost, irbRows}
 use Rattle.faults.specs.WordFaults.{countFault, factFault, rowFault, trancheFault, irbFault}
 use Rattle.judgement.specs.Refusals.{rowOf, columnOf, fault, refused, judgeWith, judge, judged}
@@ -61,7 +61,7 @@ fault-of-pool-count s =
 -- a place past the pool's count, by its row's column
 fault-in-pool :
     (s : List ℕ) (p : ℕ) → poolAt s < p → p < tranchesAt s →
-    fault s p ≡ rowFault (resecuritisation s) (columnOf 4 (poolAt s) p) (word s p)
+    fault s p ≡ rowFault (resecuritisation s) (inHundredths s) (columnOf 4 (poolAt s) p) (word s p)
 unfolding fault
 fault-in-pool s p after before =
     simp (
@@ -72,10 +72,10 @@ fault-in-pool s p after before =
     )
 
 pub fault-of-row :
-    (s : List ℕ) (i c : ℕ) → i < rows s → c < 4 → fault s (rowAt s i + c) ≡ rowFault (resecuritisation s) c (word s (rowAt s i + c))
+    (s : List ℕ) (i c : ℕ) → i < rows s → c < 4 → fault s (rowAt s i + c) ≡ rowFault (resecuritisation s) (inHundredths s) c (word s (rowAt s i + c))
 fault-of-row s i c row column =
     fault-in-pool s (rowAt s i + c) (omega arith) (omega (arith, tranches-at-past-rows s)) ∙
-    ap (λ (k : ℕ). rowFault (resecuritisation s) k (word s (rowAt s i + c)))
+    ap (λ (k : ℕ). rowFault (resecuritisation s) (inHundredths s) k (word s (rowAt s i + c)))
     (let is : columnOf 4 (poolAt s) (rowAt s i + c) ≡ c = omega arith in is)
 
 pub fault-of-tranche-count : (s : List ℕ) → fault s (tranchesAt s) ≡ countFault 1 tranchesMost (trancheCount s)

@@ -1,11 +1,11 @@
--- The reporting date of a sheet by its layout, where the words of its rows and tranches stand, and how far down. No axioms.
+-- The reporting date of a sheet and the unit of its risk weights by its layout, where the words of its rows and tranches stand, and how far down. No axioms.
 use mathlib.Core.List.{List}
 use mathlib.Core.Path.{_≡_, ap}
 use Prim.Native.Nat.{ℕ, _+_, _*_, _≤_, _<_}
 use native.Mathlib.Omega.{arith}
 use lib.ListN.{length}
 use Rattle.limits.specs.SheetSize.{placeLimit}
-use Rattle.judgement.specs.DealSheet.{reportingDate, poolAt, rows, rowAt, tranchesAt, trancheCount, trancheAt, layout}
+use Rattle.judgement.specs.DealSheet.{reportingDate, inHundredths, poolAt, rows, rowAt, tranchesAt, trancheCount, trancheAt, layout}
 use Rattle.judgement.specs.LaidOut.{LaidOut}
 use Rattle.judgement.specs.declared.Layout.{Layout}
 use Rattle.judgement.proofs.SheetLimits.{row-at-most, tranche-at-most, pool-counted, tranches-counted, row-word-there, tranche-word-there}
@@ -14,6 +14,10 @@ module _ (s : List ℕ) (l : Layout) (h : LaidOut s l) where
   pub reporting-date-is : l .«reporting_date» ≡ reportingDate s
   unfolding layout
   reporting-date-is = ap (λ (m : Layout). m .«reporting_date») (h .is-layout)
+
+  pub hundredths-is : l .hundredths ≡ inHundredths s
+  unfolding layout
+  hundredths-is = ap (λ (m : Layout). m .hundredths) (h .is-layout)
 
   first-row-is : l .«first_row» ≡ poolAt s + 1
   unfolding layout

@@ -8,6 +8,7 @@ pub mod SameLayout
 pub mod JudgeSteps
 pub mod JudgedLaws
 pub mod GoodSheetLaw
+pub mod AlikeSheets
 pub mod GoodRowLaw
 pub mod WordsLaw
 pub mod MovedVerdicts

@@ -8,7 +8,7 @@ use native.Mathlib.Omega.{arith}
 use borrow.Author.Tests.{leb-true, leb-false, lt-leb}
 use Rattle.numbers.proofs.Tests.{at-cond}
 use Rattle.limits.specs.SheetSize.{factsLeast}
-use Rattle.judgement.specs.DealSheet.{word, poolKind, resecuritisation, dueDiligence, compositionKnown, hasFact, fact, stc, reportingDate, poolAt, rows, rowAt, tranchesAt, trancheCount, irbAt, irbPlace, irbFigures, needed}
+use Rattle.judgement.specs.DealSheet.{word, poolKind, resecuritisation, dueDiligence, compositionKnown, hasFact, fact, stc, reportingDate, unitAt, inHundredths, poolAt, rows, rowAt, tranchesAt, trancheCount, irbAt, irbPlace, irbFigures, needed}
 use Rattle.judgement.specs.GoodSheet.{GoodRowOf}
 use Rattle.judgement.proofs.NeededLaws.{irb-at-past-tranches, needed-is}
 
@@ -54,7 +54,7 @@ same-irb-figures s s′ kind alike =
       alike 5 (omega arith),
     )
 
--- ---- the facts that the terms of a deal read, but for the pool's kind; the reporting date is not among them
+-- ---- the facts that the terms of a deal read, but for the pool's kind; neither the reporting date nor the unit of risk weights is among them
 
 pub record SameFacts (s s′ : List ℕ) : Type 0 where
   pub same-resecuritisation : resecuritisation s′ ≡ resecuritisation s
@@ -90,18 +90,21 @@ same-facts s s′ before facts =
       same-composition = rw (before 4 (λ e. omega arith) (omega arith) (omega arith));
     }
 
-pub same-reporting-date :
-    (s s′ : List ℕ) → ((p : ℕ) → (p ≡ 1 → ⊥) → p < poolAt s → word s′ p ≡ word s p) → factsLeast < poolAt s → reportingDate s′ ≡ reportingDate s
-same-reporting-date s s′ before facts = same-listed-fact s s′ 6 (before 0 (λ e. omega arith) (omega arith)) (before 6 (λ e. omega arith))
+pub same-reporting-date : (s s′ : List ℕ) → word s′ 0 ≡ word s 0 → (6 < poolAt s → word s′ 6 ≡ word s 6) → reportingDate s′ ≡ reportingDate s
+same-reporting-date s s′ count kept = same-listed-fact s s′ 6 count kept
+
+pub same-unit : (s s′ : List ℕ) → word s′ 0 ≡ word s 0 → (unitAt < poolAt s → word s′ unitAt ≡ word s unitAt) → inHundredths s′ ≡ inHundredths s
+same-unit s s′ count kept = rw (same-listed-fact s s′ unitAt count kept)
 
 -- ---- a pool row
 
 pub same-good-row :
-    (s s′ : List ℕ) (i : ℕ) → resecuritisation s′ ≡ resecuritisation s → poolAt s′ ≡ poolAt s →
+    (s s′ : List ℕ) (i : ℕ) → resecuritisation s′ ≡ resecuritisation s → inHundredths s′ ≡ inHundredths s → poolAt s′ ≡ poolAt s →
     ((c : ℕ) → c < 4 → word s′ (rowAt s i + c) ≡ word s (rowAt s i + c)) → GoodRowOf s i → GoodRowOf s′ i
-same-good-row s s′ i resecuritised place alike good =
+same-good-row s s′ i resecuritised unit place alike good =
     rw (
       resecuritised,
+      unit,
       place,
       simp add-zero at (alike 0 (omega arith)),
       alike 1 (omega arith),

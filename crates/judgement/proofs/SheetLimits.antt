@@ -3,7 +3,7 @@ use mathlib.Core.Bool.{Bool, true, false, cond}
 use mathlib.Core.List.{List}
 use mathlib.Core.Logic.{⊎-elim}
 use mathlib.Core.Path.{_≡_, refl, sym, _∙_}
-use Prim.Native.Nat.{ℕ, zero, suc, _+_, _-_, _≤_, _<_}
+use Prim.Native.Nat.{ℕ, zero, suc, _+_, _*_, _-_, _≤_, _<_}
 use native.Mathlib.Nat.{add-zero}
 use native.Mathlib.Numerals.{add-one}
 use native.Mathlib.Omega.{arith}
@@ -14,7 +14,7 @@ use Rattle.faults.specs.WordFaults.{rowFault, trancheFault, irbFault}
 use Rattle.faults.specs.GoodWords.{GoodFact, NextClass, GoodClass}
 use Rattle.faults.proofs.FaultLaws.{no-fault-within}
 use Rattle.faults.proofs.GoodWordsLaw.{good-fact, good-row as row-of-words, good-class, good-tranche as tranche-of-words, good-irb as irb-of-words}
-use Rattle.judgement.specs.DealSheet.{word, poolKind, resecuritisation, hasFact, fact, stc, reportingDate, poolAt, rows, rowAt, exposure, nominal, riskWeight, status, tranchesAt, trancheCount, trancheAt, amount, class, maturity, held, firstRating, secondRating, thirdRating, hasIrb, irbAt, irbPlace, irbFigures, needed}
+use Rattle.judgement.specs.DealSheet.{word, poolKind, resecuritisation, hasFact, fact, stc, reportingDate, inHundredths, poolAt, rows, rowAt, exposure, nominal, weightWord, weightUnit, riskWeight, status, tranchesAt, trancheCount, trancheAt, amount, class, maturity, held, firstRating, secondRating, thirdRating, hasIrb, irbAt, irbPlace, irbFigures, needed}
 use Rattle.judgement.specs.Refusals.{judge, judged}
 use Rattle.judgement.specs.GoodSheet.{GoodRowOf, GoodTrancheOf, GoodIrbOf}
 use Rattle.judgement.specs.declared.Verdict.the-variants.{Sound}
@@ -130,18 +130,29 @@ stc-ordinary s e marked = by-kind (resecuritisation s) refl
 
 good-in-row :
     (s : List ℕ) (i c : ℕ) → judged s (needed s) ≡ Sound → i < rows s → c < 4 →
-    rowFault (resecuritisation s) c (word s (rowAt s i + c)) ≡ 0
+    rowFault (resecuritisation s) (inHundredths s) c (word s (rowAt s i + c)) ≡ 0
 good-in-row s i c e row column =
     sym (fault-of-row s i c row column) ∙
     good-word s (needed s) (rowAt s i + c) e (row-word-needed s i c row column) .1
 
 pub good-row : (s : List ℕ) (i : ℕ) → judged s (needed s) ≡ Sound → i < rows s → GoodRowOf s i
 good-row s i e row =
-    row-of-words (resecuritisation s) (exposure s i) (nominal s i) (riskWeight s i) (status s i)
+    row-of-words (resecuritisation s) (inHundredths s) (exposure s i) (nominal s i) (weightWord s i) (status s i)
     (rw (add-zero (rowAt s i)) at (good-in-row s i 0 e row (omega arith)))
     (good-in-row s i 1 e row (omega arith))
     (good-in-row s i 2 e row (omega arith))
     (good-in-row s i 3 e row (omega arith))
+
+-- no risk weight is above 1250%, whatever the unit of its word
+weight-at-most :
+    (hundredths : Bool) (w : ℕ) → (hundredths ≡ false → w ≤ 1250) → (hundredths ≡ true → w ≤ 125000) → weightUnit hundredths * w ≤ 125000
+weight-at-most true w percent fine = omega (arith, fine refl)
+weight-at-most false w percent fine = omega (arith, percent refl)
+
+pub risk-weight-most : (s : List ℕ) (i : ℕ) → judged s (needed s) ≡ Sound → i < rows s → riskWeight s i ≤ 125000
+risk-weight-most s i e row =
+    let g = good-row s i e row in
+    weight-at-most (inHundredths s) (weightWord s i) (g .weight-percent) (g .weight-hundredths)
 
 -- ---- the tranches
 

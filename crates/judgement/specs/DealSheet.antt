@@ -1,4 +1,4 @@
--- 01, "The deal sheet", and 02, S-1, for the fifth fact, S-3, for the sixth and for maturities, and S-5, for the fourth section: where each word of a sheet stands. Places are counted from 0. A
+-- 01, "The deal sheet", and 02, S-1, for the fifth fact, S-3, for the sixth and for maturities, S-9, for the seventh and for risk weights, and S-5, for the fourth section: where each word of a sheet stands. Places are counted from 0. A
 -- count is read as it stands, however wrong: a wrong count is itself the first fault of its sheet (Refusals.antt). The fourth section has one row, whatever its count says.
 use mathlib.Core.Bool.{Bool, cond, not}
 use mathlib.Core.List.{List}
@@ -45,7 +45,15 @@ stc s = eqb (fact s 5) 1
 abbrev pub reportingDate : List ℕ → ℕ
 reportingDate s = fact s 6
 
--- ---- "Pool, count 1 to 1,000. A row: exposure amount and nominal amount, ...; risk weight in whole percent, ...; status ..."
+-- 02, S-9: "A seventh fact is the unit of the risk weight word: 0 whole percent, 1 hundredths"; 0 where the list is shorter. It is at place 7
+abbrev pub unitAt : ℕ
+unitAt = 7
+
+-- whether the unit is hundredths of a percent
+abbrev pub inHundredths : List ℕ → Bool
+inHundredths s = eqb (fact s unitAt) 1
+
+-- ---- "Pool, count 1 to 1,000. A row: exposure amount and nominal amount, ...; risk weight ...; status ..."
 
 -- the place of the pool's count
 unfoldable pub poolAt : List ℕ → ℕ
@@ -64,8 +72,20 @@ exposure s i = word s (rowAt s i)
 abbrev pub nominal : List ℕ → ℕ → ℕ
 nominal s i = word s (rowAt s i + 1)
 
+-- the word of the risk weight, in the sheet's unit, and its place
+abbrev pub weightAt : List ℕ → ℕ → ℕ
+weightAt s i = rowAt s i + 2
+
+abbrev pub weightWord : List ℕ → ℕ → ℕ
+weightWord s i = word s (weightAt s i)
+
+-- how many hundredths of a percent one unit of it is
+abbrev pub weightUnit : Bool → ℕ
+weightUnit hundredths = cond hundredths 1 100
+
+-- 02, S-9: "Inside, all weights ... are kept in hundredths": the risk weight of row i in hundredths of a percent, whatever the unit of its word
 abbrev pub riskWeight : List ℕ → ℕ → ℕ
-riskWeight s i = word s (rowAt s i + 2)
+riskWeight s i = weightUnit (inHundredths s) * weightWord s i
 
 -- "0 paying, 1 delinquent, 2 not known, 3 securitisation tranche"
 abbrev pub status : List ℕ → ℕ → ℕ
@@ -160,6 +180,7 @@ layout s = record {
   diligence = dueDiligence s;
   composition = compositionKnown s;
   «reporting_date» = reportingDate s;
+  hundredths = inHundredths s;
   «first_row» = poolAt s + 1;
   rows = rows s;
   «first_tranche» = tranchesAt s + 1;

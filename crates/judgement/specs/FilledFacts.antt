@@ -1,4 +1,4 @@
--- 02, S-1: "a sheet with four facts counts as 0", and S-3: "0 or absent means months as before.": a sheet whose list of facts is filled with zeros, and where its words
+-- 02, S-1: "a sheet with four facts counts as 0", S-3: "0 or absent means months as before.", and S-9: "Shorter fact lists are filled with zeros first.": a sheet whose list of facts is filled with zeros, and where its words
 -- stand then. That it gets the same answer and lines is `filled-facts` (proofs/FilledFacts.antt of `deal`).
 use mathlib.Core.Bool.{cond}
 use mathlib.Core.List.{List, _∷_, _++_}

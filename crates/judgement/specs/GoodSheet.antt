@@ -1,4 +1,4 @@
--- 01, "The deal sheet", and 02, S-1, S-3 and S-5, in plain relations: the limits that every word of a good sheet keeps; those of a fact, a row, a tranche and the IRB section are
+-- 01, "The deal sheet", and 02, S-1, S-3, S-5 and S-9, in plain relations: the limits that every word of a good sheet keeps; those of a fact, a row, a tranche and the IRB section are
 -- in GoodWords.antt of `faults`. That a sheet keeps them just when each word it needs is there and has no fault, and none follows (`WordsGood`, Judged.antt), is proved in
 -- proofs/GoodSheetLaw.antt.
 use mathlib.Core.Bool.{true}
@@ -8,10 +8,10 @@ use Prim.Native.Nat.{ℕ, _-_, _≤_, _<_}
 use lib.ListN.{length}
 use Rattle.limits.specs.SheetSize.{factsLeast, factsMost, rowsMost, tranchesMost, irbRows}
 use Rattle.faults.specs.GoodWords.{GoodFact, GoodRow, GoodTranche, GoodClass, GoodIrb}
-use Rattle.judgement.specs.DealSheet.{word, poolKind, resecuritisation, reportingDate, poolAt, rows, exposure, nominal, riskWeight, status, trancheCount, amount, class, maturity, held, firstRating, secondRating, thirdRating, hasIrb, irbAt, irbPlace, needed}
+use Rattle.judgement.specs.DealSheet.{word, poolKind, resecuritisation, reportingDate, inHundredths, poolAt, rows, exposure, nominal, weightWord, status, trancheCount, amount, class, maturity, held, firstRating, secondRating, thirdRating, hasIrb, irbAt, irbPlace, needed}
 
 abbrev pub GoodRowOf : List ℕ → ℕ → Type 0
-GoodRowOf s i = GoodRow (resecuritisation s) (exposure s i) (nominal s i) (riskWeight s i) (status s i)
+GoodRowOf s i = GoodRow (resecuritisation s) (inHundredths s) (exposure s i) (nominal s i) (weightWord s i) (status s i)
 
 abbrev pub GoodTrancheOf : List ℕ → ℕ → Type 0
 GoodTrancheOf s i = GoodTranche (reportingDate s) (amount s i) (maturity s i) (held s i) (firstRating s i) (secondRating s i) (thirdRating s i)
@@ -21,7 +21,7 @@ GoodIrbOf s =
     GoodIrb (poolKind s) (word s (irbPlace s 0)) (word s (irbPlace s 1)) (word s (irbPlace s 2)) (word s (irbPlace s 3)) (word s (irbPlace s 4))
     (word s (irbPlace s 5))
 
--- "Facts, count 4", with S-1 and S-3 four to six; "Pool, count 1 to 1,000.", "Tranches, count 1 to 32."; S-5: "Pool kinds 1 and 2 add a fourth section, count 1": the limits of
+-- "Facts, count 4", with S-1, S-3 and S-9 four to seven; "Pool, count 1 to 1,000.", "Tranches, count 1 to 32."; S-5: "Pool kinds 1 and 2 add a fourth section, count 1": the limits of
 -- the counts are those of SheetSize.antt of `limits`
 pub record GoodSheet (s : List ℕ) : Type 0 where
   pub facts-least : factsLeast ≤ word s 0

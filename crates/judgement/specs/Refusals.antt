@@ -1,4 +1,4 @@
--- 01, "Refusals, by who can cause them", and 02, S-1, for 16, S-3, for 17, and S-5, for 18: the fault of each word of a sheet, and the order in which they are judged. The fault of a
+-- 01, "Refusals, by who can cause them", and 02, S-1, for 16, S-3, for 17, S-5, for 18, and S-9, for risk weights in hundredths: the fault of each word of a sheet, and the order in which they are judged. The fault of a
 -- word by its value is in WordFaults.antt of `faults`.
 use mathlib.Core.Bool.{cond}
 use mathlib.Core.List.{List}
@@ -7,7 +7,7 @@ use lib.Dec.{ltb, eqb}
 use lib.ListN.{length}
 use Rattle.limits.specs.SheetSize.{factsLeast, factsMost, rowsMost, rowSize, tranchesMost, trancheSize, irbRows, irbSize}
 use Rattle.faults.specs.WordFaults.{countFault, factFault, rowFault, trancheFault, irbFault}
-use Rattle.judgement.specs.DealSheet.{word, poolKind, resecuritisation, reportingDate, poolAt, tranchesAt, amount, class, irbAt, needed, layout}
+use Rattle.judgement.specs.DealSheet.{word, poolKind, resecuritisation, reportingDate, inHundredths, poolAt, tranchesAt, amount, class, irbAt, needed, layout}
 use Rattle.judgement.specs.Outcome.{Outcome, found, refusedBy, outcome}
 use Rattle.judgement.specs.declared.Layout.{Layout}
 use Rattle.judgement.specs.declared.Verdict.{Verdict}
@@ -30,7 +30,7 @@ fault s p =
     cond (eqb p 0) (countFault factsLeast factsMost (word s p))
     (cond (ltb p (poolAt s)) (factFault (resecuritisation s) p (word s p))
     (cond (eqb p (poolAt s)) (countFault 1 rowsMost (word s p))
-    (cond (ltb p (tranchesAt s)) (rowFault (resecuritisation s) (columnOf rowSize (poolAt s) p) (word s p))
+    (cond (ltb p (tranchesAt s)) (rowFault (resecuritisation s) (inHundredths s) (columnOf rowSize (poolAt s) p) (word s p))
     (cond (eqb p (tranchesAt s)) (countFault 1 tranchesMost (word s p))
     (cond (ltb p (irbAt s))
     (let i = rowOf trancheSize (tranchesAt s) p in

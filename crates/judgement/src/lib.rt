@@ -12,6 +12,7 @@ mod sheet;
 
 use crate::sheet::end_of;
 use crate::sheet::fact_at;
+use crate::sheet::in_hundredths;
 use crate::sheet::irb_at;
 use crate::sheet::layout_of;
 use crate::sheet::pool_at;
@@ -59,6 +60,7 @@ pub struct Layout {
     pub diligence: bool,
     pub composition: bool,
     pub reporting_date: u64,
+    pub hundredths: bool,
     pub first_row: usize,
     pub rows: u64,
     pub first_tranche: usize,
@@ -120,11 +122,12 @@ fn judge_row_words(s: &[u64], i: u64) -> Verdict
     ensures { λ r. ⌜ r ≡ judged (now (s .entry)) (rowAt (now (s .entry)) (i + 1)) ⌝ }
 {
     let resecuritised = word_at(s, 2) == 1;
+    let hundredths = in_hundredths(s);
     let at = row_at(s, i);
     let mut column = 0;
     while column < ROW_SIZE as u64 {
         let p = at + column;
-        let verdict = judge_word(s, p, row_fault(resecuritised, column, word_at(s, p)));
+        let verdict = judge_word(s, p, row_fault(resecuritised, hundredths, column, word_at(s, p)));
         let Verdict::Sound = verdict else {
             return verdict;
         };
@@ -139,9 +142,10 @@ fn judge_row(s: &[u64], i: u64) -> Verdict
     ensures { λ r. ⌜ r ≡ judged (now (s .entry)) (rowAt (now (s .entry)) (i + 1)) ⌝ }
 {
     let resecuritised = word_at(s, 2) == 1;
+    let hundredths = in_hundredths(s);
     let at = row_at(s, i) as usize;
     if at + ROW_SIZE <= s.len() {
-        if row_is_good(resecuritised, s[at], s[at + 1], s[at + 2], s[at + 3]) {
+        if row_is_good(resecuritised, hundredths, s[at], s[at + 1], s[at + 2], s[at + 3]) {
             return Verdict::Sound;
         }
     }

@@ -2,7 +2,7 @@
 ghost use mathlib.Core.Path.{_≡_};
 ghost use Prim.Native.Nat.{_+_, _≤_, _<_};
 ghost use Rattle.limits.specs.SheetSize.{irbSize};
-ghost use Rattle.judgement.specs.DealSheet.{word, fact, poolAt, rows, rowAt, tranchesAt, trancheCount, trancheAt, irbAt, irbPlace, irbFigures, needed, layout};
+ghost use Rattle.judgement.specs.DealSheet.{word, fact, inHundredths, poolAt, rows, rowAt, tranchesAt, trancheCount, trancheAt, irbAt, irbPlace, irbFigures, needed, layout};
 ghost use Rattle.judgement.specs.Refusals.{judged};
 ghost use Rattle.judgement.specs.declared.Verdict.the-variants.{Sound};
 use crate::Layout;
@@ -24,6 +24,13 @@ pub(crate) fn fact_at(s: &[u64], n: u64) -> u64
     ensures { λ r. ⌜ r ≡ fact (now (s .entry)) n ⌝ }
 {
     if n <= word_at(s, 0) { word_at(s, n) } else { 0 }
+}
+
+// Whether risk weights are in hundredths of a percent, which the seventh fact says.
+pub(crate) fn in_hundredths(s: &[u64]) -> bool
+    ensures { λ r. ⌜ r ≡ inHundredths (now (s .entry)) ⌝ }
+{
+    fact_at(s, 7) == 1
 }
 
 // The place of the pool's count.
@@ -142,6 +149,7 @@ pub(crate) fn layout_of(s: &[u64]) -> Layout
         diligence: s[3] == 1,
         composition: s[4] == 1,
         reporting_date: fact_at(s, 6),
+        hundredths: in_hundredths(s),
         first_row: pool + 1,
         rows,
         first_tranche: tranches + 1,

@@ -1,17 +1,17 @@
--- 01, "The deal sheet": how many words a sheet, its rows and its results have, and "Refusals": how long a sheet's file may be; 02, S-1 and S-3, for the fifth and the
--- sixth fact, S-5 for the fourth section, S-6 for the seventh word of a line, and S-7 for the blocks of a pool. Every limit that follows from another, and that the papers do not state themselves, is worked out here from its parts.
+-- 01, "The deal sheet": how many words a sheet, its rows and its results have, and "Refusals": how long a sheet's file may be; 02, S-1, S-3 and S-9, for the
+-- fifth, the sixth and the seventh fact, S-5 for the fourth section, S-6 for the seventh word of a line, and S-7 for the blocks of a pool. Every limit that follows from another, and that the papers do not state themselves, is worked out here from its parts.
 use Prim.Native.Nat.{ℕ, _+_, _*_}
 
 -- ---- "Facts, count 4"; S-1: "A fifth fact says so (0 no, 1 yes); a sheet with four facts counts as 0."; S-3: "A sixth fact is the reporting date, ...; 0 or absent
--- means months as before.": four to six
+-- means months as before."; S-9: "A seventh fact is the unit of the risk weight word": four to seven
 
 abbrev pub factsLeast : ℕ
 factsLeast = 4
 
 abbrev pub factsMost : ℕ
-factsMost = 6
+factsMost = 7
 
--- ---- "Pool, count 1 to 1,000. A row: exposure amount and nominal amount, ...; risk weight in whole percent, ...; status ..."
+-- ---- "Pool, count 1 to 1,000. A row: exposure amount and nominal amount, ...; risk weight ...; status ..."
 
 abbrev pub rowsMost : ℕ
 rowsMost = 1000
@@ -49,12 +49,12 @@ irbSize = 6
 
 -- ---- "Three sections in this order, each after its count", and S-5's fourth
 
--- the words of the longest sheet: four counts, facts, pool rows, tranches and the IRB section; 4,240
+-- the words of the longest sheet: four counts, facts, pool rows, tranches and the IRB section; 4,241
 abbrev pub wordLimit : ℕ
 wordLimit = 4 + factsMost + rowSize * rowsMost + trancheSize * tranchesMost + irbSize * irbRows
 
 -- "The file form is the same words, eight bytes each"; "15 (reading a file only): length not a multiple of 8 or over ... bytes": the bytes of the longest sheet. "Here and
--- later, each word a sheet may gain raises the byte limit of 15 by 8.": with 01's 33,848 for four facts and three sections it is 33,920, `byte-limit-is` (proofs/SheetSizeLaws.antt).
+-- later, each word a sheet may gain raises the byte limit of 15 by 8.": with 01's 33,848 for four facts and three sections it is 33,928, `byte-limit-is` (proofs/SheetSizeLaws.antt).
 abbrev pub byteLimit : ℕ
 byteLimit = 8 * wordLimit
 

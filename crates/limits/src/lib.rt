@@ -4,7 +4,7 @@
 // The least and the most facts that a sheet has.
 pub const FACTS_LEAST: usize = 4;
 
-pub const FACTS_MOST: usize = 6;
+pub const FACTS_MOST: usize = 7;
 
 // The most pool rows, and the words of one.
 pub const ROWS_MOST: usize = 1000;

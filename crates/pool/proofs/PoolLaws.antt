@@ -14,7 +14,7 @@ use Rattle.charge.specs.SumLimits.{SumLimits}
 use Rattle.judgement.specs.DealSheet.{rows, exposure, nominal, status, needed}
 use Rattle.judgement.specs.Refusals.{judged}
 use Rattle.judgement.specs.declared.Verdict.the-variants.{Sound}
-use Rattle.judgement.proofs.SheetLimits.{good-row, rows-within, pool-counted}
+use Rattle.judgement.proofs.SheetLimits.{good-row, risk-weight-most, rows-within, pool-counted}
 use Rattle.pool.specs.PoolSums.{known, delinquent, weightedExposure, poolSums}
 use Rattle.pool.specs.RowTotals.{amountMost, weightedMost, totalsFrom, unknown, markedFrom, TotalsOfRows, MarkedOfRows}
 
@@ -38,8 +38,8 @@ counted-among false more x h = omega arith
 -- ---- the rows of an accepted sheet
 
 module _ (s : List ℕ) (accepted : judged s (needed s) ≡ Sound) where
-  row-weighted : (i : ℕ) → i < rows s → weightedExposure s i ≤ 1250 * exposure s i
-  row-weighted i row = omega (arith, mul-le-mul-left (exposure s i) (good-row s i accepted row .weight-most))
+  row-weighted : (i : ℕ) → i < rows s → weightedExposure s i ≤ 125000 * exposure s i
+  row-weighted i row = omega (arith, mul-le-mul-left (exposure s i) (risk-weight-most s i accepted row))
 
   late-known : (i : ℕ) → delinquent s i ≡ true → known s i ≡ true
   late-known i e =
@@ -79,10 +79,10 @@ sum-limits s accepted =
       known-among-all =
           sum-ordered (λ i. whereCounted (known s i) (exposure s i)) (λ i. exposure s i) (rows s)
           (λ i l. counted-at-most (known s i) (exposure s i));
-      weighted-most = sum-scaled (λ i. weightedExposure s i) (λ i. exposure s i) 1250 (rows s) (λ i l. row-weighted s accepted i l);
+      weighted-most = sum-scaled (λ i. weightedExposure s i) (λ i. exposure s i) 125000 (rows s) (λ i l. row-weighted s accepted i l);
       known-weighted-most =
-          sum-scaled (λ i. whereCounted (known s i) (weightedExposure s i)) (λ i. whereCounted (known s i) (exposure s i)) 1250 (rows s)
-          (λ i l. counted-scaled (known s i) (weightedExposure s i) (exposure s i) 1250 (row-weighted s accepted i l));
+          sum-scaled (λ i. whereCounted (known s i) (weightedExposure s i)) (λ i. whereCounted (known s i) (exposure s i)) 125000 (rows s)
+          (λ i l. counted-scaled (known s i) (weightedExposure s i) (exposure s i) 125000 (row-weighted s accepted i l));
       known-nominal-most =
           omega (
             arith,

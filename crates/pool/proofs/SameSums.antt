@@ -1,4 +1,4 @@
--- Two sheets whose pool rows are the same, in whatever order and wherever they stand, have the same sums. No axioms.
+-- Two sheets whose pool rows are the same, their risk weights in hundredths of a percent, have the same sums, in whatever order and wherever they stand. No axioms.
 use mathlib.Core.Bool.{not}
 use mathlib.Core.List.{List}
 use mathlib.Core.Path.{_≡_, refl, ap, _∙_}
@@ -10,15 +10,16 @@ use Rattle.numbers.specs.Sum.{sum, whereCounted}
 use Rattle.numbers.specs.Permutation.{Permutation}
 use Rattle.numbers.proofs.SumLaws.{sum-same}
 use Rattle.numbers.proofs.SumPermuted.{sum-permuted}
-use Rattle.judgement.specs.DealSheet.{word, rows, rowAt, exposure, nominal, riskWeight, status}
+use Rattle.judgement.specs.DealSheet.{word, inHundredths, rows, rowAt, exposure, nominal, riskWeight, status}
 use Rattle.pool.specs.PoolSums.{poolSums}
 
 module _ (s s′ : List ℕ) (π σ : ℕ → ℕ) (count : rows s′ ≡ rows s) (order : Permutation (rows s) π σ)
-    (at-row : (i c : ℕ) → i < rows s → c < 4 → word s′ (rowAt s′ i + c) ≡ word s (rowAt s (π i) + c)) where
+    (at-row : (i c : ℕ) → i < rows s → (c ≡ 2 → ⊥) → c < 4 → word s′ (rowAt s′ i + c) ≡ word s (rowAt s (π i) + c))
+    (weighed : (i : ℕ) → i < rows s → riskWeight s′ i ≡ riskWeight s (π i)) where
   exposure-moved : (i : ℕ) → i < rows s → exposure s′ i ≡ exposure s (π i)
-  exposure-moved i row = simp add-zero at (at-row i 0 row (omega arith))
+  exposure-moved i row = simp add-zero at (at-row i 0 row (λ e. omega arith) (omega arith))
 
-  -- the sum of any number f that a row's four words decide
+  -- the sum of any number f that a row's three other words and its risk weight decide
   sum-moved :
       (f : ℕ → ℕ → ℕ → ℕ → ℕ) →
       sum (λ i. f (exposure s′ i) (nominal s′ i) (riskWeight s′ i) (status s′ i)) (rows s′) ≡
@@ -30,7 +31,7 @@ module _ (s s′ : List ℕ) (π σ : ℕ → ℕ) (count : rows s′ ≡ rows s
       (λ i. f (exposure s (π i)) (nominal s (π i)) (riskWeight s (π i)) (status s (π i)))
       (rows s)
       (λ i row.
-      rw (exposure-moved i row, at-row i 1 row (omega arith), at-row i 2 row (omega arith), at-row i 3 row (omega arith))) ∙
+      rw (exposure-moved i row, at-row i 1 row (λ e. omega arith) (omega arith), weighed i row, at-row i 3 row (λ e. omega arith) (omega arith))) ∙
       sum-permuted (λ i. f (exposure s i) (nominal s i) (riskWeight s i) (status s i)) (rows s) π σ order
 
   pub same-sums : poolSums s′ ≡ poolSums s
@@ -46,11 +47,23 @@ module _ (s s′ : List ℕ) (π σ : ℕ → ℕ) (count : rows s′ ≡ rows s
         sum-moved (λ e n w t. whereCounted (eqb t 1) n),
       )
 
--- the same rows in the same order
-pub same-sums-in-order :
-    (s s′ : List ℕ) → rows s′ ≡ rows s → ((i c : ℕ) → i < rows s → c < 4 → word s′ (rowAt s′ i + c) ≡ word s (rowAt s i + c)) →
-    poolSums s′ ≡ poolSums s
-same-sums-in-order s s′ count alike =
+-- in the same order
+pub reweighed-sums :
+    (s s′ : List ℕ) → rows s′ ≡ rows s →
+    ((i c : ℕ) → i < rows s → (c ≡ 2 → ⊥) → c < 4 → word s′ (rowAt s′ i + c) ≡ word s (rowAt s i + c)) →
+    ((i : ℕ) → i < rows s → riskWeight s′ i ≡ riskWeight s i) → poolSums s′ ≡ poolSums s
+reweighed-sums s s′ count =
     same-sums s s′ (λ i. i) (λ i. i) count
     (record { forth = λ i l. l; back = λ i l. l; back-forth = λ i l. refl; forth-back = λ i l. refl })
-    alike
+
+-- rows of the same four words have the same risk weights, where the unit is the same
+pub same-weight :
+    (s s′ : List ℕ) (i j : ℕ) → inHundredths s′ ≡ inHundredths s → word s′ (rowAt s′ i + 2) ≡ word s (rowAt s j + 2) → riskWeight s′ i ≡ riskWeight s j
+same-weight s s′ i j unit alike = rw (unit, alike)
+
+-- so rows of the same four words in the same order have the same sums
+pub same-sums-in-order :
+    (s s′ : List ℕ) → rows s′ ≡ rows s → inHundredths s′ ≡ inHundredths s →
+    ((i c : ℕ) → i < rows s → c < 4 → word s′ (rowAt s′ i + c) ≡ word s (rowAt s i + c)) → poolSums s′ ≡ poolSums s
+same-sums-in-order s s′ count unit alike = reweighed-sums s s′ count (λ i c row other column. alike i c row column)
+    (λ i row. same-weight s s′ i i unit (alike i 2 row (omega arith)))

@@ -1,5 +1,5 @@
 -- 01, "Points and pool charge": the seven sums of a pool, over which its charge and the senior cap are taken (PoolCharge.antt of `charge`). Amounts are counted
--- in whole currency units, risk weights in percent.
+-- in whole currency units, risk weights in hundredths of a percent (02, S-9: "all weights and S-7's weighted sums are kept in hundredths").
 use mathlib.Core.Bool.{Bool, true, not}
 use mathlib.Core.List.{List}
 use Prim.Native.Nat.{ℕ, _*_}

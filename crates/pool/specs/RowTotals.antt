@@ -63,12 +63,12 @@ pub record Subtotals (s : List ℕ) (n : ℕ) (each : List Sums) : Type 0 where
 
 -- ---- limits
 
--- the highest amount of a row, and the highest product of an exposure and a risk weight: 10^10 at 1250 percent
+-- the highest amount of a row, and the highest product of an exposure and a risk weight: 10^10 at 125,000 hundredths of a percent
 abbrev pub amountMost : ℕ
 amountMost = 10000000000
 
 abbrev pub weightedMost : ℕ
-weightedMost = 12500000000000
+weightedMost = 1250000000000000
 
 -- totals over some of n rows, what is marked of n rows, and seven sums over n rows
 pub record TotalsOfRows (t : Totals) (n : ℕ) : Type 0 where

@@ -3,7 +3,7 @@ ghost use mathlib.Core.Bool.{true};
 ghost use mathlib.Core.Path.{_≡_};
 ghost use Prim.Native.Nat.{_+_, _≤_, _<_};
 ghost use Rattle.limits.specs.SheetSize.{rowsMost, rowSize, blockSize, blocksMost};
-ghost use Rattle.judgement.specs.DealSheet.{word, rows, rowAt};
+ghost use Rattle.judgement.specs.DealSheet.{word, rows, rowAt, weightUnit, riskWeight};
 ghost use Rattle.judgement.specs.LaidOut.{LaidOut};
 ghost use Rattle.pool.specs.PoolSums.{poolSums};
 ghost use Rattle.pool.specs.BlockSums.{blockSums, sumWords};
@@ -64,6 +64,21 @@ fn row_word(s: &[u64], l: Layout, i: u64, column: usize) -> u64
     s[at]
 }
 
+// The hundredths of a percent that one unit of a risk weight word is.
+fn weight_unit(hundredths: bool) -> u64
+    ensures { λ r. ⌜ r ≡ weightUnit hundredths ⌝ }
+{
+    if hundredths { 1 } else { 100 }
+}
+
+// The risk weight of pool row i in hundredths of a percent, whatever the unit of its word.
+fn risk_weight(s: &[u64], l: Layout, i: u64) -> u64
+    requires { ⌜ LaidOut (now s) l × (i < rows (now s)) ⌝ }
+    ensures { λ r. ⌜ r ≡ riskWeight (now (s .entry)) i ⌝ }
+{
+    weight_unit(l.hundredths) * row_word(s, l, i, 2)
+}
+
 // Totals with row i added.
 fn with_row(s: &[u64], l: Layout, t: Totals, i: u64) -> Totals
     requires { ⌜ LaidOut (now s) l × (i < rows (now s)) × TotalsOfRows t i ⌝ }
@@ -71,7 +86,7 @@ fn with_row(s: &[u64], l: Layout, t: Totals, i: u64) -> Totals
 {
     let exposure = row_word(s, l, i, 0);
     let nominal = row_word(s, l, i, 1);
-    let weighted = exposure * row_word(s, l, i, 2);
+    let weighted = exposure * risk_weight(s, l, i);
     Totals {
         exposure: t.exposure + exposure,
         nominal: t.nominal + nominal,

@@ -16,13 +16,21 @@ returns c =
     let x = c .before .before .before .args in
     simp (lt-ltb (x .column) 2 (omega arith), c .unless .ensures, c .before .within .ensures)
 
+highest-weight-requires : tie.Need-highest-weight-requires
+highest-weight-requires c κs = search needs
+
 unless-requires-2 : tie.Need-unless-requires-2
 unless-requires-2 c κs = search needs
 
 returns-2 : tie.Need-returns-2
 returns-2 c =
-    let x = c .before .before .before .args in
-    simp (le-ltb (x .column) 2 (omega arith), eq-eqb (x .column) 2 (omega arith), c .unless2 .ensures)
+    let x = c .before .before .before .before .args in
+    simp (
+      le-ltb (x .column) 2 (omega arith),
+      eq-eqb (x .column) 2 (omega arith),
+      c .unless2 .ensures,
+      c .before .highest-weight .ensures,
+    )
 
 status-allowed-requires : tie.Need-status-allowed-requires
 status-allowed-requires c κs = search needs
@@ -47,6 +55,7 @@ row-fault-spec =
     within-requires
     unless-requires
     returns
+    highest-weight-requires
     unless-requires-2
     returns-2
     status-allowed-requires

@@ -6,7 +6,7 @@ use lib.Dec.{eqb}
 use borrow.Author.Tests.{not-true, not-false, lt-leb, le-leb}
 use borrow.Author.Needs.{needs}
 use Rattle.numbers.specs.Limits.{within}
-use Rattle.faults.specs.WordFaults.{unless}
+use Rattle.faults.specs.WordFaults.{unless, highestWeight}
 use Rattle.faults.proofs.row_is_good.Statement.{statement}
 use Rattle.faults.proofs.row_is_good.Tie as tie
 
@@ -34,12 +34,16 @@ within-requires-2 c κs = search needs
 returns-2 : tie.Need-returns-2
 returns-2 c = simp (first-good (c .before .before), sym (c .before .within2 .ensures) ∙ not-true _ (c .if2 .taken))
 
+highest-weight-requires : tie.Need-highest-weight-requires
+highest-weight-requires c κs = search needs
+
 returns-3 : tie.Need-returns-3
 returns-3 c =
+    let start = c .before .before .before .before .before .before in
     simp (
-      first-good (c .before .before .before),
-      second-good (c .before),
-      lt-leb (c .before .before .before .before .before .args .weight) 1250 (omega arith),
+      first-good (c .before .before .before .before),
+      second-good (c .before .before),
+      lt-leb (start .args .weight) (highestWeight (start .args .hundredths)) (omega (arith, c .before .highest-weight .ensures)),
     )
 
 status-allowed-requires : tie.Need-status-allowed-requires
@@ -48,13 +52,13 @@ status-allowed-requires c κs = search needs
 returns-4 : tie.Need-returns-4
 returns-4 c =
     let third = c .before in
-    let start = third .before .before .before .before .before in
+    let start = third .before .before .before .before .before .before in
     simp (
       c .status-allowed .ensures,
       status-good,
-      first-good (third .before .before .before),
-      second-good (third .before),
-      le-leb (start .args .weight) 1250 (omega arith),
+      first-good (third .before .before .before .before),
+      second-good (third .before .before),
+      le-leb (start .args .weight) (highestWeight (start .args .hundredths)) (omega (arith, third .before .highest-weight .ensures)),
     )
 
 pub row-is-good-spec : {M : Type 1} → statement M
@@ -65,6 +69,7 @@ row-is-good-spec =
     returns
     within-requires-2
     returns-2
+    highest-weight-requires
     returns-3
     status-allowed-requires
     returns-4)

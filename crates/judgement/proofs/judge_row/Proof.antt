@@ -11,12 +11,15 @@ use Rattle.judgement.proofs.judge_row.Tie as tie
 word-at-requires : tie.Need-word-at-requires
 word-at-requires c κs = search needs
 
+in-hundredths-requires : tie.Need-in-hundredths-requires
+in-hundredths-requires c κs = search needs
+
 row-at-requires : tie.Need-row-at-requires
-row-at-requires c κs = (sound-before _ _ _ (c .before .before .pre .0) (omega arith), omega arith)
+row-at-requires c κs = (sound-before _ _ _ (c .before .before .before .pre .0) (omega arith), omega arith)
 
 add-if1 : tie.Need-add-if1
 add-if1 c =
-    let start = c .before .before .before in
+    let start = c .before .before .before .before in
     let s = start .args .s .now in
     omega (arith, c .row-at .ensures, row-at-most s (start .args .i) (sound-before s _ _ (start .pre .0) (omega arith)) (omega arith))
 
@@ -59,11 +62,11 @@ row-is-good-requires c κs = search needs
 returns : tie.Need-returns
 returns c =
     let placed = c .before .before .before .before .before .before .before in
-    let start = placed .before .before .before in
+    let start = placed .before .before .before .before in
     sym
     (good-row-judged (start .args .s .now) (start .args .i) (start .pre .0) (start .pre .1)
     (omega (arith, placed .row-at .ensures))
-    (rw (placed .row-at .ensures, placed .before .word-at .ensures) at (c .before .row-is-good .ensures))
+    (rw (placed .row-at .ensures, placed .before .in-hundredths .ensures, placed .before .before .word-at .ensures) at (c .before .row-is-good .ensures))
     (c .if2 .taken))
 
 judge-row-words-requires : tie.Need-judge-row-words-requires
@@ -77,6 +80,7 @@ judge-row-spec =
     tie.close
     (tie.spec
     word-at-requires
+    in-hundredths-requires
     row-at-requires
     add-if1
     mul-row-is-good

@@ -13,23 +13,26 @@ use Rattle.judgement.proofs.judge_row_words.Statement.{statement}
 use Rattle.judgement.proofs.judge_row_words.Tie as tie
 
 abbrev Inv-loop : tie.InvT-loop
-Inv-loop s i resecuritised at column₀ column = (column ≤ 4) × (judged s (rowAt s i + column) ≡ Sound)
+Inv-loop s i resecuritised hundredths at column₀ column = (column ≤ 4) × (judged s (rowAt s i + column) ≡ Sound)
 
 abbrev μ-loop : tie.MeasureT-loop
-μ-loop s i resecuritised at column₀ column = 4 - column
+μ-loop s i resecuritised hundredths at column₀ column = 4 - column
 
 word-at-requires : tie.Need-word-at-requires Inv-loop μ-loop
 word-at-requires c κs = search needs
 
+in-hundredths-requires : tie.Need-in-hundredths-requires Inv-loop μ-loop
+in-hundredths-requires c κs = search needs
+
 row-at-requires : tie.Need-row-at-requires Inv-loop μ-loop
-row-at-requires c κs = (sound-before _ _ _ (c .before .before .pre .0) (omega arith), omega arith)
+row-at-requires c κs = (sound-before _ _ _ (c .before .before .before .pre .0) (omega arith), omega arith)
 
 loop-holds : tie.Need-loop-holds Inv-loop μ-loop
-loop-holds c = (omega arith, sound-before _ _ _ (c .before .before .before .pre .0) (omega arith))
+loop-holds c = (omega arith, sound-before _ _ _ (c .before .before .before .before .pre .0) (omega arith))
 
 add-p : tie.Need-add-p Inv-loop μ-loop
 add-p c =
-    let start = c .before .before .before .before .before in
+    let start = c .before .before .before .before .before .before in
     let s = start .args .s .now in
     omega (arith, row-at-most s (start .args .i) (sound-before s _ _ (start .pre .0) (omega arith)) (omega arith))
 
@@ -46,11 +49,11 @@ judge-word-requires c κs = search needs
 column-judged :
     (c : tie.After-judge-word Inv-loop μ-loop) →
     let l = c .before .before .before .before in
-    let start = l .before .before .before .before in
+    let start = l .before .before .before .before .before in
     c .judge-word .result ≡ judged (start .args .s .now) (rowAt (start .args .s .now) (start .args .i) + l .loop .column + 1)
 column-judged c =
     let l = c .before .before .before .before in
-    let start = l .before .before .before .before in
+    let start = l .before .before .before .before .before in
     let s = start .args .s .now in
     let i = start .args .i in
     word-judged s (rowAt s i + l .loop .column) (l .loop .inv .1) (fault-of-row s i (l .loop .column) (omega arith) (omega arith))
@@ -59,7 +62,8 @@ column-judged c =
       c .before .row-fault .ensures,
       c .before .before .word-at2 .ensures,
       l .before .row-at .ensures,
-      l .before .before .word-at .ensures,
+      l .before .before .in-hundredths .ensures,
+      l .before .before .before .word-at .ensures,
     ))
 
 enum-told : tie.Need-enum-told Inv-loop μ-loop
@@ -91,6 +95,7 @@ judge-row-words-spec =
     Inv-loop
     μ-loop
     word-at-requires
+    in-hundredths-requires
     row-at-requires
     loop-holds
     add-p

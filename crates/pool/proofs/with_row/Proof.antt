@@ -1,4 +1,4 @@
--- `with_row`: the row's words are read at their places; each sum is at most 1.25 × 10^13 a row, so nothing wraps. No axioms.
+-- `with_row`: the row's words are read at their places; each sum is at most 1.25 × 10^15 a row, so nothing wraps. No axioms.
 use mathlib.Core.Path.{_≡_}
 use Prim.Native.Nat.{ℕ, _*_, _≤_}
 use native.Mathlib.Nat.{mul-le-mul, add-zero}
@@ -6,7 +6,7 @@ use native.Mathlib.Omega.{arith}
 use borrow.Author.Needs.{needs}
 use Rattle.limits.specs.SheetSize.{rowsMost}
 use Rattle.judgement.specs.DealSheet.{exposure, nominal, riskWeight}
-use Rattle.judgement.proofs.SheetLimits.{good-row, rows-within, pool-counted}
+use Rattle.judgement.proofs.SheetLimits.{good-row, risk-weight-most, rows-within, pool-counted}
 use Rattle.pool.proofs.with_row.Statement.{statement}
 use Rattle.pool.proofs.with_row.Tie as tie
 
@@ -19,20 +19,20 @@ nominal-read :
 nominal-read c = c .row-word2 .ensures
 
 weight-read :
-    (c : tie.After-row-word3) →
-    c .row-word3 .result ≡ riskWeight (c .before .before .before .before .args .s .now) (c .before .before .before .before .args .i)
-weight-read c = c .row-word3 .ensures
+    (c : tie.After-risk-weight) →
+    c .risk-weight .result ≡ riskWeight (c .before .before .before .before .args .s .now) (c .before .before .before .before .args .i)
+weight-read c = c .risk-weight .ensures
 
 -- the row's terms and the number of rows are small
 record Small (i e n w : ℕ) : Type 0 where
   rows-most : i ≤ rowsMost
   exposure-most : e ≤ 10000000000
   nominal-most : n ≤ 10000000000
-  weighted-most : e * w ≤ 12500000000000
+  weighted-most : e * w ≤ 1250000000000000
 
 small :
-    (c : tie.After-row-word3) →
-    Small (c .before .before .before .before .args .i) (c .before .before .row-word .result) (c .before .row-word2 .result) (c .row-word3 .result)
+    (c : tie.After-risk-weight) →
+    Small (c .before .before .before .before .args .i) (c .before .before .row-word .result) (c .before .row-word2 .result) (c .risk-weight .result)
 small c =
     let x = c .before .before .before .before in
     let s = x .args .s .now in
@@ -42,7 +42,7 @@ small c =
       rows-most = omega (arith, x .pre .1, rows-within s (pool-counted s (x .pre .0 .good)));
       exposure-most = omega (arith, exposure-read (c .before .before));
       nominal-most = omega (arith, nominal-read (c .before));
-      weighted-most = rw (exposure-read (c .before .before), weight-read c) (omega (arith, mul-le-mul (row .exposure-most) (row .weight-most)));
+      weighted-most = rw (exposure-read (c .before .before), weight-read c) (omega (arith, mul-le-mul (row .exposure-most) (risk-weight-most s i (x .pre .0 .good) (x .pre .1))));
     }
 
 row-word-requires : tie.Need-row-word-requires
@@ -51,8 +51,8 @@ row-word-requires c κs = search needs
 row-word-requires-2 : tie.Need-row-word-requires-2
 row-word-requires-2 c κs = search needs
 
-row-word-requires-3 : tie.Need-row-word-requires-3
-row-word-requires-3 c κs = search needs
+risk-weight-requires : tie.Need-risk-weight-requires
+risk-weight-requires c κs = search needs
 
 mul-weighted : tie.Need-mul-weighted
 mul-weighted c = omega (arith, small c)
@@ -77,7 +77,7 @@ with-row-spec =
     (tie.spec
     row-word-requires
     row-word-requires-2
-    row-word-requires-3
+    risk-weight-requires
     mul-weighted
     add-t8
     add-t9

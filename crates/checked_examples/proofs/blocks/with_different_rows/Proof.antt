@@ -6,10 +6,10 @@ use Rattle.checked_examples.proofs.blocks.with_different_rows.Statement
 use Rattle.checked_examples.proofs.blocks.with_different_rows.Tie as tie
 
 abbrev Inv-loop : tie.InvT-loop
-Inv-loop resecuritisation filled₀ i₀ filled i = i ≤ rowsMost
+Inv-loop resecuritisation unit filled₀ i₀ filled i = i ≤ rowsMost
 
 abbrev μ-loop : tie.MeasureT-loop
-μ-loop resecuritisation filled₀ i₀ filled i = rowsMost - i
+μ-loop resecuritisation unit filled₀ i₀ filled i = rowsMost - i
 
 loop-holds : tie.Need-loop-holds Inv-loop μ-loop
 loop-holds c = search needs
@@ -44,8 +44,8 @@ mul-filled-3 c = search needs
 array-write-filled-2 : tie.Need-array-write-filled-2 Inv-loop μ-loop
 array-write-filled-2 c = search needs
 
-sub-filled : tie.Need-sub-filled Inv-loop μ-loop
-sub-filled c = search needs
+weight-of-requires : tie.Need-weight-of-requires Inv-loop μ-loop
+weight-of-requires c κs = search needs
 
 add-filled-3 : tie.Need-add-filled-3 Inv-loop μ-loop
 add-filled-3 c = search needs
@@ -97,7 +97,7 @@ with-different-rows-spec =
     add-filled-2
     mul-filled-3
     array-write-filled-2
-    sub-filled
+    weight-of-requires
     add-filled-3
     mul-filled-4
     array-write-filled-3

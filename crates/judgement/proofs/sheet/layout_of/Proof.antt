@@ -72,29 +72,39 @@ shared-slice-read-t21 c = known-fact-there _ (c .before .before .before .before 
 fact-at-requires-2 : tie.Need-fact-at-requires-2
 fact-at-requires-2 c κs = search needs
 
+in-hundredths-requires : tie.Need-in-hundredths-requires
+in-hundredths-requires c κs = search needs
+
 add-t11 : tie.Need-add-t11
-add-t11 c = omega (arith, facts _ (c .before .before .before .before .before .before .before .before .before .pre))
+add-t11 c = omega (arith, facts _ (c .before .before .before .before .before .before .before .before .before .before .pre))
 
 add-t8 : tie.Need-add-t8
 add-t8 c =
-    let start = c .before .before .before .before .before .before .before .before .before in
+    let start = c .before .before .before .before .before .before .before .before .before .before in
     omega (arith, facts _ (start .pre), rows-few _ (start .pre))
 
 mul-t10 : tie.Need-mul-t10
 mul-t10 c =
-    let start = c .before .before .before .before .before .before .before .before .before in
+    let start = c .before .before .before .before .before .before .before .before .before .before in
     omega (arith, facts _ (start .pre), rows-few _ (start .pre))
 
-shared-slice-read-t25 : tie.Need-shared-slice-read-t25
-shared-slice-read-t25 c = count-there _ (c .before .before .before .before .before .before .before .before .before .before .pre)
+shared-slice-read-t26 : tie.Need-shared-slice-read-t26
+shared-slice-read-t26 c = count-there _ (c .before .before .before .before .before .before .before .before .before .before .before .pre)
 
 irb-figures-requires : tie.Need-irb-figures-requires
 irb-figures-requires c κs =
-    tranches-counted _ (c .before .before .before .before .before .before .before .before .before .before .pre)
+    tranches-counted _ (c .before .before .before .before .before .before .before .before .before .before .before .pre)
 
 returns : tie.Need-returns
 unfolding layout trancheCount tranchesAt rows poolAt
-returns c = simp (c .irb-figures .ensures, c .before .before .fact-at2 .ensures, c .before .before .before .before .before .fact-at .ensures)
+returns c =
+    let unit = c .before .before in
+    simp (
+      c .irb-figures .ensures,
+      unit .in-hundredths .ensures,
+      unit .before .fact-at2 .ensures,
+      unit .before .before .before .before .fact-at .ensures,
+    )
 
 pub layout-of-spec : {M : Type 1} → statement M
 layout-of-spec =
@@ -113,9 +123,10 @@ layout-of-spec =
     shared-slice-read-t18
     shared-slice-read-t21
     fact-at-requires-2
+    in-hundredths-requires
     add-t11
     add-t8
     mul-t10
-    shared-slice-read-t25
+    shared-slice-read-t26
     irb-figures-requires
     returns)
