@@ -159,7 +159,7 @@ fn print_rooms_from_percent() {
     print_rooms(b"four facts, a word too many", &percent);
     let mut bad = PERCENT;
     bad[8] = 1251;
-    print_rooms(b"four facts, risk weight 1251", &bad);
+    print_rooms(b"four facts, risk weight 1251", &bad[..18]);
 }
 
 // Writes how a sheet in hundredths is converted; 19 comes before 14.

@@ -1,4 +1,4 @@
--- 02, S-1: "a sheet with four facts counts as 0", and S-3: "0 or absent means months as before.": what the answer to a sheet becomes where its list of facts is filled
+-- 02, S-1: "a sheet with four facts counts as 0", S-3: "0 or absent means months as before.", and S-9: "Shorter fact lists are filled with zeros first.": what the answer to a sheet becomes where its list of facts is filled
 -- with zeros (FilledFacts.antt of `judgement`).
 use mathlib.Core.List.{List}
 use mathlib.Core.Path.{_≡_}
@@ -10,7 +10,11 @@ use Rattle.deal.specs.Results.{Reply, replyTo, resultsAfter}
 abbrev pub movedReply : ℕ → List ℕ → Reply → Reply
 movedReply n s r = record { number = r .number; place = moved n s (r .place); count = r .count; charge = r .charge }
 
--- the sheet filled to n facts has the same answer, but for the place of a refusal, and leaves the same results
-pub record SameWhenFilled (n : ℕ) (s : List ℕ) : Type 0 where
-  pub same-reply : (room : ℕ) → replyTo (filled n s) room ≡ movedReply n s (replyTo s room)
-  pub same-results : (old : List ℕ) → resultsAfter (filled n s) old ≡ resultsAfter s old
+-- a sheet s′ of n facts has the answer of s, but for the place of a refusal, which has moved with the zeros, and leaves the same results
+pub record SameButMoved (n : ℕ) (s s′ : List ℕ) : Type 0 where
+  pub same-reply : (room : ℕ) → replyTo s′ room ≡ movedReply n s (replyTo s room)
+  pub same-results : (old : List ℕ) → resultsAfter s′ old ≡ resultsAfter s old
+
+-- the sheet filled to n facts has
+abbrev pub SameWhenFilled : ℕ → List ℕ → Type 0
+SameWhenFilled n s = SameButMoved n s (filled n s)

@@ -60,7 +60,7 @@ module _ (n : ℕ) (s : List ℕ) (c : CanFill n s) where
         length-drop (poolAt s) s,
       )
 
-  count-filled : word f 0 ≡ n
+  pub count-filled : word f 0 ≡ n
   unfolding filled
   count-filled = refl
 
@@ -109,7 +109,7 @@ module _ (n : ℕ) (s : List ℕ) (c : CanFill n s) where
 
   -- ---- its places
 
-  pool-moved : poolAt f ≡ poolAt s + d
+  pub pool-moved : poolAt f ≡ poolAt s + d
   unfolding poolAt
   pool-moved = omega (arith, count-filled, c .most)
 
@@ -117,7 +117,7 @@ module _ (n : ℕ) (s : List ℕ) (c : CanFill n s) where
   unfolding rows
   same-rows = ap (word f) pool-moved ∙ rest-kept (poolAt s) (le-refl _)
 
-  tranches-moved : tranchesAt f ≡ tranchesAt s + d
+  pub tranches-moved : tranchesAt f ≡ tranchesAt s + d
   tranches-moved = omega (arith, tranches-at-past-rows f, tranches-at-past-rows s, pool-moved, same-rows)
 
   pub same-tranche-count : trancheCount f ≡ trancheCount s
@@ -151,7 +151,7 @@ module _ (n : ℕ) (s : List ℕ) (c : CanFill n s) where
   unfolding poolAt
   same-known-fact p least most = fact-kept p least (omega (arith, c .least))
 
-  same-later-fact : (p : ℕ) → 1 ≤ p → fact f p ≡ fact s p
+  pub same-later-fact : (p : ℕ) → 1 ≤ p → fact f p ≡ fact s p
   unfolding poolAt
   same-later-fact p least =
       same-fact s f p (omega (arith, count-filled, c .most)) (λ h. fact-kept p least (omega arith))
@@ -207,7 +207,7 @@ module _ (n : ℕ) (s : List ℕ) (c : CanFill n s) where
       (fact-good (resecuritisation f) p 0 least (record { pool-kind = λ _. omega arith; code = λ _ _. omega arith; mark = λ _ _. refl; reporting-date = λ _. inl refl }))
 
   -- a word that has moved with its section is as far behind the count as before, so its row and its column are the same
-  same-distance : (at p : ℕ) → p + d - (at + d + 1) ≡ p - (at + 1)
+  pub same-distance : (at p : ℕ) → p + d - (at + d + 1) ≡ p - (at + 1)
   same-distance at p = omega arith
 
   same-amount : (i : ℕ) → amount f i ≡ amount s i

@@ -19,7 +19,7 @@ module _ (s : List ℕ) (l : Layout) (h : LaidOut s l) where
   unfolding layout
   hundredths-is = ap (λ (m : Layout). m .hundredths) (h .is-layout)
 
-  first-row-is : l .«first_row» ≡ poolAt s + 1
+  pub first-row-is : l .«first_row» ≡ poolAt s + 1
   unfolding layout
   first-row-is = ap (λ (m : Layout). m .«first_row») (h .is-layout)
 

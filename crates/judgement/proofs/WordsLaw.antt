@@ -32,6 +32,14 @@ pub bad-numbers : (s : List ℕ) (r : Refusal) → refusedBy r ≡ wordsNumbers 
 unfolding wordsNumbers
 bad-numbers s r e = refused-means r (layout s) (wordsVerdict s) e
 
+-- what `judge_words` found, by each case
+
+pub good-words : (s : List ℕ) (w : Words) (l : Layout) → numbersOf w ≡ wordsNumbers s → w ≡ Good l → (wordsVerdict s ≡ Sound) × (l ≡ layout s)
+good-words s w l e is = good-numbers s l (sym (ap numbersOf is) ∙ e)
+
+pub bad-words : (s : List ℕ) (w : Words) (r : Refusal) → numbersOf w ≡ wordsNumbers s → w ≡ Bad r → wordsVerdict s ≡ Faulty r
+bad-words s w r e is = bad-numbers s r (sym (ap numbersOf is) ∙ e)
+
 -- whatever is found good is good, and its layout is the sheet's
 pub laid-out : (s : List ℕ) (l : Layout) → wordsVerdict s ≡ Sound → l ≡ layout s → LaidOut s l
 laid-out s l sound is = record { good = needed-sound s sound; is-layout = is }

@@ -1,17 +1,14 @@
 -- What a pool and a block come to is settled by their numbers; and what these say of the words, the layout and the sums. No axioms.
 use mathlib.Core.List.{List}
-use mathlib.Core.Path.{_≡_, refl, sym, ap, _∙_}
+use mathlib.Core.Path.{_≡_, refl, sym, ap}
 use Prim.Native.Nat.{ℕ}
 use Rattle.charge.specs.declared.Sums.{Sums}
 use Rattle.judgement.specs.DealSheet.{layout}
 use Rattle.judgement.specs.Outcome.{found, refusedBy}
-use Rattle.judgement.specs.Refusals.{wordsVerdict, wordsNumbers, numbersOf as wordsNumbersOf}
+use Rattle.judgement.specs.Refusals.{wordsVerdict}
 use Rattle.judgement.specs.declared.Layout.{Layout}
 use Rattle.judgement.specs.declared.Refusal.{Refusal}
 use Rattle.judgement.specs.declared.Verdict.the-variants.{Sound, Faulty}
-use Rattle.judgement.specs.declared.Words.{Words}
-use Rattle.judgement.specs.declared.Words.the-variants.{Good, Bad}
-use Rattle.judgement.proofs.WordsLaw.{good-numbers, bad-numbers}
 use Rattle.judgement.proofs.OutcomeLaws.{same-found, same-refusal, found-not-refused, found-when, refused-when, found-means, refused-means}
 use Rattle.pool.specs.PoolSums.{poolSums}
 use Rattle.pool.specs.BlockSums.{blockSums}
@@ -35,14 +32,6 @@ block-settled (block.Summed q) (block.Summed p) e = ap block.Summed (same-found 
 block-settled (block.Summed q) (block.Refused r) e = absurd (found-not-refused q r e)
 block-settled (block.Refused t) (block.Summed p) e = absurd (found-not-refused p t (sym e))
 block-settled (block.Refused t) (block.Refused r) e = ap block.Refused (same-refusal t r e)
-
--- ---- what `judge_words` found, by each case
-
-pub good-words : (s : List ℕ) (w : Words) (l : Layout) → wordsNumbersOf w ≡ wordsNumbers s → w ≡ Good l → (wordsVerdict s ≡ Sound) × (l ≡ layout s)
-good-words s w l e is = good-numbers s l (sym (ap wordsNumbersOf is) ∙ e)
-
-pub bad-words : (s : List ℕ) (w : Words) (r : Refusal) → wordsNumbersOf w ≡ wordsNumbers s → w ≡ Bad r → wordsVerdict s ≡ Faulty r
-bad-words s w r e is = bad-numbers s r (sym (ap wordsNumbersOf is) ∙ e)
 
 -- ---- from the words to the numbers
 

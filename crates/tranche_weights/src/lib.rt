@@ -40,7 +40,7 @@ fn put_answer(answer: Answer, place: &mut u64, count: &mut u64, charge: &mut u64
 
 // Weighs every tranche of a deal sheet, as deal::weigh does.
 #[no_mangle]
-pub extern "C" fn tranche_weights_weigh_v8(
+pub extern "C" fn tranche_weights_weigh_v9(
     sheet: &[u64],
     results: &mut [u64],
     place: &mut u64,
@@ -58,7 +58,7 @@ pub extern "C" fn tranche_weights_weigh_v8(
 
 // Weighs every tranche of the deal sheet that a file's bytes hold, as deal_file::weigh_file does.
 #[no_mangle]
-pub extern "C" fn tranche_weights_weigh_file_v8(
+pub extern "C" fn tranche_weights_weigh_file_v9(
     file: &[u8],
     results: &mut [u64],
     place: &mut u64,
@@ -77,7 +77,7 @@ pub extern "C" fn tranche_weights_weigh_file_v8(
 // Writes the report's text on a file, as report::report does. The answer is the text's length; it was written where that is at most the room lent, and
 // else nothing was.
 #[no_mangle]
-pub extern "C" fn tranche_weights_report_v8(file: &[u8], text: &mut [u8]) -> u64
+pub extern "C" fn tranche_weights_report_v9(file: &[u8], text: &mut [u8]) -> u64
     ensures { λ r. ⌜ r ≡ length (fileText (now (file .entry))) ⌝ }
     ensures { λ r. ⌜ now (text .exit) ≡ textAfter (fileText (now (file .entry))) (now (text .entry)) ⌝ }
     ensures { λ r. ⌜ r ≤ textRoom ⌝ }
@@ -108,7 +108,7 @@ fn put_block(block: Block, place: &mut u64, sums: &mut [u64; SUM_WORDS]) -> u64
 
 // Reads the sums of a block of a deal sheet's pool, as pool::sum_block does: seven words, in the order of pool::sum_words, which read 0 where the sheet is refused.
 #[no_mangle]
-pub extern "C" fn tranche_weights_block_sums_v8(
+pub extern "C" fn tranche_weights_block_sums_v9(
     sheet: &[u64],
     block: u64,
     place: &mut u64,

@@ -1,7 +1,7 @@
 -- `sum_block`: where the words are good the sums are the block's, and a refusal by the words is handed on. No axioms.
 use borrow.Author.Needs.{needs}
-use Rattle.judgement.proofs.WordsLaw.{laid-out}
-use Rattle.pool.proofs.SummedPoolLaw.{good-words, bad-words, summed-block, refused-block}
+use Rattle.judgement.proofs.WordsLaw.{good-words, bad-words, laid-out}
+use Rattle.pool.proofs.SummedPoolLaw.{summed-block, refused-block}
 use Rattle.pool.proofs.sum_block.Statement.{statement}
 use Rattle.pool.proofs.sum_block.Tie as tie
 

@@ -1,7 +1,7 @@
 -- `sum_pool`: where the words are good the sums are those of the sheet's pool, and a refusal by the words is handed on. No axioms.
 use borrow.Author.Needs.{needs}
-use Rattle.judgement.proofs.WordsLaw.{laid-out}
-use Rattle.pool.proofs.SummedPoolLaw.{good-words, bad-words, summed-pool, refused-pool}
+use Rattle.judgement.proofs.WordsLaw.{good-words, bad-words, laid-out}
+use Rattle.pool.proofs.SummedPoolLaw.{summed-pool, refused-pool}
 use Rattle.pool.proofs.sum_pool.Statement.{statement}
 use Rattle.pool.proofs.sum_pool.Tie as tie
 

@@ -1,8 +1,8 @@
--- `tranche_weights_weigh_v8`: the answer of `weigh` is handed on as its four numbers. No axioms.
+-- `tranche_weights_weigh_v9`: the answer of `weigh` is handed on as its four numbers. No axioms.
 use mathlib.Core.Path.{_∙_}
 use borrow.Author.Needs.{needs}
-use Rattle.tranche_weights.proofs.tranche_weights_weigh_v8.Statement.{statement}
-use Rattle.tranche_weights.proofs.tranche_weights_weigh_v8.Tie as tie
+use Rattle.tranche_weights.proofs.tranche_weights_weigh_v9.Statement.{statement}
+use Rattle.tranche_weights.proofs.tranche_weights_weigh_v9.Tie as tie
 
 weigh-requires : tie.Need-weigh-requires
 weigh-requires c κs = search needs

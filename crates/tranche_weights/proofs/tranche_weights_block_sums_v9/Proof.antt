@@ -1,9 +1,9 @@
--- `tranche_weights_block_sums_v8`: what `sum_block` gives is handed on as its numbers. No axioms.
+-- `tranche_weights_block_sums_v9`: what `sum_block` gives is handed on as its numbers. No axioms.
 use mathlib.Core.Path.{ap, _∙_}
 use borrow.Author.Needs.{needs}
 use Rattle.tranche_weights.specs.BlockReply.{replyFor}
-use Rattle.tranche_weights.proofs.tranche_weights_block_sums_v8.Statement.{statement}
-use Rattle.tranche_weights.proofs.tranche_weights_block_sums_v8.Tie as tie
+use Rattle.tranche_weights.proofs.tranche_weights_block_sums_v9.Statement.{statement}
+use Rattle.tranche_weights.proofs.tranche_weights_block_sums_v9.Tie as tie
 
 sum-block-requires : tie.Need-sum-block-requires
 sum-block-requires c κs = search needs

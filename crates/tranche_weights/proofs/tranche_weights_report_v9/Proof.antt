@@ -1,10 +1,10 @@
--- `tranche_weights_report_v8`: both cases of the answer of `report` hold the text's length. No axioms.
+-- `tranche_weights_report_v9`: both cases of the answer of `report` hold the text's length. No axioms.
 use mathlib.Core.Path.{sym, _∙_}
 use borrow.Author.Needs.{needs}
 use Rattle.report.specs.ReportText.{fileText}
 use Rattle.tranche_weights.proofs.WrittenLength.{written-length}
-use Rattle.tranche_weights.proofs.tranche_weights_report_v8.Statement.{statement}
-use Rattle.tranche_weights.proofs.tranche_weights_report_v8.Tie as tie
+use Rattle.tranche_weights.proofs.tranche_weights_report_v9.Statement.{statement}
+use Rattle.tranche_weights.proofs.tranche_weights_report_v9.Tie as tie
 
 report-requires : tie.Need-report-requires
 report-requires c κs = search needs

@@ -1,0 +1,2 @@
+pub mod RewrittenLaws
+pub mod ConversionSteps

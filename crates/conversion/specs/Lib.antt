@@ -1,0 +1,2 @@
+pub mod RewrittenSheet
+pub mod Conversion
