@@ -1,2 +1,3 @@
 pub mod FourNumbers
 pub mod BlockReply
+pub mod ConversionReply

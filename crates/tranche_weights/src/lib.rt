@@ -9,7 +9,10 @@ ghost use Rattle.deal_file.specs.FileAnswer.{fileReply, fileResults, FileKeepsD
 ghost use Rattle.report.specs.ReportText.{fileText, textAfter, textRoom};
 ghost use Rattle.pool.specs.SummedBlock.{numbersOf};
 ghost use Rattle.tranche_weights.specs.BlockReply.{blockReply, replyFor, blockReplyTo};
+ghost use Rattle.conversion.specs.Conversion.{numbersOf as numbersOfConversion, outputAfter};
+ghost use Rattle.tranche_weights.specs.ConversionReply.{conversionReply, replyFor as replyForConversion, conversionReplyTo};
 ghost use Rattle.tranche_weights.specs.FourNumbers.{fourNumbers};
+use conversion::Converted;
 use deal::Answer;
 use pool::Block;
 use pool::SUM_WORDS;
@@ -118,4 +121,37 @@ pub extern "C" fn tranche_weights_block_sums_v9(
 {
     let read = pool::sum_block(sheet, block);
     put_block(read, place, sums)
+}
+
+// A conversion as a program in C gets it: the refusal's number, 0 where there is none; place and the count of words written go through the lent numbers.
+fn put_conversion(converted: Converted, place: &mut u64, count: &mut u64) -> u64
+    ensures { λ r. ⌜ conversionReply r (now (place .exit)) (now (count .exit)) ≡ replyForConversion (numbersOfConversion converted) ⌝ }
+{
+    match converted {
+        Converted::Written(n) => {
+            *place = 0;
+            *count = n;
+            0
+        }
+        Converted::Refused(refusal) => {
+            *place = refusal.place;
+            *count = 0;
+            refusal.number
+        }
+    }
+}
+
+// Rewrites a deal sheet in the other unit of risk weights into lent output words, as conversion::convert does.
+#[no_mangle]
+pub extern "C" fn tranche_weights_convert_v9(
+    sheet: &[u64],
+    output: &mut [u64],
+    place: &mut u64,
+    count: &mut u64,
+) -> u64
+    ensures { λ r. ⌜ conversionReply r (now (place .exit)) (now (count .exit)) ≡ conversionReplyTo (now (sheet .entry)) (length (now (output .entry))) ⌝ }
+    ensures { λ r. ⌜ now (output .exit) ≡ outputAfter (now (sheet .entry)) (now (output .entry)) ⌝ }
+{
+    let converted = conversion::convert(sheet, output);
+    put_conversion(converted, place, count)
 }

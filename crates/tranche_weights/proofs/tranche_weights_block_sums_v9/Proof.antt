@@ -14,5 +14,5 @@ put-block-requires c κs = search needs
 returns : tie.Need-returns
 returns c = c .put-block .ensures ∙ ap replyFor (c .before .before .before .sum-block .ensures)
 
-pub tranche-weights-block-sums-v8-spec : {M : Type 1} → statement M
-tranche-weights-block-sums-v8-spec = tie.close (tie.spec sum-block-requires put-block-requires returns)
+pub tranche-weights-block-sums-v9-spec : {M : Type 1} → statement M
+tranche-weights-block-sums-v9-spec = tie.close (tie.spec sum-block-requires put-block-requires returns)

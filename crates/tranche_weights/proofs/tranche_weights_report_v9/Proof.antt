@@ -35,8 +35,8 @@ returns-2 c =
     let size = written-length (fileText (start .args .file .now)) (start .args .text .now) _ _ (sym (c .before .written2 .given .1) ∙ call .report .ensures .0) (call .report .ensures .1 .1) in
     (size .0, (call .report .ensures .1 .0, size .1))
 
-pub tranche-weights-report-v8-spec : {M : Type 1} → statement M
-tranche-weights-report-v8-spec =
+pub tranche-weights-report-v9-spec : {M : Type 1} → statement M
+tranche-weights-report-v9-spec =
     tie.close
     (tie.spec
     report-requires

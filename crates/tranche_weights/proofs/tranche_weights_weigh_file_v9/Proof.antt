@@ -18,5 +18,5 @@ returns c =
     let call = c .before .before .before .before .before .before in
     (c .put-answer .ensures ∙ call .weigh-file .ensures .0, call .weigh-file .ensures .1)
 
-pub tranche-weights-weigh-file-v8-spec : {M : Type 1} → statement M
-tranche-weights-weigh-file-v8-spec = tie.close (tie.spec weigh-file-requires put-answer-requires same-length returns)
+pub tranche-weights-weigh-file-v9-spec : {M : Type 1} → statement M
+tranche-weights-weigh-file-v9-spec = tie.close (tie.spec weigh-file-requires put-answer-requires same-length returns)

@@ -18,5 +18,5 @@ returns c =
     let call = c .before .before .before .before .before .before in
     (c .put-answer .ensures ∙ call .weigh .ensures .0, call .weigh .ensures .1)
 
-pub tranche-weights-weigh-v8-spec : {M : Type 1} → statement M
-tranche-weights-weigh-v8-spec = tie.close (tie.spec weigh-requires put-answer-requires same-length returns)
+pub tranche-weights-weigh-v9-spec : {M : Type 1} → statement M
+tranche-weights-weigh-v9-spec = tie.close (tie.spec weigh-requires put-answer-requires same-length returns)
