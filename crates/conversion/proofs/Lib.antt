@@ -1,2 +1,4 @@
 pub mod RewrittenLaws
 pub mod ConversionSteps
+pub mod JudgedLaws
+pub mod ConversionLaws

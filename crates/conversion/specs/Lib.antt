@@ -1,2 +1,4 @@
 pub mod RewrittenSheet
 pub mod Conversion
+pub mod Judged
+pub mod ConvertedAnswer

@@ -27,7 +27,7 @@ marked true true x e = absurd (omega arith)
 marked true false x e = (e, λ _. refl)
 marked false c x e = (e, λ z. absurd (let y : _≡_ {A = ℕ} 0 1 = cc in omega arith))
 
-no-mark : (w : ℕ) → w ≤ 1 → eqb w 1 ≡ false → w ≡ 0
+pub no-mark : (w : ℕ) → w ≤ 1 → eqb w 1 ≡ false → w ≡ 0
 no-mark zero h e = refl
 no-mark (suc zero) h e = absurd (eqb-false 1 1 e refl)
 no-mark (suc (suc w)) h e = absurd (omega arith)

@@ -1,13 +1,13 @@
 -- A sheet whose list of facts is filled with zeros: each of its words stands where `moved` says, so it has the same facts, rows and tranches, and its words
 -- get the same verdict, at the place that has moved. No axioms.
-use mathlib.Core.List.{List, _++_}
+use mathlib.Core.List.{List, [], _∷_, _++_}
 use mathlib.Core.Logic.{inl}
 use mathlib.Core.Path.{_≡_, refl, sym, ap, _∙_}
 use Prim.Native.Nat.{ℕ, zero, suc, _+_, _-_, _≤_, _<_}
 use native.Mathlib.Nat.{add-zero, le-refl}
 use native.Mathlib.Omega.{arith}
 use lib.Dec.{ltb}
-use lib.ListN.{length, getD, take, drop, replicate, length-append, length-drop, length-replicate, getD-replicate, List·getD-append}
+use lib.ListN.{length, getD, take, drop, replicate, length-append, length-drop, length-replicate, getD-replicate, List·getD-append, take-append-drop}
 use lib.Seq.{length-take-le, getD-append-add, getD-take, getD-drop}
 use borrow.Author.Tests.{lt-ltb, le-ltb, ne-eqb}
 use Rattle.numbers.proofs.Tests.{within-is, same-ltb, same-eqb}
@@ -294,3 +294,13 @@ module _ (n : ℕ) (s : List ℕ) (c : CanFill n s) where
   pub words-moved : wordsVerdict f ≡ atMoved (moved n s) (wordsVerdict s)
   unfolding wordsVerdict
   words-moved = rw (judged-moved, follow-moved) (moved-or-else (moved n s) (judged s (needed s)) (wordsFollow s))
+
+-- ---- a list of facts that is as long already stays as it is
+
+pub filled-already : (s : List ℕ) → 0 < length s → filled (word s 0) s ≡ s
+unfolding filled poolAt
+filled-already [] some = absurd (omega arith)
+filled-already (w ∷ ws) some =
+    let none : w - w ≡ 0 = omega arith in
+    let past : 1 + w ≡ suc w = omega arith in
+    rw (none, past) (ap (λ (l : List ℕ). w ∷ l) (take-append-drop w ws))
