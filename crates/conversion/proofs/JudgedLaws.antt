@@ -8,6 +8,7 @@ use native.Mathlib.Omega.{arith}
 use lib.Dec.{ltb, eqb}
 use lib.ListN.{length}
 use borrow.Author.Tests.{ltb-true, ltb-false, eqb-true, eqb-false, lt-ltb, le-ltb, ne-eqb}
+use Rattle.limits.specs.SheetSize.{factsMost, wordLimit}
 use Rattle.judgement.specs.DealSheet.{inHundredths, rows, weightAt, weightWord}
 use Rattle.judgement.specs.Judged.{WordsGood}
 use Rattle.judgement.specs.Refusals.{refused, orElse, firstOf, wordsVerdict}
@@ -15,12 +16,13 @@ use Rattle.judgement.specs.declared.Refusal.{Refusal}
 use Rattle.judgement.specs.declared.Verdict.the-variants.{Sound, Faulty}
 use Rattle.judgement.proofs.FirstFault.{or-else-sound, or-else-faulty, first-of-sound, first-of-all, FirstFault, first-of-faulty, faulty-first-of}
 use Rattle.judgement.proofs.Judgement.{sound-if}
+use Rattle.judgement.proofs.FilledFacts.{filled-length, words-moved}
 use Rattle.judgement.proofs.JudgeSteps.{needed-sound}
-use Rattle.judgement.proofs.JudgedLaws.{sound-not-faulty, states, faulty-unless, faulty-when, sound-when, words-refused, refused-words, words-accepted, accepted-words}
-use Rattle.conversion.specs.RewrittenSheet.{rewritten}
+use Rattle.judgement.proofs.JudgedLaws.{sound-not-faulty, states, faulty-unless, faulty-when, sound-when, words-refused, refused-words, words-accepted, accepted-words, sheet-within}
+use Rattle.conversion.specs.RewrittenSheet.{allFacts, rewritten}
 use Rattle.conversion.specs.Conversion.{percentVerdict, weightsVerdict, outputVerdict, conversionVerdict}
 use Rattle.conversion.specs.Judged.{rewrittenLength, WholePercent, NotWholePercent, AllWhole, OutputShort, WhyNot, by-words, by-weight, by-room, Convertible}
-use Rattle.conversion.proofs.RewrittenLaws.{rewritten-length}
+use Rattle.conversion.proofs.RewrittenLaws.{can-fill, rewritten-length}
 
 -- ---- one weight, and all of them
 
@@ -129,3 +131,21 @@ refused-when s room r (by-room w) =
       lt-ltb room (length (rewritten s)) (omega (arith, w .short, rewritten-length s (needed-sound s words))),
     )
     (states 14 0 r (w .number-is) (w .place-is))
+
+-- ---- how much room is always enough
+
+-- no rewritten sheet is longer than the longest sheet
+pub rewritten-within : (s : List ℕ) → WordsGood s → rewrittenLength s ≤ wordLimit
+rewritten-within s words =
+    let c = can-fill s (needed-sound s (accepted-words s words)) in
+    let filled-words : wordsVerdict (allFacts s) ≡ Sound = words-moved factsMost s c ∙ rw (accepted-words s words) in
+    omega (arith, filled-length factsMost s c, sheet-within (allFacts s) (words-accepted (allFacts s) filled-words))
+
+-- so what is refused with that much room is refused with any, and in the same way
+pub refused-anyway : (s : List ℕ) (room : ℕ) (r : Refusal) → conversionVerdict s wordLimit ≡ Faulty r → conversionVerdict s room ≡ Faulty r
+refused-anyway s room r e = why (refused-means s wordLimit r e)
+  where
+    why : WhyNot s wordLimit r → conversionVerdict s room ≡ Faulty r
+    why (by-words w) = refused-when s room r (by-words w)
+    why (by-weight w) = refused-when s room r (by-weight w)
+    why (by-room w) = absurd (omega (arith, w .short, rewritten-within s (w .words)))

@@ -47,17 +47,6 @@ module _ (file : List ℕ) where
 
 -- ---- what `weigh_file` does
 
--- the words of a file of good length fit the words lent for them
-pub file-words-fit :
-    (file old : List ℕ) {after : List ℕ} → length old ≡ wordLimit → goodLength file ≡ true → after ≡ wordsAfter file old → length file / 8 ≤ length after
-file-words-fit file old room good is =
-    omega (
-      arith,
-      ap length (is ∙ load-accepts file old good),
-      length-append (fileWords file) (drop (length file / 8) old),
-      length-words-to file (length file / 8),
-    )
-
 -- a bad length is refused and leaves the results
 pub bad-length-refused :
     (file old : List ℕ) {a : Reply} → goodLength file ≡ false → a ≡ replyOf badLength →

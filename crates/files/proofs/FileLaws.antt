@@ -11,7 +11,7 @@ use borrow.Author.Tests.{le-leb, lt-leb, eq-eqb, ne-eqb}
 use lib.Dec.{eqb}
 use lib.ListN.{length, take, drop, getD, length-append, List·getD-append}
 use lib.Seq.{take-at, drop-at, drop-drop, getD-at, length-take-le, ext-getD}
-use Rattle.limits.specs.SheetSize.{byteLimit}
+use Rattle.limits.specs.SheetSize.{wordLimit, byteLimit}
 use Rattle.files.specs.FileForm.{goodLength, lowestFirst, wordAt, wordsTo, fileWords, wordsAfter, bytesOf, fileBytes, bytesFit, bytesAfter}
 
 -- ---- lengths
@@ -60,6 +60,17 @@ pub load-takes : (file old : List ℕ) → goodLength file ≡ true → take (le
 load-takes file old good =
     rw (load-accepts file old good)
     (take-at (fileWords file) (drop (length file / 8) old) (length file / 8) (length-words-to file (length file / 8)))
+
+-- the words of a file of good length fit the words lent for them
+pub file-words-fit :
+    (file old : List ℕ) {after : List ℕ} → length old ≡ wordLimit → goodLength file ≡ true → after ≡ wordsAfter file old → length file / 8 ≤ length after
+file-words-fit file old room good is =
+    omega (
+      arith,
+      ap length (is ∙ load-accepts file old good),
+      length-append (fileWords file) (drop (length file / 8) old),
+      length-words-to file (length file / 8),
+    )
 
 pub store-refuses : (ws old : List ℕ) → bytesFit ws old ≡ false → bytesAfter ws old ≡ old
 unfolding bytesAfter

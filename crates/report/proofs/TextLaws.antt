@@ -12,7 +12,7 @@ use Rattle.limits.specs.SheetSize.{lineSize, tranchesMost}
 use Rattle.files.specs.Decimal.{decimal}
 use Rattle.files.proofs.DecimalLaws.{length-decimal}
 use Rattle.files.proofs.Pieces.{sets-sets}
-use Rattle.report.specs.ReportText.{ascii, labelled, spaced, refusalLine, trancheLine, trancheLines, rwaColumn, capitalColumn, columnSum, dealText, numberRoom, spacedRoom, labelledRoom, textRoom}
+use Rattle.report.specs.ReportText.{ascii, labelled, spaced, refusalLine, trancheLine, trancheLines, rwaColumn, capitalColumn, columnSum, dealText, numberRoom, spacedRoom, labelledRoom, textRoom, refusalRoom}
 
 -- ---- pieces in a buffer
 
@@ -63,9 +63,12 @@ length-deal-text charge n ws l =
       length-labelled "total " " " (columnSum ws rwaColumn n) (columnSum ws capitalColumn n),
     ))
 
-pub length-refusal-line : (number place : ℕ) → length (refusalLine number place) ≤ textRoom
+pub refusal-line-fits : (number place : ℕ) → length (refusalLine number place) ≤ refusalRoom
 unfolding ascii
-length-refusal-line number place = omega (arith, length-labelled "refused " " at " number place)
+refusal-line-fits number place = omega (arith, length-labelled "refused " " at " number place)
+
+pub length-refusal-line : (number place : ℕ) → length (refusalLine number place) ≤ textRoom
+length-refusal-line number place = omega (arith, refusal-line-fits number place)
 
 -- ---- words after the lines
 

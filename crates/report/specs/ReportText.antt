@@ -102,6 +102,10 @@ labelledRoom labels = labels + digitsMost + numberRoom
 abbrev pub textRoom : ℕ
 textRoom = labelledRoom 17 + spacedRoom lineSize * tranchesMost + labelledRoom 7
 
+-- and no line of a refusal: its labels, "refused " and " at ", have 12
+abbrev pub refusalRoom : ℕ
+refusalRoom = labelledRoom 12
+
 -- ---- the text in a lent list of bytes
 
 -- the answer: the text's length, and whether there was room for it

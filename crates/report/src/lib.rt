@@ -3,7 +3,7 @@ ghost use mathlib.Core.Path.{_≡_};
 ghost use Prim.Native.Nat.{_≤_};
 ghost use lib.ListN.{length};
 ghost use lib.Seq.{sets};
-ghost use Rattle.report.specs.ReportText.{fileText, writtenFor, textAfter, textRoom};
+ghost use Rattle.report.specs.ReportText.{refusalLine, fileText, writtenFor, textAfter, textRoom, refusalRoom};
 ghost use Rattle.report.specs.PortfolioText.{fileTotals, totalsRoom};
 
 mod lines;
@@ -29,6 +29,9 @@ pub const TEXT_ROOM: usize = 17 + TWO_NUMBERS + LINE_ROOM * TRANCHES_MOST + 7 + 
 
 // Bytes that hold every text of totals: a line of ten numbers for each block, and a last line of seven, whose label has 6 bytes.
 pub const TOTALS_ROOM: usize = (DIGITS_MOST + 1) * 10 * BLOCKS_MOST + 6 + (DIGITS_MOST + 1) * 7;
+
+// Bytes that hold the line of every refusal, whose labels have 12.
+pub const REFUSAL_ROOM: usize = 12 + TWO_NUMBERS;
 
 // What became of a text: it was written whole, or there was no room for it and nothing was written. Both hold the text's length.
 pub enum Written {
@@ -83,5 +86,16 @@ pub fn portfolio_totals(file: &[u8], text: &mut [u8]) -> Written
 {
     let mut whole = [0u8; TOTALS_ROOM];
     let size = totals::compose(file, &mut whole);
+    copied(&whole[..size], text)
+}
+
+// The same for the line of a refusal, which a program prints where a file is not converted. There is room in a buffer of REFUSAL_ROOM bytes.
+pub fn refusal_line(number: u64, place: u64, text: &mut [u8]) -> Written
+    ensures { λ r. ⌜ r ≡ writtenFor (refusalLine number place) (now (text .entry)) ⌝ }
+    ensures { λ r. ⌜ now (text .exit) ≡ textAfter (refusalLine number place) (now (text .entry)) ⌝ }
+    ensures { λ r. ⌜ length (refusalLine number place) ≤ refusalRoom ⌝ }
+{
+    let mut whole = [0u8; REFUSAL_ROOM];
+    let size = text::put_labelled(b"refused ", number, b" at ", place, 0, &mut whole);
     copied(&whole[..size], text)
 }

@@ -5,7 +5,8 @@ use borrow.Author.Needs.{needs}
 use borrow.Author.Tests.{not-true, not-false}
 use lib.Seq.{length-take-le}
 use Rattle.files.specs.FileForm.{goodLength}
-use Rattle.deal_file.proofs.FileAnswerLaws.{file-words-fit, bad-length-refused, words-weighed}
+use Rattle.files.proofs.FileLaws.{file-words-fit}
+use Rattle.deal_file.proofs.FileAnswerLaws.{bad-length-refused, words-weighed}
 use Rattle.deal_file.proofs.weigh_file.Statement.{statement}
 use Rattle.deal_file.proofs.weigh_file.Tie as tie
 

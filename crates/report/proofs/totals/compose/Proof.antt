@@ -8,8 +8,7 @@ use borrow.Author.Tests.{not-true, not-false}
 use lib.ListN.{length, take}
 use lib.Seq.{length-take-le}
 use Rattle.files.specs.FileForm.{goodLength}
-use Rattle.files.proofs.FileLaws.{load-takes}
-use Rattle.deal_file.proofs.FileAnswerLaws.{file-words-fit}
+use Rattle.files.proofs.FileLaws.{load-takes, file-words-fit}
 use Rattle.report.specs.ReportText.{ascii, labelled}
 use Rattle.report.specs.PortfolioText.{fileTotals}
 use Rattle.report.proofs.ReportLaws.{written-as}
