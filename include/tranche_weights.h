@@ -4,7 +4,7 @@
  * The archive is made from the repository's root by `rt staticlib tranche_weights`, which proves it first and writes
  * target/staticlib/libtranche_weights.a. Link it as it is; it needs nothing but memcpy and memset of the C library.
  *
- * What holds of all four functions
+ * What holds of all five functions
  * - The caller owns all memory. Nothing is allocated, kept or freed, and no pointer outlives the call.
  * - There is no state: calls that write to different memory may run at the same time on different threads, also on the same sheet.
  * - Whatever the words or bytes are, the call ends and gives the answer described here; no input is undefined.
@@ -12,19 +12,20 @@
  * - What the caller owes: any other pointer is not null and is aligned for its type, as many words or bytes as its length says stay readable (or writable, where the
  *   pointer is not const) until the call returns, and what the function writes overlaps nothing else that is passed. place, count, charge and sums are never null, and
  *   have the words that are stated below.
- * - It also owes the stack: 16 KB are enough for tranche_weights_weigh and tranche_weights_block_sums, and 64 KB for the two that take a file (tests/calls.c runs them
- *   on threads with no more).
- * - What is proved is the archive's four functions, whose names end in the version; the functions here only hand on to them. That a caller keeps what it owes, no
+ * - It also owes the stack: 16 KB are enough for tranche_weights_weigh, tranche_weights_block_sums and tranche_weights_convert, and 64 KB for the two that take a file
+ *   (tests/calls.c runs them on threads with no more).
+ * - What is proved is the archive's five functions, whose names end in the version; the functions here only hand on to them. That a caller keeps what it owes, no
  *   proof can see.
  *
  * Versions
  * - Within a version of the interface no name or sentence here changes its meaning (names may be added), and every sheet keeps its answer.
  * - A later version may add facts, sections, refusals and approaches, and words at the end of a line, and so change the limits and lengths below; it may no longer
  *   give a refusal that is listed here, and it may give a sheet another weight where the rules have changed. A refusal's number, an approach's word and the place
- *   of a word in the line and of a sum keep their meaning in all versions, but for the unit of weighted exposure, which may become finer than percent; and a number
- *   that is no longer given is not used again. So a program that goes by the names below, and takes a refusal or an approach that it does not know for what it is,
- *   need only be compiled anew; one that reads weighted exposure must see to its unit too. The name of a refusal that is no longer given goes with it; a program
- *   that has it must leave it out.
+ *   of a word in the line and of a sum keep their meaning in all versions, and so do the units of lines and sums from this version on; and a number that is no longer
+ *   given is not used again. So a program that goes by the names below, and takes a refusal or an approach that it does not know for what it is, need only be compiled
+ *   anew. The name of a refusal that is no longer given goes with it; a program that has it must leave it out.
+ * - In this version weighted exposure is in currency units times hundredths of a percent, whatever the unit of the sheet; up to version 8 it was in currency units times
+ *   percent, a hundredth of what it is now. A program that was written for one of those and reads it must see to that.
  * - Each function's name in the archive ends in the version. A header and an archive of two versions do not link: the linker names the function that is missing.
  */
 #ifndef TRANCHE_WEIGHTS_H
@@ -38,13 +39,14 @@ extern "C" {
 #endif
 
 /* The version of the interface. */
-#define TRANCHE_WEIGHTS_INTERFACE 8
+#define TRANCHE_WEIGHTS_INTERFACE 9
 
 /*
  * The parts of a sheet: the fewest and the most facts, of one word each; the most pool rows and the words of one; the most tranches and the words of one; the words of
  * the IRB section. The facts in their order: pool kind, re-securitisation, due diligence held, pool composition known, STC mark (a simple, transparent and comparable
- * deal), reporting date. A fact that the sheet leaves out at the end of its list counts as 0. Where the reporting date is 0, a tranche's maturity is a number of
- * months; else both are dates, written year * 10000 + month * 100 + day, and the maturity is the later one.
+ * deal), reporting date, unit of the risk weights. A fact that the sheet leaves out at the end of its list counts as 0. Where the reporting date is 0, a tranche's
+ * maturity is a number of months; else both are dates, written year * 10000 + month * 100 + day, and the maturity is the later one. Where the unit is 0, the risk
+ * weights of the pool rows are in whole percent, up to 1250; where it is 1, they are in hundredths of a percent, up to 125000, so that 3750 is 37.5%.
  *
  * The pool kind is 0 where all loans are under the standardised approach (SA), 1 where all have a charge under the internal ratings-based approach (IRB), and 2 where
  * the pool is mixed. With 1 and 2, and only there, the IRB section follows the tranches; its count is always 1. Its words in their order: IRB charge and average loss
@@ -53,7 +55,7 @@ extern "C" {
  * re-securitisation, where the share is at least 950000; any other deal is weighed as with pool kind 0. The README says what each word of a sheet may be.
  */
 #define TRANCHE_WEIGHTS_FEWEST_FACTS 4
-#define TRANCHE_WEIGHTS_MOST_FACTS 6
+#define TRANCHE_WEIGHTS_MOST_FACTS 7
 #define TRANCHE_WEIGHTS_MOST_ROWS 1000
 #define TRANCHE_WEIGHTS_ROW_WORDS 4
 #define TRANCHE_WEIGHTS_MOST_TRANCHES 32
@@ -98,16 +100,16 @@ enum {
 #define TRANCHE_WEIGHTS_MOST_BLOCKS ((TRANCHE_WEIGHTS_MOST_ROWS + TRANCHE_WEIGHTS_BLOCK_ROWS - 1) / TRANCHE_WEIGHTS_BLOCK_ROWS)
 
 /*
- * The places of the words in a block's sums. Every status but 2 is known; a row of status 1 is delinquent. Weighted exposure is exposure times risk weight in percent: an
- * exposure of 200 at 50% adds 10000. Added up over all blocks, each sum is that of the pool.
+ * The places of the words in a block's sums. Every status but 2 is known; a row of status 1 is delinquent. Weighted exposure is exposure times risk weight in hundredths
+ * of a percent, whatever the unit of the sheet: an exposure of 200 at 37.5% adds 750000. Added up over all blocks, each sum is that of the pool.
  */
 enum {
     TRANCHE_WEIGHTS_SUM_EXPOSURE = 0,                /* exposure of all rows, in whole currency units */
     TRANCHE_WEIGHTS_SUM_NOMINAL = 1,                 /* nominal of all rows, in whole currency units */
-    TRANCHE_WEIGHTS_SUM_WEIGHTED_EXPOSURE = 2,       /* weighted exposure of all rows, in currency units times percent */
+    TRANCHE_WEIGHTS_SUM_WEIGHTED_EXPOSURE = 2,       /* weighted exposure of all rows, in currency units times hundredths of a percent */
     TRANCHE_WEIGHTS_SUM_KNOWN_EXPOSURE = 3,          /* exposure of the rows with known status, in whole currency units */
     TRANCHE_WEIGHTS_SUM_KNOWN_NOMINAL = 4,           /* nominal of the rows with known status, in whole currency units */
-    TRANCHE_WEIGHTS_SUM_KNOWN_WEIGHTED_EXPOSURE = 5, /* weighted exposure of the rows with known status, in currency units times percent */
+    TRANCHE_WEIGHTS_SUM_KNOWN_WEIGHTED_EXPOSURE = 5, /* weighted exposure of the rows with known status, in the same unit */
     TRANCHE_WEIGHTS_SUM_LATE_NOMINAL = 6             /* nominal of the delinquent rows, in whole currency units */
 };
 
@@ -138,32 +140,34 @@ enum {
 /* The numbers that a call returns; 12 is no longer given. The README says of each refusal what to do. */
 enum {
     TRANCHE_WEIGHTS_ACCEPTED = 0,
-    TRANCHE_WEIGHTS_REFUSED_MISSING_WORD = 1,   /* the sheet ends too early; the place is its length */
-    TRANCHE_WEIGHTS_REFUSED_COUNT = 2,          /* a count is outside its limits */
-    TRANCHE_WEIGHTS_REFUSED_WORDS_FOLLOW = 3,   /* words follow the last section */
-    TRANCHE_WEIGHTS_REFUSED_FACT = 4,           /* a fact is none of its codes */
-    TRANCHE_WEIGHTS_REFUSED_POOL_AMOUNT = 5,    /* an exposure or nominal amount is 0 or above 10^10 */
-    TRANCHE_WEIGHTS_REFUSED_RISK_WEIGHT = 6,    /* a risk weight is above 1250 */
-    TRANCHE_WEIGHTS_REFUSED_STATUS = 7,         /* a status that the deal can't have */
-    TRANCHE_WEIGHTS_REFUSED_TRANCHE_AMOUNT = 8, /* a tranche amount is 0 or above 10^13, or more is held than there is */
-    TRANCHE_WEIGHTS_REFUSED_CLASS = 9,          /* a class out of order */
-    TRANCHE_WEIGHTS_REFUSED_MATURITY = 10,      /* a maturity outside 1 to 1200 months */
-    TRANCHE_WEIGHTS_REFUSED_RATING = 11,        /* a rating that is not listed */
-    TRANCHE_WEIGHTS_REFUSED_THIN_TRANCHE = 13,  /* a tranche too thin for the formula; the place of its amount */
-    TRANCHE_WEIGHTS_REFUSED_ROOM = 14,          /* too few result words; place 0 */
-    TRANCHE_WEIGHTS_REFUSED_FILE_LENGTH = 15,   /* a file's length is no multiple of TRANCHE_WEIGHTS_BYTES_PER_WORD or above TRANCHE_WEIGHTS_FILE_BYTES; place 0 */
-    TRANCHE_WEIGHTS_REFUSED_STC_MARK = 16,      /* an STC mark on a re-securitisation */
-    TRANCHE_WEIGHTS_REFUSED_DATE = 17,          /* with a reporting date: no day of the years 2000 to 2199, or a maturity not after the reporting date */
-    TRANCHE_WEIGHTS_REFUSED_IRB_FIGURE = 18     /* a figure of the IRB section is outside its limits */
+    TRANCHE_WEIGHTS_REFUSED_MISSING_WORD = 1,      /* the sheet ends too early; the place is its length */
+    TRANCHE_WEIGHTS_REFUSED_COUNT = 2,             /* a count is outside its limits */
+    TRANCHE_WEIGHTS_REFUSED_WORDS_FOLLOW = 3,      /* words follow the last section */
+    TRANCHE_WEIGHTS_REFUSED_FACT = 4,              /* a fact is none of its codes */
+    TRANCHE_WEIGHTS_REFUSED_POOL_AMOUNT = 5,       /* an exposure or nominal amount is 0 or above 10^10 */
+    TRANCHE_WEIGHTS_REFUSED_RISK_WEIGHT = 6,       /* a risk weight is above 1250%, in the sheet's unit */
+    TRANCHE_WEIGHTS_REFUSED_STATUS = 7,            /* a status that the deal can't have */
+    TRANCHE_WEIGHTS_REFUSED_TRANCHE_AMOUNT = 8,    /* a tranche amount is 0 or above 10^13, or more is held than there is */
+    TRANCHE_WEIGHTS_REFUSED_CLASS = 9,             /* a class out of order */
+    TRANCHE_WEIGHTS_REFUSED_MATURITY = 10,         /* a maturity outside 1 to 1200 months */
+    TRANCHE_WEIGHTS_REFUSED_RATING = 11,           /* a rating that is not listed */
+    TRANCHE_WEIGHTS_REFUSED_THIN_TRANCHE = 13,     /* a tranche too thin for the formula; the place of its amount */
+    TRANCHE_WEIGHTS_REFUSED_ROOM = 14,             /* too few words for the lines or for the converted sheet; place 0 */
+    TRANCHE_WEIGHTS_REFUSED_FILE_LENGTH = 15,      /* a file's length is no multiple of TRANCHE_WEIGHTS_BYTES_PER_WORD or above TRANCHE_WEIGHTS_FILE_BYTES; place 0 */
+    TRANCHE_WEIGHTS_REFUSED_STC_MARK = 16,         /* an STC mark on a re-securitisation */
+    TRANCHE_WEIGHTS_REFUSED_DATE = 17,             /* with a reporting date: no day of the years 2000 to 2199, or a maturity not after the reporting date */
+    TRANCHE_WEIGHTS_REFUSED_IRB_FIGURE = 18,       /* a figure of the IRB section is outside its limits */
+    TRANCHE_WEIGHTS_REFUSED_NOT_WHOLE_PERCENT = 19 /* in a conversion to whole percent: a risk weight that is no multiple of 100 hundredths */
 };
 
 /* The functions as the archive names them. They take what the functions below take, and no null pointer. */
-uint64_t tranche_weights_weigh_v8(const uint64_t *sheet, size_t words, uint64_t *results, size_t room, uint64_t *place, uint64_t *count,
+uint64_t tranche_weights_weigh_v9(const uint64_t *sheet, size_t words, uint64_t *results, size_t room, uint64_t *place, uint64_t *count,
                                   uint64_t *charge);
-uint64_t tranche_weights_weigh_file_v8(const uint8_t *file, size_t size, uint64_t *results, size_t room, uint64_t *place, uint64_t *count,
+uint64_t tranche_weights_weigh_file_v9(const uint8_t *file, size_t size, uint64_t *results, size_t room, uint64_t *place, uint64_t *count,
                                        uint64_t *charge);
-uint64_t tranche_weights_report_v8(const uint8_t *file, size_t size, uint8_t *text, size_t room);
-uint64_t tranche_weights_block_sums_v8(const uint64_t *sheet, size_t words, uint64_t block, uint64_t *place, uint64_t *sums);
+uint64_t tranche_weights_report_v9(const uint8_t *file, size_t size, uint8_t *text, size_t room);
+uint64_t tranche_weights_block_sums_v9(const uint64_t *sheet, size_t words, uint64_t block, uint64_t *place, uint64_t *sums);
+uint64_t tranche_weights_convert_v9(const uint64_t *sheet, size_t words, uint64_t *output, size_t room, uint64_t *place, uint64_t *count);
 
 /*
  * Weighs every tranche of a deal sheet.
@@ -174,14 +178,14 @@ uint64_t tranche_weights_block_sums_v8(const uint64_t *sheet, size_t words, uint
  *
  * Returns TRANCHE_WEIGHTS_ACCEPTED where the sheet is accepted: *count tranches, their lines at the start of results in the sheet's order, TRANCHE_WEIGHTS_LINE_WORDS
  * words each, later words as they were; *charge is the pool charge in millionths, under SEC-IRBA the mixed one; *place is 0.
- * Returns the refusal's number, any but TRANCHE_WEIGHTS_REFUSED_FILE_LENGTH, where it is refused: *place is the place of the faulty word, counted from 0 (0 for
- * TRANCHE_WEIGHTS_REFUSED_ROOM), *count and *charge are 0, and every word of results is as it was.
+ * Returns the refusal's number, any but TRANCHE_WEIGHTS_REFUSED_FILE_LENGTH and TRANCHE_WEIGHTS_REFUSED_NOT_WHOLE_PERCENT, where it is refused: *place is the place of
+ * the faulty word, counted from 0 (0 for TRANCHE_WEIGHTS_REFUSED_ROOM), *count and *charge are 0, and every word of results is as it was.
  */
 static inline uint64_t tranche_weights_weigh(const uint64_t *sheet, size_t words, uint64_t *results, size_t room, uint64_t *place,
                                              uint64_t *count, uint64_t *charge)
 {
     uint64_t nothing = 0;
-    return tranche_weights_weigh_v8(words ? sheet : &nothing, words, room ? results : &nothing, room, place, count, charge);
+    return tranche_weights_weigh_v9(words ? sheet : &nothing, words, room ? results : &nothing, room, place, count, charge);
 }
 
 /*
@@ -197,7 +201,7 @@ static inline uint64_t tranche_weights_weigh_file(const uint8_t *file, size_t si
 {
     uint8_t no_byte = 0;
     uint64_t nothing = 0;
-    return tranche_weights_weigh_file_v8(size ? file : &no_byte, size, room ? results : &nothing, room, place, count, charge);
+    return tranche_weights_weigh_file_v9(size ? file : &no_byte, size, room ? results : &nothing, room, place, count, charge);
 }
 
 /*
@@ -212,7 +216,7 @@ static inline uint64_t tranche_weights_weigh_file(const uint8_t *file, size_t si
 static inline uint64_t tranche_weights_report(const uint8_t *file, size_t size, uint8_t *text, size_t room)
 {
     uint8_t nothing = 0;
-    return tranche_weights_report_v8(size ? file : &nothing, size, room ? text : &nothing, room);
+    return tranche_weights_report_v9(size ? file : &nothing, size, room ? text : &nothing, room);
 }
 
 /*
@@ -231,7 +235,29 @@ static inline uint64_t tranche_weights_report(const uint8_t *file, size_t size, 
 static inline uint64_t tranche_weights_block_sums(const uint64_t *sheet, size_t words, uint64_t block, uint64_t *place, uint64_t *sums)
 {
     uint64_t nothing = 0;
-    return tranche_weights_block_sums_v8(words ? sheet : &nothing, words, block, place, sums);
+    return tranche_weights_block_sums_v9(words ? sheet : &nothing, words, block, place, sums);
+}
+
+/*
+ * Rewrites a deal sheet in the other unit of the risk weights: one in whole percent in hundredths of a percent, one in hundredths in whole percent. The list of facts is
+ * filled with zeros to TRANCHE_WEIGHTS_MOST_FACTS, the unit is changed, each risk weight of a pool row is multiplied or divided by 100, and all else is as it stands, the
+ * IRB average weight among it. tranche_weights_weigh gives the rewritten sheet the charge and the lines of the given one; where that one has a tranche that is too thin
+ * for the formula, so has the rewritten one.
+ *
+ * sheet, words     the sheet and how many words it has; any words are allowed
+ * output, room     where the rewritten sheet goes, and how many words may be written there; TRANCHE_WEIGHTS_SHEET_WORDS are always enough
+ * place, count     one word each, written in every case
+ *
+ * Returns TRANCHE_WEIGHTS_ACCEPTED where the sheet gets none of the refusals below: the rewritten sheet stands at the start of output, later words as they were; *count
+ * is how many words it has, those of the sheet and one for each fact that was filled in; *place is 0.
+ * Returns the refusal's number where it gets one: *place is the place of the faulty word in the sheet as given, counted from 0, *count is 0, and every word of output is
+ * as it was. The refusals are those of tranche_weights_block_sums; after them TRANCHE_WEIGHTS_REFUSED_NOT_WHOLE_PERCENT, at the first such risk weight; and last
+ * TRANCHE_WEIGHTS_REFUSED_ROOM, with *place 0, where room is less than the words of the rewritten sheet. TRANCHE_WEIGHTS_REFUSED_THIN_TRANCHE is not judged here.
+ */
+static inline uint64_t tranche_weights_convert(const uint64_t *sheet, size_t words, uint64_t *output, size_t room, uint64_t *place, uint64_t *count)
+{
+    uint64_t nothing = 0;
+    return tranche_weights_convert_v9(words ? sheet : &nothing, words, room ? output : &nothing, room, place, count);
 }
 
 #ifdef __cplusplus

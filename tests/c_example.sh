@@ -26,7 +26,7 @@ held() {
     echo "$1: ok"
 }
 
-examples="ordinary stc irba dated resecuritisation refused"
+examples="ordinary stc irba dated hundredths resecuritisation refused"
 for name in $examples; do
     target/bin/sheet_words "examples/$name.txt" > "$room/$name"
 done

@@ -1,8 +1,9 @@
 /*
  * Calls the functions of the header as a program in C does, on threads with small stacks, and prints the report on a file's bytes. Held here: lent memory that must
  * be as it was, the answer where the room is one byte or word short and where it is just enough, the four numbers of an accepted and of a refused sheet and file,
- * the least weight, the STC mark, the reporting date, the IRB section, the sums of blocks, pools of two blocks and of the most rows, and a null pointer for every
- * list of length 0. Stops with status 1 and one line where something is not what is due. tests/c_example.sh runs it.
+ * the least weight, the STC mark, the reporting date, the unit of the risk weights, the IRB section, the sums of blocks, pools of two blocks and of the most rows,
+ * sheets in the other unit, up to the longest, and a null pointer for every list of length 0. Stops with status 1 and one line where something is not what is due.
+ * tests/c_example.sh runs it.
  */
 #include <pthread.h>
 #include <stdio.h>
@@ -73,15 +74,30 @@ static const uint64_t irb_sheet[WORDS + 1 + TRANCHE_WEIGHTS_IRB_WORDS] = {4, 2, 
 #define IRB_WEIGHT 3903
 #define IRB_LEAST_WEIGHT 3902
 
+/*
+ * The first sheet with all facts, in hundredths of a percent and in whole percent; how many facts those are more; the places of the unit and of the risk weight, and
+ * that of the risk weight in a row. With its loan at 37.5% the charge is 3%, and the line is that of the first sheet; at 12.34% the charge is 0.9872%, and the 19% of AAA are
+ * lowered to the cap, 12.34%.
+ */
+#define FURTHER_FACTS (TRANCHE_WEIGHTS_MOST_FACTS - TRANCHE_WEIGHTS_FEWEST_FACTS)
+#define ALL_FACTS_WORDS (WORDS + FURTHER_FACTS)
+static const uint64_t hundredths_sheet[ALL_FACTS_WORDS] = {7, 0, 0, 1, 1, 0, 0, 1, 1, 100, 100, 10000, 0, 1, 80, 1, 60, 80, 1, 0, 0};
+static const uint64_t percent_sheet[ALL_FACTS_WORDS] = {7, 0, 0, 1, 1, 0, 0, 0, 1, 100, 100, 100, 0, 1, 80, 1, 60, 80, 1, 0, 0};
+#define UNIT_PLACE 7
+#define RISK_WEIGHT_PLACE 11
+#define RISK_WEIGHT_PLACE_IN_ROW 2
+#define CHARGE_AT_3750 30000
+#define CHARGE_AT_1234 9872
+
 /* A sheet with rows of status 0, 1 and 2, the sums of its one block, and the place of the last status. */
 static const uint64_t rows_sheet[] = {4, 0, 0, 1, 1, 3, 100, 120, 100, 0, 60, 70, 50, 1, 40, 45, 20, 2, 1, 80, 1, 60, 80, 1, 0, 0};
 static const uint64_t rows_sums[TRANCHE_WEIGHTS_SUM_WORDS] = {
     [TRANCHE_WEIGHTS_SUM_EXPOSURE] = 200,
     [TRANCHE_WEIGHTS_SUM_NOMINAL] = 235,
-    [TRANCHE_WEIGHTS_SUM_WEIGHTED_EXPOSURE] = 13800,
+    [TRANCHE_WEIGHTS_SUM_WEIGHTED_EXPOSURE] = 1380000,
     [TRANCHE_WEIGHTS_SUM_KNOWN_EXPOSURE] = 160,
     [TRANCHE_WEIGHTS_SUM_KNOWN_NOMINAL] = 190,
-    [TRANCHE_WEIGHTS_SUM_KNOWN_WEIGHTED_EXPOSURE] = 13000,
+    [TRANCHE_WEIGHTS_SUM_KNOWN_WEIGHTED_EXPOSURE] = 1300000,
     [TRANCHE_WEIGHTS_SUM_LATE_NOMINAL] = 70,
 };
 #define ROWS_SHEET_WORDS (sizeof rows_sheet / sizeof *rows_sheet)
@@ -89,7 +105,7 @@ static const uint64_t rows_sums[TRANCHE_WEIGHTS_SUM_WORDS] = {
 
 /* A re-securitisation, whose rows have status 3, and the sums of its block. */
 static const uint64_t resecuritisation[WORDS] = {4, 0, 1, 1, 1, 1, 100, 120, 50, 3, 1, 80, 1, 60, 80, 1, 0, 0};
-static const uint64_t resecuritisation_sums[TRANCHE_WEIGHTS_SUM_WORDS] = {100, 120, 5000, 100, 120, 5000, 0};
+static const uint64_t resecuritisation_sums[TRANCHE_WEIGHTS_SUM_WORDS] = {100, 120, 500000, 100, 120, 500000, 0};
 
 /*
  * A sheet with one row more than a block has: the first is delinquent, the last, alone in the second block, is not known. The sums of both blocks. main puts the sheet
@@ -98,17 +114,17 @@ static const uint64_t resecuritisation_sums[TRANCHE_WEIGHTS_SUM_WORDS] = {100, 1
 static const uint64_t first_row[TRANCHE_WEIGHTS_ROW_WORDS] = {100, 120, 50, 1};
 static const uint64_t next_row[TRANCHE_WEIGHTS_ROW_WORDS] = {100, 120, 50, 0};
 static const uint64_t last_row[TRANCHE_WEIGHTS_ROW_WORDS] = {7, 8, 30, 2};
-static const uint64_t first_block[TRANCHE_WEIGHTS_SUM_WORDS] = {5000, 6000, 250000, 5000, 6000, 250000, 120};
-static const uint64_t last_block[TRANCHE_WEIGHTS_SUM_WORDS] = {7, 8, 210, 0, 0, 0, 0};
+static const uint64_t first_block[TRANCHE_WEIGHTS_SUM_WORDS] = {5000, 6000, 25000000, 5000, 6000, 25000000, 120};
+static const uint64_t last_block[TRANCHE_WEIGHTS_SUM_WORDS] = {7, 8, 21000, 0, 0, 0, 0};
 #define ROW_COUNT_PLACE 5
 #define WORDS_WITH_ROWS(rows) (WORDS + ((rows) - 1) * TRANCHE_WEIGHTS_ROW_WORDS)
 #define TWO_BLOCKS_WORDS WORDS_WITH_ROWS(TRANCHE_WEIGHTS_BLOCK_ROWS + 1)
 static uint64_t two_blocks[TWO_BLOCKS_WORDS];
 
 /*
- * Its charge and line. Over the rows with known status the base charge is 800 * 250000 / 5000 = 40000 and the late share 120 / 6000, 20000 millionths, which gives
+ * Its charge and line. Over the rows with known status the base charge is 8 * 25000000 / 5000 = 40000 and the late share 120 / 6000, 20000 millionths, which gives
  * 0.98 * 40000 + 0.02 * 500000 = 49200; with 7 of 5007 not known (5000 * 49200 + 7 * 1000000) / 5007 = 50529.3, rounded up. The attachment point is 5928 / 6008 =
- * 0.9866844, rounded down. The rest is as in the first line: AAA has 19% there, above the floor of 15% and below the cap of 250210 / 5007 = 49.97%.
+ * 0.9866844, rounded down. The rest is as in the first line: AAA has 19% there, above the floor of 15% and below the cap of 25021000 / 5007 = 4997.2 hundredths.
  */
 #define TWO_BLOCKS_CHARGE 50530
 static const uint64_t two_blocks_line[TRANCHE_WEIGHTS_LINE_WORDS + 1] = {TRANCHE_WEIGHTS_BY_SEC_ERBA, 986684, 1000000, 1900, 16, 2, 1900, WORD_BEFORE};
@@ -132,9 +148,17 @@ static const uint64_t most_rows_line[TRANCHE_WEIGHTS_LINE_WORDS + 1] = {TRANCHE_
  * 100000, above the charge of 80000. The place of its amount, and the sums of the block.
  */
 static const uint64_t thin_sheet[] = {4, 0, 0, 1, 1, 1, 6000000, 10000000, 100, 0, 2, 8999991, 1, 60, 0, 1, 0, 0, 5, 2, 60, 5, 0, 0, 0};
-static const uint64_t thin_sums[TRANCHE_WEIGHTS_SUM_WORDS] = {6000000, 10000000, 600000000, 6000000, 10000000, 600000000, 0};
+static const uint64_t thin_sums[TRANCHE_WEIGHTS_SUM_WORDS] = {6000000, 10000000, 60000000000, 6000000, 10000000, 60000000000, 0};
 #define THIN_SHEET_WORDS (sizeof thin_sheet / sizeof *thin_sheet)
 #define THIN_PLACE 18
+
+/*
+ * A sheet of the fewest facts with all else at its most: 1,000 rows, 32 tranches and the IRB section. With all facts it has the most words of a sheet. main puts it
+ * together from the rows above, the tranche of the first sheet and the section of the mixed pool. And where converted sheets go.
+ */
+#define LONGEST_WORDS (TRANCHE_WEIGHTS_SHEET_WORDS - FURTHER_FACTS)
+static uint64_t longest[LONGEST_WORDS];
+static uint64_t output[TRANCHE_WEIGHTS_SHEET_WORDS + 1];
 
 /* The sums past the last block and of a refused sheet. */
 static const uint64_t no_sums[TRANCHE_WEIGHTS_SUM_WORDS];
@@ -299,6 +323,26 @@ static void *try_least_weight(void *unused)
     return unused;
 }
 
+/* The same on the sheet in hundredths of a percent. */
+static struct given weigh_in_hundredths(size_t at, uint64_t word)
+{
+    return weigh_with(hundredths_sheet, ALL_FACTS_WORDS, at, word);
+}
+
+/* The unit of the risk weights: the line is that of the sheet in whole percent; weights that are no whole percent; a weight above 1250%, and a unit that there is not. */
+static void *try_unit(void *unused)
+{
+    accepted(weigh(hundredths_sheet, ALL_FACTS_WORDS, TRANCHE_WEIGHTS_LINE_WORDS), "a sheet in hundredths");
+    accepted(weigh(percent_sheet, ALL_FACTS_WORDS, TRANCHE_WEIGHTS_LINE_WORDS), "a sheet in whole percent with all facts");
+    weighed(weigh_in_hundredths(RISK_WEIGHT_PLACE, 3750), CHARGE_AT_3750, lines, "a risk weight of 37.5%");
+    struct given g = weigh_in_hundredths(RISK_WEIGHT_PLACE, 1234);
+    due(g.number == TRANCHE_WEIGHTS_ACCEPTED && g.charge == CHARGE_AT_1234 && g.results[TRANCHE_WEIGHTS_WORD_WEIGHT] == 1234, "a cap of 12.34%");
+    refused(weigh_in_hundredths(RISK_WEIGHT_PLACE, 125001), TRANCHE_WEIGHTS_REFUSED_RISK_WEIGHT, RISK_WEIGHT_PLACE, "a risk weight above 1250%");
+    refused(weigh_in_hundredths(UNIT_PLACE, 2), TRANCHE_WEIGHTS_REFUSED_FACT, UNIT_PLACE, "a unit that there is not");
+    refused(weigh_in_hundredths(UNIT_PLACE, 0), TRANCHE_WEIGHTS_REFUSED_RISK_WEIGHT, RISK_WEIGHT_PLACE, "hundredths in a sheet in whole percent");
+    return unused;
+}
+
 /* The IRB section: the line is that of SEC-IRBA, with a share below 95% that of the SA pool; a wrong count, figures outside their limits, a section too many, none. */
 static void *try_irb(void *unused)
 {
@@ -373,7 +417,7 @@ static void *try_most_rows(void *unused)
 {
     weighed(weigh(most_rows, MOST_ROWS_WORDS, TRANCHE_WEIGHTS_LINE_WORDS), MOST_ROWS_CHARGE, most_rows_line, "a pool of the most rows");
     for (uint64_t n = 1; n <= TRANCHE_WEIGHTS_MOST_BLOCKS; n++) {
-        const uint64_t sums[TRANCHE_WEIGHTS_SUM_WORDS] = {50 * n, 100 * n, 50 * n * n, 49 * n, 98 * n, 49 * n * n, 2 * n};
+        const uint64_t sums[TRANCHE_WEIGHTS_SUM_WORDS] = {50 * n, 100 * n, 5000 * n * n, 49 * n, 98 * n, 4900 * n * n, 2 * n};
         summed(most_rows, MOST_ROWS_WORDS, n - 1, sums, "the sums of a block of the most rows");
     }
     nothing_past(most_rows, MOST_ROWS_WORDS, TRANCHE_WEIGHTS_MOST_BLOCKS, "the sums past the most blocks");
@@ -399,6 +443,103 @@ static void *try_refused_blocks(void *unused)
     blocks_refused(words, ROWS_SHEET_WORDS, TRANCHE_WEIGHTS_REFUSED_RATING, ROWS_SHEET_WORDS - 1, "the sums with a rating that is not listed");
     words[LAST_STATUS_PLACE] = 3;
     blocks_refused(words, ROWS_SHEET_WORDS + 1, TRANCHE_WEIGHTS_REFUSED_STATUS, LAST_STATUS_PLACE, "the sums with three faults");
+    return unused;
+}
+
+/* What a conversion gave, beside its output. */
+struct converted {
+    uint64_t number, place, count;
+};
+
+/* Sets every word of the output to what it is before a call. */
+static void clear_output(void)
+{
+    for (size_t i = 0; i <= TRANCHE_WEIGHTS_SHEET_WORDS; i++)
+        output[i] = WORD_BEFORE;
+}
+
+/* Whether the words of the output are as they were from a place on. */
+static int output_untouched(size_t from)
+{
+    for (size_t i = from; i <= TRANCHE_WEIGHTS_SHEET_WORDS; i++)
+        if (output[i] != WORD_BEFORE)
+            return 0;
+    return 1;
+}
+
+/* One conversion of so many words of a sheet, with so much room. */
+static struct converted convert(const uint64_t *from, size_t words, size_t room)
+{
+    struct converted g = {.number = 9, .place = 9, .count = 9};
+    clear_output();
+    g.number = tranche_weights_convert(from, words, output, room, &g.place, &g.count);
+    return g;
+}
+
+/* Holds a sheet that is converted to these words: with more room than they need and with just enough, and later words as they were; with a word too little, nothing. */
+static void converts(const uint64_t *from, size_t words, const uint64_t *to, size_t count, const char *what)
+{
+    for (size_t more = 0; more < 2; more++) {
+        struct converted g = convert(from, words, more ? TRANCHE_WEIGHTS_SHEET_WORDS : count);
+        due(g.number == TRANCHE_WEIGHTS_ACCEPTED && g.place == 0 && g.count == count, what);
+        due(memcmp(output, to, count * sizeof *to) == 0 && output_untouched(count), what);
+    }
+    struct converted g = convert(from, words, count - 1);
+    due(g.number == TRANCHE_WEIGHTS_REFUSED_ROOM && g.place == 0 && g.count == 0 && output_untouched(0), what);
+}
+
+/* Holds the refusal of a sheet with no room at all, which comes last, and that nothing is written where there is room. */
+static void not_converted(const uint64_t *from, size_t words, uint64_t number, uint64_t place, const char *what)
+{
+    for (size_t more = 0; more < 2; more++) {
+        struct converted g = convert(from, words, more ? TRANCHE_WEIGHTS_SHEET_WORDS : 0);
+        due(g.number == number && g.place == place && g.count == 0 && output_untouched(0), what);
+    }
+}
+
+/* Conversions: a sheet of four facts, one in hundredths, one in whole percent with all facts; and one with a tranche that is too thin, which is not judged. */
+static void *try_convert(void *unused)
+{
+    converts(sheet, WORDS, hundredths_sheet, ALL_FACTS_WORDS, "a sheet in whole percent");
+    converts(hundredths_sheet, ALL_FACTS_WORDS, percent_sheet, ALL_FACTS_WORDS, "a sheet in hundredths to convert");
+    converts(percent_sheet, ALL_FACTS_WORDS, hundredths_sheet, ALL_FACTS_WORDS, "a sheet of all facts in whole percent");
+    struct converted g = convert(thin_sheet, THIN_SHEET_WORDS, TRANCHE_WEIGHTS_SHEET_WORDS);
+    due(g.number == TRANCHE_WEIGHTS_ACCEPTED && g.count == THIN_SHEET_WORDS + FURTHER_FACTS, "a sheet with a thin tranche to convert");
+    refused(weigh(output, g.count, RESULTS), TRANCHE_WEIGHTS_REFUSED_THIN_TRANCHE, THIN_PLACE + FURTHER_FACTS, "a thin tranche in the other unit");
+    return unused;
+}
+
+/* Refused conversions: a risk weight that is no whole percent; a word too many and a rating that is not listed, which come before it; faults of a sheet of four facts. */
+static void *try_not_converted(void *unused)
+{
+    uint64_t words[ALL_FACTS_WORDS + 1] = {0};
+    memcpy(words, hundredths_sheet, sizeof hundredths_sheet);
+    words[RISK_WEIGHT_PLACE] = 3750;
+    not_converted(words, ALL_FACTS_WORDS, TRANCHE_WEIGHTS_REFUSED_NOT_WHOLE_PERCENT, RISK_WEIGHT_PLACE, "37.5% in whole percent");
+    not_converted(words, ALL_FACTS_WORDS + 1, TRANCHE_WEIGHTS_REFUSED_WORDS_FOLLOW, ALL_FACTS_WORDS, "37.5% and a word too many");
+    words[ALL_FACTS_WORDS - 1] = 19;
+    not_converted(words, ALL_FACTS_WORDS, TRANCHE_WEIGHTS_REFUSED_RATING, ALL_FACTS_WORDS - 1, "37.5% and a rating that is not listed");
+    memcpy(words, sheet, sizeof sheet);
+    not_converted(words, WORDS - 1, TRANCHE_WEIGHTS_REFUSED_MISSING_WORD, WORDS - 1, "a sheet to convert with a word missing");
+    words[RISK_WEIGHT_PLACE - FURTHER_FACTS] = 1251;
+    not_converted(words, WORDS, TRANCHE_WEIGHTS_REFUSED_RISK_WEIGHT, RISK_WEIGHT_PLACE - FURTHER_FACTS, "a sheet to convert with a risk weight above 1250%");
+    return unused;
+}
+
+/* The longest sheet, to hundredths and back. */
+static void *try_longest(void *unused)
+{
+    static uint64_t all_facts[TRANCHE_WEIGHTS_SHEET_WORDS], in_hundredths[TRANCHE_WEIGHTS_SHEET_WORDS];
+    const size_t first = TRANCHE_WEIGHTS_MOST_FACTS + 2, rows_end = first + TRANCHE_WEIGHTS_MOST_ROWS * TRANCHE_WEIGHTS_ROW_WORDS;
+    memcpy(all_facts, longest, ROW_COUNT_PLACE * sizeof *longest);
+    all_facts[0] = TRANCHE_WEIGHTS_MOST_FACTS;
+    memcpy(all_facts + ROW_COUNT_PLACE + FURTHER_FACTS, longest + ROW_COUNT_PLACE, (LONGEST_WORDS - ROW_COUNT_PLACE) * sizeof *longest);
+    memcpy(in_hundredths, all_facts, sizeof all_facts);
+    in_hundredths[UNIT_PLACE] = 1;
+    for (size_t i = first + RISK_WEIGHT_PLACE_IN_ROW; i < rows_end; i += TRANCHE_WEIGHTS_ROW_WORDS)
+        in_hundredths[i] *= 100;
+    converts(longest, LONGEST_WORDS, in_hundredths, TRANCHE_WEIGHTS_SHEET_WORDS, "the longest sheet in whole percent");
+    converts(in_hundredths, TRANCHE_WEIGHTS_SHEET_WORDS, all_facts, TRANCHE_WEIGHTS_SHEET_WORDS, "the longest sheet in hundredths");
     return unused;
 }
 
@@ -434,6 +575,10 @@ static void *try_null(void *unused)
         "the report on no file");
     due(tranche_weights_report(file, size, NULL, 0) == report(sizeof text), "no room for the report");
     blocks_refused(NULL, 0, TRANCHE_WEIGHTS_REFUSED_MISSING_WORD, 0, "the sums of no sheet");
+    not_converted(NULL, 0, TRANCHE_WEIGHTS_REFUSED_MISSING_WORD, 0, "no sheet to convert");
+    struct converted c = {.number = 9, .place = 9, .count = 9};
+    c.number = tranche_weights_convert(sheet, WORDS, NULL, 0, &c.place, &c.count);
+    due(c.number == TRANCHE_WEIGHTS_REFUSED_ROOM && c.place == 0 && c.count == 0, "no room for a sheet to convert");
     return unused;
 }
 
@@ -474,6 +619,20 @@ static void make_row_of_most(uint64_t row, uint64_t *to)
     to[3] = in_block == 0 ? 1 : in_block == TRANCHE_WEIGHTS_BLOCK_ROWS - 1 ? 2 : 0;
 }
 
+/* Puts the longest sheet together. */
+static void fill_longest(void)
+{
+    const uint64_t *tranche = sheet + WORDS - TRANCHE_WEIGHTS_TRANCHE_WORDS;
+    const uint64_t *section = irb_sheet + IRB_COUNT_PLACE;
+    uint64_t *to = longest + WORDS_WITH_ROWS(TRANCHE_WEIGHTS_MOST_ROWS) - TRANCHE_WEIGHTS_TRANCHE_WORDS;
+    memcpy(longest, most_rows, sizeof most_rows);
+    longest[1] = irb_sheet[1];
+    to[-1] = TRANCHE_WEIGHTS_MOST_TRANCHES;
+    for (int i = 0; i < TRANCHE_WEIGHTS_MOST_TRANCHES; i++, to += TRANCHE_WEIGHTS_TRANCHE_WORDS)
+        memcpy(to, tranche, TRANCHE_WEIGHTS_TRANCHE_WORDS * sizeof *tranche);
+    memcpy(to, section, (1 + TRANCHE_WEIGHTS_IRB_WORDS) * sizeof *section);
+}
+
 int main(int argc, char **argv)
 {
     FILE *from = argc == 2 ? fopen(argv[1], "rb") : NULL;
@@ -484,15 +643,20 @@ int main(int argc, char **argv)
         before.results[i] = WORD_BEFORE;
     fill_sheet(two_blocks, TRANCHE_WEIGHTS_BLOCK_ROWS + 1, make_row_of_two_blocks);
     fill_sheet(most_rows, TRANCHE_WEIGHTS_MOST_ROWS, make_row_of_most);
+    fill_longest();
     on_stack(SHEET_STACK, try_weigh);
     on_stack(SHEET_STACK, try_stc);
     on_stack(SHEET_STACK, try_dates);
     on_stack(SHEET_STACK, try_inferred);
     on_stack(SHEET_STACK, try_least_weight);
+    on_stack(SHEET_STACK, try_unit);
     on_stack(SHEET_STACK, try_irb);
     on_stack(SHEET_STACK, try_blocks);
     on_stack(SHEET_STACK, try_most_rows);
     on_stack(SHEET_STACK, try_refused_blocks);
+    on_stack(SHEET_STACK, try_convert);
+    on_stack(SHEET_STACK, try_not_converted);
+    on_stack(SHEET_STACK, try_longest);
     on_stack(FILE_STACK, try_weigh_file);
     on_stack(FILE_STACK, try_null);
     on_stack(FILE_STACK, try_report);

@@ -16,7 +16,7 @@ static void there(const void *pointer, const char *what)
     }
 }
 
-uint64_t tranche_weights_weigh_v8(const uint64_t *sheet, size_t words, uint64_t *results, size_t room, uint64_t *place, uint64_t *count,
+uint64_t tranche_weights_weigh_v9(const uint64_t *sheet, size_t words, uint64_t *results, size_t room, uint64_t *place, uint64_t *count,
                                   uint64_t *charge)
 {
     there(sheet, "sheet");
@@ -25,7 +25,7 @@ uint64_t tranche_weights_weigh_v8(const uint64_t *sheet, size_t words, uint64_t 
     return words + room;
 }
 
-uint64_t tranche_weights_weigh_file_v8(const uint8_t *file, size_t size, uint64_t *results, size_t room, uint64_t *place, uint64_t *count,
+uint64_t tranche_weights_weigh_file_v9(const uint8_t *file, size_t size, uint64_t *results, size_t room, uint64_t *place, uint64_t *count,
                                        uint64_t *charge)
 {
     there(file, "file");
@@ -34,18 +34,26 @@ uint64_t tranche_weights_weigh_file_v8(const uint8_t *file, size_t size, uint64_
     return size + room;
 }
 
-uint64_t tranche_weights_report_v8(const uint8_t *file, size_t size, uint8_t *text, size_t room)
+uint64_t tranche_weights_report_v9(const uint8_t *file, size_t size, uint8_t *text, size_t room)
 {
     there(file, "file of a report");
     there(text, "text");
     return size + room;
 }
 
-uint64_t tranche_weights_block_sums_v8(const uint64_t *sheet, size_t words, uint64_t block, uint64_t *place, uint64_t *sums)
+uint64_t tranche_weights_block_sums_v9(const uint64_t *sheet, size_t words, uint64_t block, uint64_t *place, uint64_t *sums)
 {
     there(sheet, "sheet of a block");
     *place = *sums = 0;
     return words + block;
+}
+
+uint64_t tranche_weights_convert_v9(const uint64_t *sheet, size_t words, uint64_t *output, size_t room, uint64_t *place, uint64_t *count)
+{
+    there(sheet, "sheet to convert");
+    there(output, "output");
+    *place = *count = 0;
+    return words + room;
 }
 
 int main(void)
@@ -55,5 +63,6 @@ int main(void)
     sizes += tranche_weights_weigh_file(NULL, 0, NULL, 0, &place, &count, &charge);
     sizes += tranche_weights_report(NULL, 0, NULL, 0);
     sizes += tranche_weights_block_sums(NULL, 0, 0, &place, sums);
+    sizes += tranche_weights_convert(NULL, 0, NULL, 0, &place, &count);
     return sizes != 0;
 }

@@ -1,7 +1,7 @@
 #!/bin/sh
-# Runs tranche_report, portfolio_totals and sheet_words as a desk does, and holds standard output, standard error and the exit status of each run to what is due.
-# Prints a line for each case, and stops with 1 at the first difference. The programs are built first: rt check tranche_report portfolio_totals sheet_words. An
-# input that fails midway is made by tests/failing_input.c, which is built here, with every warning an error.
+# Runs tranche_report, portfolio_totals, convert_sheet and sheet_words as a desk does, and holds standard output, standard error and the exit status of each run to
+# what is due. Prints a line for each case, and stops with 1 at the first difference. The programs are built first: rt check tranche_report portfolio_totals
+# convert_sheet sheet_words. An input that fails midway is made by tests/failing_input.c, which is built here, with every warning an error.
 set -u
 
 root=$(cd "$(dirname "$0")/.." && pwd) || exit 1
@@ -32,11 +32,32 @@ run_full() {
     : > out
 }
 
+# One run with a standard output that is closed: run_closed PROGRAM FILE
+run_closed() {
+    "$bin/$1" "$2" >&- 2> err
+    echo "$?" > status
+    : > out
+}
+
 # What the next cases have to write, in printf's escapes: due STANDARD-OUTPUT STANDARD-ERROR
 due() {
     printf "$1" > due.out
     printf "$2" > due.err
     echo 0 > due.status
+}
+
+# What the next cases have to write of a sheet that is refused, a text on standard output, or on standard error where that takes a sheet: due_refused PROGRAM NUMBER PLACE
+due_refused() {
+    case $1 in
+    convert_sheet) due '' "refused $2 at $3\n" ;;
+    *) due "refused $2 at $3\n" '' ;;
+    esac
+}
+
+# What the next cases have to write, the bytes of a file: due_file FILE
+due_file() {
+    due '' ''
+    cp "$1" due.out
 }
 
 # Holds the last run to what is due: held NAME-OF-THE-CASE
@@ -83,7 +104,7 @@ cc -O2 -std=c11 -Wall -Wextra -Wpedantic -Werror "$root/tests/failing_input.c" -
 
 # ---- what all programs say of their arguments and of a file that can't be read
 
-for name in tranche_report portfolio_totals sheet_words; do
+for name in tranche_report portfolio_totals convert_sheet sheet_words; do
     due '' "usage: $name FILE (- for standard input)\n"
     run "$name"
     held "$name: no argument"
@@ -118,17 +139,19 @@ run_failing tranche_report deal
 held 'tranche_report: a standard input that fails after the checked deal'
 run_failing portfolio_totals deal
 held 'portfolio_totals: a standard input that fails after the checked deal'
+run_failing convert_sheet deal
+held 'convert_sheet: a standard input that fails after the checked deal'
 run_failing sheet_words deal.txt
 held 'sheet_words: a standard input that fails after the checked deal'
 
 # ---- what the programs that read a sheet's file say of one that is refused, and of an output that takes nothing
 
-for name in tranche_report portfolio_totals; do
-    due 'refused 1 at 0\n' ''
+for name in tranche_report portfolio_totals convert_sheet; do
+    due_refused "$name" 1 0
     run "$name" /dev/null
     held "$name: an empty file"
 
-    due 'refused 15 at 0\n' ''
+    due_refused "$name" 15 0
     bytes 7 a > file
     run "$name" file
     held "$name: 7 bytes"
@@ -141,23 +164,25 @@ for name in tranche_report portfolio_totals; do
     bytes 1000000 a | run "$name" -
     held "$name: a long file from a pipe"
 
-    due 'refused 2 at 0\n' ''
+    due_refused "$name" 2 0
     dd if=/dev/zero of=file bs=$sheet_bytes_most count=1 2> dd.log
     run "$name" file
     held "$name: as many bytes as a sheet has"
 
-    due 'refused 3 at 36\n' ''
+    due_refused "$name" 3 36
     bytes 8 a | cat deal - > file
     run "$name" file
     held "$name: a word after the checked deal"
 
-    due 'refused 8 at 48\n' ''
+    due_refused "$name" 8 48
     "$bin/sheet_words" "$root/examples/refused.txt" | run "$name" -
     held "$name: the example of a refused deal"
 
     due '' "$name: standard output can't be written\n"
     run_full "$name" deal
     held "$name: standard output is full"
+    run_closed "$name" deal
+    held "$name: standard output is closed"
 done
 
 # ---- the report
@@ -175,27 +200,33 @@ run_totals() {
 # The seven sums of so many delinquent rows with the highest amounts and risk weight: highest ROWS
 highest() {
     amounts=$(($1 * 10000000000))
-    weighted=$((amounts * 1250))
+    weighted=$((amounts * 125000))
     echo "$amounts $amounts $weighted $amounts $amounts $weighted $amounts"
 }
 
-due '0 1 2 1000 1000 100000 1000 1000 100000 50\ntotal 1000 1000 100000 1000 1000 100000 50\n' ''
+sums='1000 1000 10000000 1000 1000 10000000 50'
+due "0 1 2 $sums\ntotal $sums\n" ''
 held_checked_deal portfolio_totals
 
-sums='500000000 503000000 29950000000 482000000 485000000 28150000000 12500000'
+sums='500000000 503000000 2995000000000 482000000 485000000 2815000000000 12500000'
 due "0 1 6 $sums\ntotal $sums\n" ''
 "$bin/sheet_words" "$root/examples/ordinary.txt" | run portfolio_totals -
 held 'portfolio_totals: rows that pay, are delinquent and are not known'
 
-sums='100000000 100000000 16100000000 100000000 100000000 16100000000 0'
+sums='100000000 100000000 1610000000000 100000000 100000000 1610000000000 0'
 due "0 1 4 $sums\ntotal $sums\n" ''
 "$bin/sheet_words" "$root/examples/resecuritisation.txt" | run portfolio_totals -
 held 'portfolio_totals: a re-securitisation'
 
-sums='500000000 501000000 38750000000 470000000 471000000 36500000000 11000000'
+sums='500000000 501000000 3875000000000 470000000 471000000 3650000000000 11000000'
 due "0 1 5 $sums\ntotal $sums\n" ''
 "$bin/sheet_words" "$root/examples/irba.txt" | run portfolio_totals -
 held 'portfolio_totals: a mixed pool'
+
+sums='500000000 500500000 2696250000000 500000000 500500000 2696250000000 10500000'
+due "0 1 5 $sums\ntotal $sums\n" ''
+"$bin/sheet_words" "$root/examples/hundredths.txt" | run portfolio_totals -
+held 'portfolio_totals: risk weights in hundredths of a percent'
 
 # A tranche with both points at 100000, above the charge of 80000: the formula has no weight for it, and the pool has its sums.
 echo '4 0 0 1 1 1 6000000 10000000 100 0 3 8999991 1 60 0 1 0 0 5 2 60 5 0 0 0 1000004 3 60 0 0 0 0' > text
@@ -203,17 +234,17 @@ echo '4 0 0 1 1 1 6000000 10000000 100 0 3 8999991 1 60 0 1 0 0 5 2 60 5 0 0 0 1
 due 'refused 13 at 18\n' ''
 run tranche_report file
 held 'tranche_report: a tranche too thin for the formula'
-sums='6000000 10000000 600000000 6000000 10000000 600000000 0'
+sums='6000000 10000000 60000000000 6000000 10000000 60000000000 0'
 due "0 1 1 $sums\ntotal $sums\n" ''
 run portfolio_totals file
 held 'portfolio_totals: a tranche too thin for the formula'
 
-block='5000 6000 250000 5000 6000 250000 120'
+block='5000 6000 25000000 5000 6000 25000000 120'
 due "0 1 50 $block\ntotal $block\n" ''
 { echo '100 120 50 1'; lines 49 '100 120 50 0'; } > rows
 run_totals 50 < rows
 held 'portfolio_totals: one whole block'
-due "0 1 50 $block\n1 51 51 7 8 210 0 0 0 0\ntotal 5007 6008 250210 5000 6000 250000 120\n" ''
+due "0 1 50 $block\n1 51 51 7 8 21000 0 0 0 0\ntotal 5007 6008 25021000 5000 6000 25000000 120\n" ''
 echo '7 8 30 2' | cat rows - | run_totals 51
 held 'portfolio_totals: one row more'
 
@@ -226,6 +257,93 @@ done
 due "${text}total $(highest $rows_most)\n" ''
 lines $rows_most '10000000000 10000000000 1250 1' | run_totals $rows_most
 held 'portfolio_totals: as many rows as a pool has, with the highest sums'
+
+# ---- a sheet in the other unit
+
+# The file of a sheet, which comes as text from standard input: sheet FILE
+sheet() {
+    "$bin/sheet_words" - > "$1"
+}
+
+# Holds the converter to a sheet in whole percent, the same in hundredths and the same in whole percent with all facts, in both directions:
+# held_both_ways NAME PERCENT HUNDREDTHS ALL-FACTS
+held_both_ways() {
+    due_file "$3"
+    run convert_sheet "$2"
+    held "convert_sheet: $1 to hundredths of a percent"
+    run convert_sheet "$4"
+    held "convert_sheet: $1 with all facts to hundredths of a percent"
+    due_file "$4"
+    run convert_sheet "$3"
+    held "convert_sheet: $1 back to whole percent"
+    "$bin/convert_sheet" "$2" | run convert_sheet -
+    held "convert_sheet: $1 there and back in a pipe"
+}
+
+tranches='3 800 1 72 800 1 0 0 150 2 72 100 9 0 0 50 3 72 50 0 0 0'
+echo "7 0 0 1 1 0 0 1 2 950 950 10000 0 50 50 10000 1 $tranches" | sheet hundredths
+echo "7 0 0 1 1 0 0 0 2 950 950 100 0 50 50 100 1 $tranches" | sheet all_facts
+due_file hundredths
+held_checked_deal convert_sheet
+held_both_ways 'the checked deal' deal hundredths all_facts
+
+# The longest sheet: the most rows and tranches, and an IRB section. With all facts it has the most bytes of a sheet. What follows the count of its rows, with a risk
+# weight: longest_sections RISK-WEIGHT
+longest_sections() {
+    lines $rows_most "10000000000 10000000000 $1 1"
+    echo $tranches_most
+    lines $tranches_most '312500000000 1 60 10000000 1 0 0'
+    echo '1 58000 400000 24000 1 960000 6300'
+}
+{ echo "4 2 0 1 1 $rows_most"; longest_sections 1250; } | sheet percent
+{ echo "7 2 0 1 1 0 0 1 $rows_most"; longest_sections 125000; } | sheet hundredths
+{ echo "7 2 0 1 1 0 0 0 $rows_most"; longest_sections 1250; } | sheet all_facts
+[ "$(wc -c < hundredths)" = $sheet_bytes_most ] || { echo 'the longest sheet has not the most bytes'; exit 1; }
+held_both_ways 'the longest sheet' percent hundredths all_facts
+
+# Every example in whole percent has the report and the totals that it has in hundredths and back in whole percent; from there it goes to the same hundredths.
+for name in ordinary stc irba dated resecuritisation; do
+    "$bin/sheet_words" "$root/examples/$name.txt" > percent
+    "$bin/convert_sheet" percent > hundredths
+    "$bin/convert_sheet" hundredths > all_facts
+    cmp -s percent hundredths && { echo "the example $name was not converted"; exit 1; }
+    due_file hundredths
+    run convert_sheet all_facts
+    held "convert_sheet: the example $name to hundredths, back and to hundredths again"
+    for reading in tranche_report portfolio_totals; do
+        "$bin/$reading" percent > read
+        due_file read
+        run $reading hundredths
+        held "$reading: the example $name in hundredths of a percent"
+        run $reading all_facts
+        held "$reading: the example $name back in whole percent"
+    done
+done
+
+due '' 'refused 19 at 11\n'
+"$bin/sheet_words" "$root/examples/hundredths.txt" | run convert_sheet -
+held 'convert_sheet: a risk weight of 37.5%'
+due '' 'refused 19 at 15\n'
+echo '7 0 0 1 1 0 0 1 3 1 1 100 0 1 1 101 0 1 1 199 0 1 1 1 60 1 1 0 0' | sheet file
+run convert_sheet file
+held 'convert_sheet: the first of two risk weights that are no whole percent'
+due '' 'refused 3 at 29\n'
+bytes 8 a >> file
+run convert_sheet file
+held 'convert_sheet: a word too many comes before a risk weight that is no whole percent'
+due '' 'refused 6 at 8\n'
+echo '4 0 0 1 1 1 1 1 1251 0' | sheet file
+run convert_sheet file
+held 'convert_sheet: the place of a refusal is that in the sheet as given'
+
+echo '4 0 0 1 1 1 6000000 10000000 100 0 3 8999991 1 60 0 1 0 0 5 2 60 5 0 0 0 1000004 3 60 0 0 0 0' | sheet percent
+echo '7 0 0 1 1 0 0 1 1 6000000 10000000 10000 0 3 8999991 1 60 0 1 0 0 5 2 60 5 0 0 0 1000004 3 60 0 0 0 0' | sheet hundredths
+due_file hundredths
+run convert_sheet percent
+held 'convert_sheet: a tranche too thin for the formula'
+due 'refused 13 at 21\n' ''
+run tranche_report hundredths
+held 'tranche_report: a tranche too thin for the formula, in hundredths of a percent'
 
 # ---- sheets written by hand
 
@@ -329,6 +447,17 @@ cp out months.sheet
 cmp -s dated.sheet months.sheet && { echo 'the example in months is the example with dates'; exit 1; }
 run tranche_report months.sheet
 held 'tranche_report: the same deal in months'
+
+# ---- both programs on the example in hundredths of a percent
+# Line 3 comes from the formula, and its weight is this library's choice: the rules admit one more as well, with the amounts and totals that follow from it.
+
+due 'charge 52725 tranches 3
+1 1 200799 1000000 5393 134825000 10786000 5393
+2 1 80919 200799 25700 77100000 6168000 25699
+3 2 999 80919 115058 460232000 36818560 115057
+total 672157000 53772560\n' ''
+"$bin/sheet_words" "$root/examples/hundredths.txt" | run tranche_report -
+held 'tranche_report: the example in hundredths of a percent'
 
 # ---- both programs on the example of a mixed pool, and on the same deal with ratings and statuses that play no part
 # In lines 2 to 4 weight and least weight are this library's choice: the rules admit each of these weights or one more, with the amounts and totals that follow

@@ -1,5 +1,5 @@
 #!/usr/bin/env python3
-"""The text that crates/checked_examples must print. What passes is worked out from the papers alone: 01, S-1 to S-3 and S-5 to S-8 of 02, and Tables 3 and 4 of source
+"""The text that crates/checked_examples must print. What passes is worked out from the papers alone: 01, S-1 to S-3 and S-5 to S-9 of 02, and Tables 3 and 4 of source
 document 001. Exact fractions, exponentials to a hundred digits, Python's own calendar.
 
     python3 tests/worked_examples.py > /tmp/worked_examples && cmp /tmp/worked_examples crates/checked_examples/stdout
@@ -9,17 +9,19 @@ would differ. Where two numbers pass as the seventh word, or as the low number o
 the two; where that has neither, it is the higher, the exact value rounded down. Nothing else is taken from the stored text.
 
 It fails where a figure of the rating tables is missing from the examples' weights, where a case of one, two or three ratings, of dates, of the IRB section, of
-SEC-IRBA, of the seventh word, of totals by portfolio (S-7) or of inferred ratings (S-8) is met by no example, where no line of the examples depends on a coefficient
-of SEC-IRBA, where a misreading of S-8 gives every example the lines that it has, where a weight published in source document 004 is not enclosed, where a deal in
-dates has other lines than the same deal in months, or where the totals by portfolio are not those of the pool. It needs Python's standard library and is no part of
-the gate.
+SEC-IRBA, of the seventh word, of totals by portfolio (S-7), of inferred ratings (S-8), of the unit of risk weights or of the converter (S-9) is met by no example,
+where no line of the examples depends on a coefficient of SEC-IRBA, where a misreading of S-8 or S-9 gives every example the answers that it has, where a weight
+published in source document 004 is not enclosed, where a deal in dates or in hundredths has other lines than the same deal in months or in percent, where a
+conversion breaks a law of S-9, or where the totals by portfolio are not those of the pool. It needs Python's standard library and is no part of the gate.
 """
 import os
 import sys
 from collections import namedtuple
+from contextlib import suppress
 from datetime import date, timedelta
 from decimal import Decimal, getcontext
 from fractions import Fraction
+from functools import partial
 from itertools import permutations, product
 from math import ceil, floor
 
@@ -30,16 +32,21 @@ MILLION = 10**6
 TOP = 125_000
 FALLBACK, ERBA, SA, IRBA = 0, 1, 2, 3
 
-# Four facts, a fifth and a sixth that may be left out; "Pool, count 1 to 1,000", "Tranches, count 1 to 32"; the words of a pool row, of a tranche, of the IRB
+# Four facts, and a fifth to a seventh that may be left out; "Pool, count 1 to 1,000", "Tranches, count 1 to 32"; the words of a pool row, of a tranche, of the IRB
 # section and of a line.
-FACTS_LEAST, FACTS_MOST, ROWS, TRANCHES = 4, 6, 1000, 32
+FACTS_LEAST, FACTS_MOST, ROWS, TRANCHES = 4, 7, 1000, 32
 ROW_SIZE, TRANCHE_SIZE, IRB_SIZE, LINE_SIZE = 4, 7, 6, 7
-# The words of the longest sheet, four counts, facts, rows, tranches and the IRB section, 4,240 in all; eight bytes each make 33,920.
+# The words of the longest sheet, four counts, facts, rows, tranches and the IRB section, 4,241 in all; eight bytes each make 33,928.
 MOST_WORDS = 4 + FACTS_MOST + ROW_SIZE * ROWS + TRANCHE_SIZE * TRANCHES + IRB_SIZE
 MOST_BYTES = 8 * MOST_WORDS
 
 # The place of the sixth fact, the reporting date; the years of a date; the most months of a maturity.
 REPORTING_AT, YEARS, MONTHS_MOST = 6, range(2000, 2200), 1200
+
+# The place of the seventh fact, the unit of the risk weight words: by its codes the highest word, and what a word is in hundredths of a percent.
+UNIT_AT = 7
+Unit = namedtuple("Unit", "most hundredths")
+UNITS = PERCENT, HUNDREDTHS = Unit(1250, lambda word: 100 * word), Unit(125_000, lambda word: word)
 
 # Senior 1 year, senior 5 years, non-senior 1 year, non-senior 5 years, in percent; one figure for a short-term grade.
 ORDINARY = {
@@ -76,7 +83,7 @@ COEFFICIENTS = {
 PARAMETER_LEAST = 300_000
 
 # A tranche: the place of its amount, its row with the class as rank and the maturity in months, its three rating words. The IRB section. And a sheet with no bad
-# word; `irb` is None in an SA pool.
+# word, the risk weights of its rows in hundredths; `irb` is None in an SA pool.
 Tranche = namedtuple("Tranche", "at amount rank months held codes")
 Irb = namedtuple("Irb", "charge loss loans retail share average")
 Deal = namedtuple("Deal", "resecuritised diligence composition stc rows tranches irb")
@@ -139,8 +146,8 @@ def irb_limits(kind):
     return Irb((0, MILLION), (0, MILLION), (1, MILLION), (0, 1), (MILLION if kind == IRB_POOL else 0, MILLION), (0, TOP))
 
 
-def judged(words):
-    """The deal of a sheet, or the first fault of a word, then 3."""
+def judged(words, units=UNITS):
+    """The deal of a sheet, or the first fault of a word, then 3. The units are those of the risk weight word, by the seventh fact."""
     place = 0
 
     def take(fault):
@@ -161,10 +168,11 @@ def judged(words):
     resecuritised, diligence, composition = (take(within(0, 1, 4)) for _ in range(3))
     stc = take(lambda w: 4 if w > 1 else 16 if w and resecuritised else 0) if facts > 4 else 0
     reporting = day_of(take(lambda w: 17 if w and not day_of(w) else 0)) if facts > 5 else None
+    unit = units[take(within(0, len(units) - 1, 4)) if facts > 6 else 0]
     rows, tranches, last = [], [], 0
     for _ in range(take(within(1, ROWS, 2))):
         exposure, nominal = take(within(1, 10**10, 5)), take(within(1, 10**10, 5))
-        weight = take(within(0, 1250, 6))
+        weight = unit.hundredths(take(within(0, unit.most, 6)))
         rows.append((exposure, nominal, weight, take(within(3, 3, 7) if resecuritised else within(0, 2, 7))))
     for _ in range(take(within(1, TRANCHES, 2))):
         at = place
@@ -198,7 +206,7 @@ def points(deal, own):
 
 
 def mean_weight(rows, scale):
-    """Scale × (sum of exposure × risk weight) / (sum of exposure), rounded up."""
+    """Scale × (sum of exposure × risk weight) / (sum of exposure), rounded up. The paper's scales for weights in percent, 800 and 100, are 8 and 1 for hundredths."""
     return up(scale * sum(e * w for e, _, w, _ in rows), sum(e for e, _, _, _ in rows))
 
 
@@ -209,7 +217,7 @@ def pool_charge(rows):
     exposure = sum(e for e, _, _, _ in known)
     if 20 * (every - exposure) > every:
         return MILLION, False
-    base = mean_weight(known, 800)
+    base = mean_weight(known, 8)
     late = up(sum(n for _, n, _, s in known if s == 1) * MILLION, sum(n for _, n, _, _ in known))
     charge = up((MILLION - late) * base + 500_000 * late, MILLION)
     return up(exposure * charge + (every - exposure) * MILLION, every), True
@@ -222,7 +230,7 @@ def by_irba(deal):
 
 def mixed_charge(deal):
     """The charge under SEC-IRBA: share × IRB charge + rest × base charge, rounded up, with the base charge over all rows."""
-    return up(deal.irb.share * deal.irb.charge + (MILLION - deal.irb.share) * mean_weight(deal.rows, 800), MILLION)
+    return up(deal.irb.share * deal.irb.charge + (MILLION - deal.irb.share) * mean_weight(deal.rows, 8), MILLION)
 
 
 # ---- inferred ratings
@@ -362,7 +370,7 @@ def cap_of(deal, approach, senior):
     """The cap of a class; None where it has none."""
     if not senior or deal.resecuritised or not deal.composition:
         return None
-    return deal.irb.average if approach == IRBA else mean_weight(deal.rows, 100)
+    return deal.irb.average if approach == IRBA else mean_weight(deal.rows, 1)
 
 
 def limited(deal, approach, senior, raw):
@@ -419,9 +427,9 @@ def forms_of(line):
     return [(line.approach, line.a, line.d, weight, *amounts(held, weight), least) for least in line.ends.least]
 
 
-def weighed(words, room=LINE_SIZE * TRANCHES, counting=with_ratings_that_count):
+def weighed(words, room=LINE_SIZE * TRANCHES, counting=with_ratings_that_count, judging=judged):
     """The charge and the lines of a sheet, by the ratings that count; or the refusal: that of its words, then 14 where so many result words are too few, then 13."""
-    deal = judged(words)
+    deal = judging(words)
     if room < LINE_SIZE * len(deal.tranches):
         raise Refused(14, 0)
     charge, known = (mixed_charge(deal), True) if by_irba(deal) else pool_charge(deal.rows)
@@ -469,10 +477,11 @@ def block_text(words, block):
         return str(r)
 
 
-def totals(words):
-    """The text of a sheet's totals by portfolio, line by line: for each block its number, its first and its last row, and its sums; then those of the pool."""
+def totals(words, judging=judged):
+    """The text of a sheet's totals by portfolio, line by line: for each block its number, its first and its last row, and its sums; then those of the pool. Weighted
+    exposure is in hundredths of a percent whatever the sheet's unit."""
     try:
-        rows = judged(words).rows
+        rows = judging(words).rows
     except Refused as r:
         return [str(r)]
     blocks = [block_of(rows, block) for block in range(up(len(rows), BLOCK_ROWS))]
@@ -481,6 +490,78 @@ def totals(words):
     firsts = range(1, len(rows) + 1, BLOCK_ROWS)
     lines = [spaced((i, first, first + len(block) - 1, *sums(block))) for i, (first, block) in enumerate(zip(firsts, blocks))]
     return lines + ["total " + spaced(sums(rows))]
+
+
+# ---- the converter
+
+
+def in_hundredths(words):
+    """Whether the risk weights of a sheet are in hundredths; not where it has no seventh fact."""
+    return words[0] > 6 and words[UNIT_AT] == 1
+
+
+def filled(words):
+    """A sheet whose missing facts are written as zeros."""
+    facts = words[0]
+    return [FACTS_MOST, *words[1:1 + facts], *[0] * (FACTS_MOST - facts), *words[1 + facts:]]
+
+
+def weights_at(words):
+    """The places of a sheet's risk weights."""
+    rows_at = words[0] + 1
+    return range(rows_at + 3, rows_at + 1 + ROW_SIZE * words[rows_at], ROW_SIZE)
+
+
+def not_whole(words):
+    """The places of the risk weights in hundredths that are no whole percents."""
+    return (at for at in (weights_at(words) if in_hundredths(words) else ()) if words[at] % 100)
+
+
+def bad_words(words, room):
+    """"The refusals of the words and 3", at the places of the sheet as given."""
+    judged(words)
+
+
+def no_whole_percent(words, room):
+    """"Going down to percent, a weight that is not a multiple of 100 gets 19 at its place": the first one does."""
+    for at in not_whole(words):
+        raise Refused(19, at)
+
+
+def too_short(words, room):
+    """"Then an output too short for the rewritten sheet gets 14 at place 0"."""
+    if room < len(filled(words)):
+        raise Refused(14, 0)
+
+
+def rewritten(words):
+    """A sheet in the other unit: "shorter fact lists are filled with zeros first", the unit is the other one, and each risk weight 100 times as much or a hundredth."""
+    sheet = filled(words)
+    for at in weights_at(sheet):
+        sheet[at] = sheet[at] // 100 if in_hundredths(words) else 100 * sheet[at]
+    sheet[UNIT_AT] = 0 if in_hundredths(words) else 1
+    return sheet
+
+
+def converted(words, room=MOST_WORDS, refusals=(bad_words, no_whole_percent, too_short), rewriting=rewritten):
+    """The words that a conversion writes where so many are lent, or the first of its refusals. 13 is not judged."""
+    for refusal in refusals:
+        refusal(words, room)
+    return rewriting(words)
+
+
+def conversion(words, output, **other):
+    """The answer to a conversion, and the lent words after it: a refusal writes nothing, and later words are untouched."""
+    try:
+        written = converted(words, len(output), **other)
+    except Refused as r:
+        return str(r), output
+    return "converted %d" % len(written), written + output[len(written):]
+
+
+def written_text(answer, output):
+    """The text of a conversion: its answer with the words that it wrote."""
+    return answer if refusal_of(answer) else "%s: %s" % (answer, spaced(output[:int(answer.split()[1])]))
 
 
 # ---- what the program prints, in its order
@@ -521,11 +602,21 @@ def say(forms):
 PORTFOLIOS = []
 
 
-def say_texts(name, words):
-    """Prints a name, the report on a sheet and its totals by portfolio, and returns the report."""
+def checksum(words):
+    """A checksum of words, in which the place of each counts."""
+    total = 0
+    for word in words:
+        total = (31 * total + word) % 1_000_003
+    return total
+
+
+def say_texts(name, words, many=False):
+    """Prints a name, the report on a sheet, its totals by portfolio and its conversion, of many words with their checksum alone, and returns the report."""
     say([name])
     text = "\n".join(say(forms) for forms in report(words))
     PORTFOLIOS.append((words, text, [say([line]) for line in totals(words)]))
+    answer, output = conversion(words, [0] * MOST_WORDS)
+    say(["%s, checksum %d" % (answer, checksum(output[:int(answer.split()[1])])) if many and not refusal_of(answer) else written_text(answer, output)])
     return text
 
 
@@ -555,33 +646,36 @@ def print_rooms():
 
 
 def print_limits():
-    """Files of zeros, and the largest deals: six facts, a mixed pool of 1,000 rows of 10^10, 32 tranches of a 32nd of the pool, the IRB section."""
+    """Files of zeros, and the largest deals: seven facts, a mixed pool of 1,000 rows of 10^10, 32 tranches of a 32nd of the pool, the IRB section."""
     for length in (0, 7, MOST_BYTES - 1, MOST_BYTES, MOST_BYTES + 1, MOST_BYTES + 8):
         words, bad = [0] * (length // 8), [str(Refused(15, 0))] if length % 8 or length > MOST_BYTES else []
         say(["file of zeros, bytes %d: %s" % (length, bad[0] if bad else answer(words, 0))])
         for line in bad or totals(words):
             say([line])
-    for weight, stc, share in ((1250, 0, 0), (100, 0, 0), (100, 1, 0), (100, 0, SHARE_LEAST), (100, 1, MILLION)):
-        sheet = [FACTS_MOST, MIXED_POOL, 0, 1, 1, stc, 0, ROWS] + [10**10, 10**10, weight, 0] * ROWS + [TRANCHES]
+    percent = (1250, 0, 0, 0), (100, 0, 0, 0), (100, 0, 1, 0), (100, 0, 0, SHARE_LEAST), (100, 0, 1, MILLION)
+    for weight, unit, stc, share in (*percent, (125_000, 1, 0, 0), (3750, 1, 0, SHARE_LEAST)):
+        sheet = [FACTS_MOST, MIXED_POOL, 0, 1, 1, stc, 0, unit, ROWS] + [10**10, 10**10, weight, 0] * ROWS + [TRANCHES]
         for rank in range(1, TRANCHES + 1):
             sheet += [312500000000, rank, 1200, 312500000000, 0, 0, 0]
         sheet += [1, *Irb(charge=200_000, loss=MILLION, loans=MILLION, retail=0, share=share, average=TOP)]
-        say_texts("largest deal, risk weight %d, STC mark %d, share %d" % (weight, stc, share), sheet)
+        say_texts("largest deal, risk weight %d, unit %d, STC mark %d, share %d" % (weight, unit, stc, share), sheet, many=True)
 
 
-def different_rows(count, resecuritised=0):
+def different_rows(count, resecuritised=0, unit=0):
     """A sheet with so many rows, of which no two have an exposure, a nominal amount or a risk weight in common. In an ordinary deal every third is of unknown status,
     with little exposure, and the cap lowers the one tranche, below CCC-, to the pool's average."""
-    sheet = [FACTS_MOST, SA_POOL, resecuritised, 1, 1, 0, 0, count]
+    sheet = [FACTS_MOST, SA_POOL, resecuritised, 1, 1, 0, 0, unit, count]
     for i in range(count):
-        sheet += [i + 1 if i % 3 == 2 else MILLION + i, 2 * MILLION + 3 * i, 1250 - i, 3 if resecuritised else i % 3]
+        weight = 125_000 - 37 * i if unit else 1250 - i
+        sheet += [i + 1 if i % 3 == 2 else MILLION + i, 2 * MILLION + 3 * i, weight, 3 if resecuritised else i % 3]
     return sheet + [1, MILLION, 1, 60, MILLION, 18, 0, 0]
 
 
 def print_pools():
     """Pools of different rows, with their totals by portfolio."""
-    for count, resecuritised in [*((n, 0) for n in (1, 49, 50, 51, 99, 100, 101, ROWS)), (101, 1)]:
-        say_texts("different rows %d, re-securitisation %d" % (count, resecuritised), different_rows(count, resecuritised))
+    percent = [*((n, 0, 0) for n in (1, 49, 50, 51, 99, 100, 101, ROWS)), (101, 1, 0)]
+    for case in (*percent, (1, 0, 1), (101, 0, 1), (ROWS, 0, 1)):
+        say_texts("different rows %d, re-securitisation %d, unit %d" % case, different_rows(*case), many=True)
 
 
 # The first blocks, the last that a pool may have and the next; 2^32, which cut to 32 bits is 0; then numbers whose product with 50, cut to 64 bits, is 34, 0, and 50
@@ -595,12 +689,33 @@ def print_blocks():
     bad = different_rows(51)
     bad[FACTS_MOST + 2 + ROW_SIZE * 50 + 2] = 1251
     sheets = {"different rows %d" % count: different_rows(count) for count in (50, 51, ROWS)}
+    sheets |= {"hundredths, different rows %d" % count: different_rows(count, unit=1) for count in (51, ROWS)}
     sheets |= {"a word too many, rows 51": different_rows(51) + [0], "the last risk weight 1251, rows 51": bad, "thin tranche, rows 2": THIN}
     read = []
     for (name, words), block in product(sheets.items(), BLOCKS):
         read.append((words, block, block_text(words, block)))
         say(["%s, block %d: %s" % (name, block, read[-1][2])])
     return read
+
+
+# The smallest deal in percent, of four facts, and in hundredths, 37%: each has 21 words in the other unit. And what lent words are before a conversion.
+SMALL_PERCENT = [4, 0, 0, 1, 1, 1, 1000, 1000, 100, 0, 1, 1000, 1, 60, 1000, 0, 0, 0]
+SMALL_HUNDREDTHS = [7, 0, 0, 1, 1, 0, 0, 1, 1, 1000, 1000, 3700, 0, 1, 1000, 1, 60, 1000, 0, 0, 0]
+UNTOUCHED = 999
+
+
+def print_outputs():
+    """Conversions with too few lent words, with an exact fit and with words to spare. Returns words, room and text of each."""
+    bad, uneven = list(SMALL_PERCENT), list(SMALL_HUNDREDTHS)
+    bad[8], uneven[11] = 1251, 12550
+    sheets = {"four facts": SMALL_PERCENT, "four facts, a word too many": SMALL_PERCENT + [0], "four facts, risk weight 1251": bad}
+    sheets |= {"hundredths": SMALL_HUNDREDTHS, "hundredths, risk weight 12550": uneven}
+    lent = []
+    for name, words, room in [*((*sheet, room) for sheet, room in product(sheets.items(), (0, 20, 21, 23))), *(("thin tranche", THIN, room) for room in (38, 39))]:
+        answer, output = conversion(words, [UNTOUCHED] * room)
+        lent.append((words, room, say(["%s, output of %d words: %s" % (name, room, answer)])))
+        say([" ".join(["output:", *map(str, output)])])
+    return lent
 
 
 def read_examples():
@@ -723,12 +838,12 @@ def maturity_cases(reporting, word, number):
 
 def date_cases(words, text):
     """What a sheet with a sixth fact and the report on it are an example of."""
-    if words[:1] != [6] or len(words) <= REPORTING_AT:
+    if words[:1] not in ([6], [7]) or len(words) <= REPORTING_AT:
         return
     number, place = refusal_of(text) or (0, len(words))
     word, reporting = words[REPORTING_AT], day_of(words[REPORTING_AT])
-    rows_at = REPORTING_AT + 1
-    first = rows_at + 1 + ROW_SIZE * (words + [0])[rows_at] + 1
+    rows_at = words[0] + 1
+    first = rows_at + 1 + ROW_SIZE * dict(enumerate(words)).get(rows_at, 0) + 1
     maturities = {at: words[at] for at in range(first + 2, len(words), TRANCHE_SIZE)}
     if place == REPORTING_AT:
         yield "%d at the reporting date, %s" % (number, no_day(word))
@@ -747,12 +862,12 @@ def date_cases(words, text):
 def check_dates(sheets, texts):
     """Every case of dates is met."""
     met = {case for name, words in sheets.items() for case in date_cases(words, texts[name])}
-    met |= {"seven facts, %s" % texts[name] for name, words in sheets.items() if words[:1] == [7]}
+    met |= {"eight facts, %s" % texts[name] for name, words in sheets.items() if words[:1] == [8]}
     no_days = ["31 of month 4", "30 of month 2", "29 February of a common year", "29 February 2100", "year 1999", "year 2200", "month 0", "month 13", "day 0", "day 32"]
     no_days += ["year 0", "2^32 above a day", "2^64 - 1"]
     due = ["17 at %s, %s" % (place, fault) for place in ("the reporting date", "a maturity") for fault in no_days]
     due += ["17 at a maturity, %d days before" % days for days in (0, 1, 365)] + ["17 at a maturity, year 2200 and above 1200 months"]
-    due += ["17 at the reporting date before a bad maturity", "seven facts, refused 2 at 0"]
+    due += ["17 at the reporting date before a bad maturity", "eight facts, refused 2 at 0"]
     due += ["31 January to 28 February, months %d" % n for n in (1, 25)] + ["28 February to 31 March, months %d" % n for n in (2, 26)]
     due += ["%sthe maturity's day of the month %s" % (ends, order) for ends in ("", "month end to month end, ") for order in ("equal", "earlier", "later")]
     due += ["%s 29 February %d" % (end, year) for end in ("from", "to") for year in (2000, 2004, 2024)]
@@ -762,17 +877,35 @@ def check_dates(sheets, texts):
     check_met(due, met)
 
 
-def check_same_lines(texts):
-    """A deal in dates, or with a sixth fact of 0, has the report of the deal in months with fewer facts. Every approach is among the deals in dates."""
+def moved(text, places):
+    """A report on the same deal with that many facts more: the place of 13 is so much higher."""
+    refusal = refusal_of(text)
+    return str(Refused(refusal[0], refusal[1] + places)) if refusal else text
+
+
+# The endings of the names of deals that are another's, without the ending, otherwise written.
+ENDINGS = "_dated.txt", "_sixth_fact_0.txt", "_seventh_fact_0.txt", "_hundredths.txt"
+
+
+def written_otherwise(sheets):
+    """The names of each sheet that is another's deal otherwise written, of that sheet, and its ending."""
+    for name in sheets:
+        yield from ((name, name.removesuffix(ending) + ".txt", ending) for ending in ENDINGS if name.endswith(ending))
+
+
+def check_same_lines(sheets, texts):
+    """A deal in dates, in hundredths, or with a sixth or seventh fact of 0, has the report of the deal in months or in percent with fewer facts, and the same totals by
+    portfolio. In hundredths it is what that deal is converted to, and it is converted back to that deal with seven facts. Every approach is among the deals in dates
+    and in hundredths."""
     approaches = set()
-    for name, text in texts.items():
-        for ending in ("_dated.txt", "_sixth_fact_0.txt"):
-            base = name.removesuffix(ending) + ".txt"
-            if name.endswith(ending) and text != texts[base]:
-                sys.exit("%s: not the report on %s" % (name, base))
-        if name.endswith("_dated.txt"):
-            approaches |= {int(l.split()[1]) for l in text.splitlines()[1:-1]}
-    check_met(["approach %d in dates" % a for a in (FALLBACK, ERBA, SA, IRBA)], ["approach %d in dates" % a for a in approaches])
+    for name, base, ending in written_otherwise(sheets):
+        words, other = sheets[base], sheets[name]
+        if texts[name] != moved(texts[base], other[0] - words[0]) or totals(other) != totals(words):
+            sys.exit("%s: not the report and the totals of %s" % (name, base))
+        if ending == "_hundredths.txt" and (converted(words) != other or converted(other) != filled(words)):
+            sys.exit("%s: not %s in the other unit" % (name, base))
+        approaches |= {"approach %s, %s" % (l.split()[1], ending) for l in texts[name].splitlines()[1:-1]}
+    check_met(["approach %d, %s" % case for case in product((FALLBACK, ERBA, SA, IRBA), ("_dated.txt", "_hundredths.txt"))], approaches)
 
 
 # ---- the cases of the IRB section
@@ -870,7 +1003,7 @@ def charge_cases(deal, tranche, a, d, charge):
     share, rows = Fraction(deal.irb.share, MILLION), deal.rows
     known = [r for r in rows if r[3] != 2]
     yield "share %d" % deal.irb.share
-    base = Fraction(800 * sum(e * w for e, _, w, _ in rows), sum(e for e, _, _, _ in rows))
+    base = Fraction(8 * sum(e * w for e, _, w, _ in rows), sum(e for e, _, _, _ in rows))
     exact = share * deal.irb.charge + (1 - share) * base
     if up(exact.numerator, exact.denominator) != charge:
         yield "the base charge rounded up first"
@@ -895,7 +1028,7 @@ def limit_cases(deal, tranche, a, d, charge):
         if not deal.composition and weight < uncapped:
             yield "an IRB average below the weight, composition unknown"
         elif weight < uncapped:
-            side = "below" if deal.irb.average < mean_weight(deal.rows, 100) else "above"
+            side = "below" if deal.irb.average < mean_weight(deal.rows, 1) else "above"
             yield "cap %s" % ("0" if weight == 0 else "below the floor" if weight < 1_000 else side + " the pool average")
 
 
@@ -1019,7 +1152,7 @@ def block_cases(words, block, text):
         yield "%d, block %d" % (refusal_of(text)[0], block)
         return
     blocks, first = up(len(judged(words).rows), BLOCK_ROWS), BLOCK_ROWS * block
-    yield "blocks %d, block %d" % (blocks, block)
+    yield "%sblocks %d, block %d" % ("hundredths, " if in_hundredths(words) else "", blocks, block)
     if answer(words, LINE_SIZE * TRANCHES) != "weighed":
         yield "%s where it is weighed, block %d" % (answer(words, LINE_SIZE * TRANCHES), block)
     if blocks <= block and block % 2**32 < blocks:
@@ -1037,6 +1170,7 @@ def check_totals(read):
     due += ["status %d, %s row of a block" % case for case in product(range(4), ("first", "last"))] + ["known exposure 0", "weighted exposure 0"]
     due += ["%d in the totals too" % number for number in (*range(1, 12), 16, 17, 18)] + ["13 in the report alone"]
     due += ["blocks %d, block %d" % case for case in ((1, 0), (1, 1), (2, 0), (2, 1), (2, 2), (20, 0), (20, 19), (20, 20), *product((1, 2, 20), (2**64 - 1,)))]
+    due += ["hundredths, blocks %d, block %d" % case for case in ((2, 0), (2, 1), (2, 2), (20, 0), (20, 19), (20, 20))]
     due += ["%d, block %d" % case for case in product((3, 6), (0, 2, 2**64 - 1))]
     due += ["refused 13 at 22 where it is weighed, block %d" % block for block in (0, 1)]
     due += ["block %d past the last, in 32 bits one of the pool's" % block for block in (2**32, 2**63)]
@@ -1214,6 +1348,443 @@ def check_inferred(sheets, texts):
     check_met(due, met)
 
 
+# ---- the cases of the unit of risk weights
+
+
+def weight_cases(words, number, place):
+    """What the risk weights of a sheet are an example of: each that is accepted, and one that is refused."""
+    unit, facts = int(in_hundredths(words)), words[0]
+    with suppress(IndexError):
+        for at in weights_at(words):
+            if number == 6 and place == at:
+                yield "6, facts %d, unit %d, weight %d" % (facts, unit, words[at])
+            elif number in (0, 13):
+                yield "facts %d, unit %d, weight %d" % (facts, unit, words[at])
+
+
+def hundredths_cases(words, number):
+    """What a sheet in hundredths that is accepted, or that 13 refuses, is an example of."""
+    if number == 13:
+        yield "hundredths, 13"
+        return
+    for line in weighed(words)[1]:
+        deal, cap = line.deal, cap_of(line.deal, line.approach, line.tranche.rank == 1)
+        kind = "re-securitisation" if deal.resecuritised else "STC deal" if deal.stc else "ordinary deal"
+        yield "hundredths, approach %d, %s, %s" % (line.approach, kind, "in dates" if words[REPORTING_AT] else "in months")
+        if line.approach in (ERBA, SA) and cap == line.ends.weight < line.raw.weight and cap % 100:
+            yield "hundredths, approach %d, lowered to %d" % (line.approach, cap)
+            if sum(e * w for e, _, w, _ in deal.rows) % sum(e for e, _, _, _ in deal.rows):
+                yield "hundredths, lowered to a cap that is rounded up"
+    deal = judged(words)
+    if by_irba(deal) and any(w % 100 for _, _, w, _ in deal.rows):
+        yield "hundredths, IRB average %d, share %d" % (deal.irb.average, deal.irb.share)
+    yield from ("hundredths, status %d" % s for _, _, w, s in deal.rows if w % 100)
+
+
+def unit_cases(words, text):
+    """What a sheet and the report on it are an example of, by the unit of its risk weights."""
+    number, place = refusal_of(text) or (0, 0)
+    if place == UNIT_AT and words[0] == FACTS_MOST:
+        yield "%d at the seventh fact, %s" % (number, words[UNIT_AT] if UNIT_AT < len(words) else "missing")
+    elif place > UNIT_AT or number == 0:
+        yield from weight_cases(words, number, place)
+        if in_hundredths(words) and number in (0, 13):
+            yield from hundredths_cases(words, number)
+
+
+def with_average(scale):
+    """The misreading of the IRB average in another unit."""
+
+    def judging(words):
+        deal = judged(words)
+        return deal._replace(irb=deal.irb._replace(average=scale(deal.irb.average, in_hundredths(words)))) if deal.irb else deal
+
+    return judging
+
+
+def with_sums(scale):
+    """The misreading of weighted sums in another unit."""
+
+    def judging(words):
+        deal = judged(words)
+        return deal._replace(rows=[(e, n, scale(w, in_hundredths(words)), s) for e, n, w, s in deal.rows])
+
+    return judging
+
+
+def units(percent=PERCENT, hundredths=HUNDREDTHS, *others):
+    """The misreading of a unit's limit, of what it is in hundredths, or of the seventh fact's codes."""
+    return partial(judged, units=(percent, hundredths, *others))
+
+
+# The sheets that S-9 changes, misread.
+OTHER_UNITS = {
+    "hundredths to 1250": units(hundredths=HUNDREDTHS._replace(most=1250)),
+    "hundredths to 12,500": units(hundredths=HUNDREDTHS._replace(most=12_500)),
+    "hundredths to 124,999": units(hundredths=HUNDREDTHS._replace(most=124_999)),
+    "hundredths to 125,001": units(hundredths=HUNDREDTHS._replace(most=125_001)),
+    "percent to 125,000": units(percent=PERCENT._replace(most=125_000)),
+    "hundredths read as percent": units(hundredths=HUNDREDTHS._replace(hundredths=PERCENT.hundredths)),
+    "hundredths rounded down to percent": units(hundredths=HUNDREDTHS._replace(hundredths=lambda word: word // 100 * 100)),
+    "hundredths rounded up to percent": units(hundredths=HUNDREDTHS._replace(hundredths=lambda word: up(word, 100) * 100)),
+    "thousandths": units(hundredths=HUNDREDTHS._replace(hundredths=lambda word: Fraction(word, 10))),
+    "the codes the other way round": units(HUNDREDTHS, PERCENT),
+    "a seventh fact of 2 as percent": units(PERCENT, HUNDREDTHS, PERCENT),
+    "a seventh fact of 2 as hundredths": units(PERCENT, HUNDREDTHS, HUNDREDTHS),
+    "no seventh fact as hundredths": lambda words: judged(words, UNITS if words[:1] == [FACTS_MOST] else (HUNDREDTHS, HUNDREDTHS)),
+    "the IRB average in the sheet's unit": with_average(lambda average, hundredths: average if hundredths else 100 * average),
+    "the IRB average in percent where the unit is hundredths": with_average(lambda average, hundredths: 100 * average if hundredths else average),
+    "the IRB average divided by 100 where the unit is hundredths": with_average(lambda average, hundredths: average // 100 if hundredths else average),
+}
+
+# The same of the totals by portfolio alone.
+OTHER_SUMS = {
+    "weighted sums in percent": with_sums(lambda weight, hundredths: Fraction(weight, 100)),
+    "weighted sums in the sheet's unit": with_sums(lambda weight, hundredths: weight if hundredths else weight // 100),
+    "weighted sums of whole percents": with_sums(lambda weight, hundredths: weight // 100 * 100),
+}
+
+
+def lines_read(words, judging):
+    """The charge and the lines of a sheet so judged, or the refusal."""
+    try:
+        charge, lines = weighed(words, judging=judging)
+        return charge, [forms_of(line) for line in lines]
+    except Refused as r:
+        return str(r)
+
+
+def check_units(sheets, texts):
+    """Every case of the unit of risk weights is met, and every misreading answers some sheet otherwise."""
+    met = {case for name, words in sheets.items() for case in unit_cases(words, texts[name])}
+    due = ["4 at the seventh fact, %d" % word for word in (2, 2**64 - 1)] + ["1 at the seventh fact, missing"]
+    due += ["6, facts %d, unit %d, weight %d" % case for case in ((4, 0, 1251), (5, 0, 1251), (7, 0, 1251), (7, 1, 125_001), *product((7,), (0, 1), (2**64 - 1,)))]
+    due += ["facts %d, unit 0, weight %d" % case for case in product((4, 7), (0, 1250))]
+    due += ["facts 7, unit 1, weight %d" % weight for weight in (0, 1, 99, 100, 1250, 1251, 3750, 12_550, 124_999, 125_000)]
+    due += ["hundredths, 13", *("hundredths, status %d" % status for status in range(4))]
+    approaches = *product((ERBA, SA, IRBA), ("ordinary deal", "STC deal")), (SA, "re-securitisation")
+    due += ["hundredths, approach %d, %s, in months" % case for case in ((FALLBACK, "ordinary deal"), *approaches)]
+    due += ["hundredths, approach %d, STC deal, in dates" % approach for approach in (ERBA, SA)]
+    due += ["hundredths, approach %d, lowered to %d" % case for case in ((ERBA, 3750), (SA, 3750), (ERBA, 1250))]
+    due += ["hundredths, lowered to a cap that is rounded up", "hundredths, IRB average 3333, share 950000"]
+    right, sums = ({name: by(words, judged) for name, words in sheets.items()} for by in (lines_read, totals))
+    for by, as_due, misreadings in ((lines_read, right, OTHER_UNITS), (totals, sums, OTHER_SUMS)):
+        for name, judging in misreadings.items():
+            due.append("S-9 misread, %s" % name)
+            met.update(due[-1:] if any(by(words, judging) != as_due[sheet] for sheet, words in sheets.items()) else [])
+    check_met(due, met)
+
+
+# ---- the cases of the converter
+
+
+def refused_cases(words, text, refusal):
+    """What a refused conversion is an example of, with the report on the sheet."""
+    number, place = refusal
+    uneven = []
+    with suppress(IndexError):
+        uneven.extend(not_whole(words))
+    if number == 19:
+        places = weights_at(words)
+        yield "19 at row %d of %d, %s" % (places.index(uneven[0]) + 1, len(places), "one of several" if len(uneven) > 1 else "the only one")
+        yield "19, weight %d" % words[place]
+        yield "19, %d in the report" % (refusal_of(text) or (0,))[0]
+    elif refusal_of(text) == refusal:
+        yield "%d in the conversion too, facts %d" % (number, words[0] if words else 0)
+        if uneven:
+            yield "%d %s 19" % (number, "at a lower place than" if place < uneven[0] else "before")
+
+
+def written_cases(words, text):
+    """What a sheet that is converted, and the report on it, are an example of."""
+    way = "to percent" if in_hundredths(words) else "to hundredths"
+    deal = judged(words)
+    yield "facts %d, %s" % (words[0], way)
+    if refusal_of(text):
+        yield "13, facts %d, %s" % (words[0], way)
+    if words[0] > 5 and words[REPORTING_AT]:
+        yield "in dates, %s" % way
+    if deal.stc or deal.resecuritised:
+        yield "%s, %s" % ("STC deal" if deal.stc else "re-securitisation", way)
+    if deal.irb:
+        yield "IRB section, %s" % way
+    for at, becomes in zip(weights_at(words), weights_at(converted(words))):
+        yield "%d becomes %d, %s" % (words[at], converted(words)[becomes], way)
+
+
+def conversion_cases(words, text):
+    """What a sheet, the report on it and its conversion are an example of."""
+    refusal = refusal_of(conversion(words, [0] * MOST_WORDS)[0])
+    return refused_cases(words, text, refusal) if refusal else written_cases(words, text)
+
+
+def check_laws(words):
+    """The laws of a sheet that is converted: the converted one is accepted just where the given one is, 13 at its moved place, and has the same lines and totals;
+    converted twice it is the filled sheet; the count is the length plus the facts that are filled in."""
+    other, places = converted(words), FACTS_MOST - words[0]
+    lines = lines_read(words, judged)
+    same = lines_read(other, judged) == (moved(lines, places) if isinstance(lines, str) else lines) and totals(other) == totals(words)
+    if not same or converted(other) != filled(words) or len(other) != len(words) + places:
+        sys.exit("a conversion breaks a law of S-9: %s" % spaced(words))
+
+
+# The converter's own misreadings: its refusals otherwise, what it writes otherwise, its answer otherwise.
+
+
+def early(refusal):
+    """A refusal where the words need not be good: of a sheet that ends too early there is none."""
+
+    def judging(words, room):
+        with suppress(IndexError):
+            refusal(words, room)
+
+    return judging
+
+
+def words_alone(words, room):
+    """The refusals of the words, without 3."""
+    try:
+        judged(words)
+    except Refused as r:
+        if r.args[0] != 3:
+            raise
+
+
+def filled_places(words, room):
+    """The refusals of the words and 3, at the places of the filled sheet."""
+    try:
+        judged(words)
+    except Refused as r:
+        number, place = r.args
+        facts = words[0] if words and FACTS_LEAST <= words[0] <= FACTS_MOST else FACTS_MOST
+        raise Refused(number, place + FACTS_MOST - facts if place > facts else place)
+
+
+def thin(words, room):
+    """13 too."""
+    weighed(words)
+
+
+def not_whole_at(place_of):
+    """19 at another place: `place_of` makes it of the places of the weights that are no whole percents."""
+
+    def judging(words, room):
+        uneven = list(not_whole(words))
+        if uneven:
+            raise Refused(19, place_of(uneven))
+
+    return judging
+
+
+def in_the_first_row_alone(words, room):
+    """19 for the first row's weight alone."""
+    for at in not_whole(words):
+        if at == weights_at(words)[0]:
+            raise Refused(19, at)
+
+
+def upwards_too(words, room):
+    """19 for a weight in percent too."""
+    for at in weights_at(words):
+        if words[at] % 100:
+            raise Refused(19, at)
+
+
+def room_for(needed):
+    """14 by another number of words."""
+
+    def judging(words, room):
+        if room < needed(words):
+            raise Refused(14, 0)
+
+    return judging
+
+
+OTHER_REFUSALS = {
+    "19 before the refusals of the words": (early(no_whole_percent), bad_words, too_short),
+    "19 before 3": (words_alone, no_whole_percent, bad_words, too_short),
+    "14 before the refusals of the words": (early(too_short), bad_words, no_whole_percent),
+    "14 before 3": (words_alone, too_short, bad_words, no_whole_percent),
+    "14 before 19": (bad_words, too_short, no_whole_percent),
+    "3 left out": (words_alone, no_whole_percent, too_short),
+    "19 left out": (bad_words, too_short),
+    "13 judged": (bad_words, no_whole_percent, too_short, thin),
+    "13 before 14": (bad_words, no_whole_percent, thin, too_short),
+    "places of the filled sheet": (filled_places, no_whole_percent, too_short),
+    "19 at the last weight that is no whole percent": (bad_words, not_whole_at(lambda uneven: uneven[-1]), too_short),
+    "19 at the start of the row": (bad_words, not_whole_at(lambda uneven: uneven[0] - 2), too_short),
+    "19 at place 0": (bad_words, not_whole_at(lambda uneven: 0), too_short),
+    "19 in the first row alone": (bad_words, in_the_first_row_alone, too_short),
+    "19 going up to hundredths": (bad_words, upwards_too, too_short),
+    "14 by the given sheet's length": (bad_words, no_whole_percent, room_for(len)),
+    "14 at an exact fit": (bad_words, no_whole_percent, room_for(lambda words: len(filled(words)) + 1)),
+    "14 below the longest sheet": (bad_words, no_whole_percent, room_for(lambda words: MOST_WORDS)),
+}
+
+
+def scaling(places_of):
+    """The misreading that the words at these places of the rewritten sheet are multiplied or divided too."""
+
+    def rewriting(words):
+        sheet = rewritten(words)
+        for at in places_of(sheet):
+            sheet[at] = sheet[at] // 100 if in_hundredths(words) else 100 * sheet[at]
+        return sheet
+
+    return rewriting
+
+
+def tranches_at(words, word):
+    """The places of a word of each tranche in a sheet of seven facts."""
+    count_at = FACTS_MOST + 2 + ROW_SIZE * words[FACTS_MOST + 1]
+    return range(count_at + 1 + word, count_at + 1 + TRANCHE_SIZE * words[count_at], TRANCHE_SIZE)
+
+
+def irb_at(words):
+    """The place of the IRB section's count in a sheet of seven facts, the sheet's length where it has none."""
+    return tranches_at(words, 0)[-1] + TRANCHE_SIZE
+
+
+def with_unit(unit_of):
+    """The misreading of the unit that is written."""
+
+    def rewriting(words):
+        sheet = rewritten(words)
+        sheet[UNIT_AT] = unit_of(words)
+        return sheet
+
+    return rewriting
+
+
+def weights_kept(kept):
+    """The misreading that some weights, by their row from 0 and their number, are written as they stand."""
+
+    def rewriting(words):
+        sheet, places = rewritten(words), weights_at(filled(words))
+        for row, at in enumerate(places):
+            sheet[at] = filled(words)[at] if kept(row, len(places)) else sheet[at]
+        return sheet
+
+    return rewriting
+
+
+def not_filled(words):
+    """The misreading that shorter fact lists stay as they are."""
+    sheet = rewritten(words)
+    return [words[0], *sheet[1:1 + words[0]], *sheet[1 + FACTS_MOST:]]
+
+
+def unit_after_the_facts(words):
+    """The misreading that the unit is written right after the facts that are there."""
+    sheet = not_filled(words)
+    return rewritten(words) if words[0] == FACTS_MOST else [words[0] + 1, *sheet[1:1 + words[0]], 1, *sheet[1 + words[0]:]]
+
+
+OTHER_SHEETS = {
+    "filling left out": not_filled,
+    "the count of facts kept": lambda words: [words[0], *rewritten(words)[1:]],
+    "the unit right after the facts": unit_after_the_facts,
+    "the unit not flipped": with_unit(lambda words: int(in_hundredths(words))),
+    "the unit always hundredths": with_unit(lambda words: 1),
+    "the unit always percent": with_unit(lambda words: 0),
+    "hundredths always written": lambda words: list(words) if in_hundredths(words) else rewritten(words),
+    "percent always written": lambda words: rewritten(words) if in_hundredths(words) else filled(words),
+    "exposure scaled too": scaling(lambda sheet: [at - 2 for at in weights_at(sheet)]),
+    "nominal scaled too": scaling(lambda sheet: [at - 1 for at in weights_at(sheet)]),
+    "tranche amounts scaled too": scaling(lambda sheet: tranches_at(sheet, 0)),
+    "held amounts scaled too": scaling(lambda sheet: tranches_at(sheet, 3)),
+    "the IRB average scaled too": scaling(lambda sheet: range(irb_at(sheet) + IRB_SIZE, len(sheet))),
+    "the IRB charge scaled too": scaling(lambda sheet: range(irb_at(sheet) + 1, len(sheet))[:1]),
+    "weights not scaled": weights_kept(lambda row, rows: True),
+    "the first row's weight alone": weights_kept(lambda row, rows: row > 0),
+    "not the first row's weight": weights_kept(lambda row, rows: row == 0),
+    "not the last row's weight": weights_kept(lambda row, rows: row == rows - 1),
+    "the first block's weights alone": weights_kept(lambda row, rows: row >= BLOCK_ROWS),
+    "the IRB section left out": lambda words: rewritten(words)[:irb_at(rewritten(words))],
+}
+
+
+def rounded(words, output, way):
+    """The misreading that a weight that is no whole percent is rounded."""
+    even = list(words)
+    with suppress(IndexError):
+        for at in weights_at(words) if in_hundredths(words) else ():
+            even[at] = way(words[at]) * 100
+    with suppress(Refused):
+        judged(words)
+        return conversion(even, output)
+    return conversion(words, output)
+
+
+def later_words_cleared(words, output):
+    """The misreading that the words after those written are set to 0."""
+    answer, after = conversion(words, output)
+    count = 0 if refusal_of(answer) else int(answer.split()[1])
+    return answer, after[:count] + [0] * (len(after) - count) if count else after
+
+
+def written_before_refusing(words, output):
+    """The misreading that words are written until a weight that is no whole percent is met, or until the output is full."""
+    answer, after = conversion(words, output)
+    number, place = refusal_of(answer) or (0, 0)
+    if number not in (14, 19):
+        return answer, after
+    part = filled(words)[:place if number == 19 else len(output)]
+    return answer, (part + output[len(part):])[:len(output)]
+
+
+def count_of_the_given_sheet(words, output):
+    """The misreading that the answer counts the words of the sheet as given."""
+    answer, after = conversion(words, output)
+    return answer if refusal_of(answer) else "converted %d" % len(words), after
+
+
+OTHER_ANSWERS = {
+    "weights rounded down to percent": partial(rounded, way=lambda word: word // 100),
+    "weights rounded up to percent": partial(rounded, way=lambda word: up(word, 100)),
+    "later words cleared": later_words_cleared,
+    "words written before a refusal": written_before_refusing,
+    "the count of the given sheet": count_of_the_given_sheet,
+}
+
+OTHER_CONVERSIONS = {name: partial(conversion, refusals=refusals) for name, refusals in OTHER_REFUSALS.items()}
+OTHER_CONVERSIONS |= {name: partial(conversion, rewriting=rewriting) for name, rewriting in OTHER_SHEETS.items()} | OTHER_ANSWERS
+
+
+def said_of(sheets, lent, converting):
+    """What is printed of all conversions, worked out so: of an example the words that are written, and of lent words each as it is after it."""
+    examples = [written_text(*converting(words, [0] * MOST_WORDS)) for words in sheets.values()]
+    return examples + [converting(words, [UNTOUCHED] * room) for words, room, _ in lent]
+
+
+def check_conversions(sheets, texts, lent):
+    """Every case of the converter is met, every law kept, and every misreading answers some sheet otherwise."""
+    met = {case for name, words in sheets.items() for case in conversion_cases(words, texts[name])} | {text for _, _, text in lent}
+    for words, _, _ in PORTFOLIOS:
+        if not refusal_of(conversion(words, [0] * MOST_WORDS)[0]):
+            check_laws(words)
+    due = ["facts %d, to hundredths" % facts for facts in range(FACTS_LEAST, FACTS_MOST + 1)] + ["facts 7, to percent"]
+    due += ["13, facts %d, to hundredths" % facts for facts in range(FACTS_LEAST, FACTS_MOST + 1)] + ["13, facts 7, to percent"]
+    due += ["%s, %s" % case for case in product(("in dates", "STC deal", "re-securitisation", "IRB section"), ("to hundredths", "to percent"))]
+    due += ["%d becomes %d, to hundredths" % (weight, 100 * weight) for weight in (0, 1, 1250)]
+    due += ["%d becomes %d, to percent" % (100 * weight, weight) for weight in (0, 1, 1250)]
+    due += ["%d in the conversion too, facts 4" % number for number in (1, *range(3, 12), 18)] + ["2 in the conversion too, facts %d" % facts for facts in (3, 8)]
+    due += ["%d in the conversion too, facts %d" % case for case in ((16, 5), (17, 6), *product((1, 2, 3, 4, 5, 6, 7, 11, 18), (7,)))]
+    due += ["19 at row 1 of 2, the only one", "19 at row 2 of 2, the only one", "19 at row 2 of 4, one of several", "19 at row 51 of 51, the only one"]
+    due += ["19, weight %d" % weight for weight in (1, 99, 1250, 1251, 3750, 12_550, 124_999)] + ["19, %d in the report" % number for number in (0, 13)]
+    due += ["%d before 19" % number for number in (1, 2, 3, 6, 7, 11, 18)] + ["5 at a lower place than 19"]
+    due += ["four facts, output of %d words: %s" % case for case in ((0, "refused 14 at 0"), (20, "refused 14 at 0"), (21, "converted 21"), (23, "converted 21"))]
+    due += ["hundredths, output of %d words: %s" % case for case in ((0, "refused 14 at 0"), (20, "refused 14 at 0"), (21, "converted 21"), (23, "converted 21"))]
+    due += ["hundredths, risk weight 12550, output of %d words: refused 19 at 11" % room for room in (0, 20, 21, 23)]
+    due += ["four facts, a word too many, output of 20 words: refused 3 at 18", "four facts, risk weight 1251, output of 20 words: refused 6 at 8"]
+    due += ["thin tranche, output of %d words: %s" % case for case in ((38, "refused 14 at 0"), (39, "converted 39"))]
+    right = said_of(sheets, lent, conversion)
+    for name, converting in OTHER_CONVERSIONS.items():
+        due.append("S-9's converter misread, %s" % name)
+        met.update(due[-1:] if said_of(sheets, lent, converting) != right else [])
+    check_met(due, met)
+
+
 # ---- published weights
 
 # Annex 1 of source document 004: the example, its row, the weight and the risk-weighted amount. Its maturity of 34.5 months lies between 34 and 35.
@@ -1237,14 +1808,17 @@ if __name__ == "__main__":
     print_limits()
     print_pools()
     READ = print_blocks()
+    LENT = print_outputs()
     SHEETS = read_examples()
     TEXTS = print_examples(SHEETS)
     check_tables(TEXTS)
     check_ratings()
     check_dates(SHEETS, TEXTS)
-    check_same_lines(TEXTS)
+    check_same_lines(SHEETS, TEXTS)
     check_irba(SHEETS, TEXTS)
     check_ends(ROOMS)
     check_totals(READ)
     check_inferred(SHEETS, TEXTS)
+    check_units(SHEETS, TEXTS)
+    check_conversions(SHEETS, TEXTS, LENT)
     check_published(TEXTS)

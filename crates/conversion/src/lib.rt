@@ -61,11 +61,7 @@ fn other_weight(hundredths: bool, w: u64) -> u64
     requires { ⌜ w ≤ 125000 ⌝ }
     ensures { λ r. ⌜ r ≡ otherWeight hundredths w ⌝ }
 {
-    if hundredths {
-        w / PERCENT
-    } else {
-        w * PERCENT
-    }
+    if hundredths { w / PERCENT } else { w * PERCENT }
 }
 
 // Whether a risk weight stands at a place of the sheet.

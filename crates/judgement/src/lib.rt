@@ -127,7 +127,11 @@ fn judge_row_words(s: &[u64], i: u64) -> Verdict
     let mut column = 0;
     while column < ROW_SIZE as u64 {
         let p = at + column;
-        let verdict = judge_word(s, p, row_fault(resecuritised, hundredths, column, word_at(s, p)));
+        let verdict = judge_word(
+            s,
+            p,
+            row_fault(resecuritised, hundredths, column, word_at(s, p)),
+        );
         let Verdict::Sound = verdict else {
             return verdict;
         };
@@ -145,7 +149,14 @@ fn judge_row(s: &[u64], i: u64) -> Verdict
     let hundredths = in_hundredths(s);
     let at = row_at(s, i) as usize;
     if at + ROW_SIZE <= s.len() {
-        if row_is_good(resecuritised, hundredths, s[at], s[at + 1], s[at + 2], s[at + 3]) {
+        if row_is_good(
+            resecuritised,
+            hundredths,
+            s[at],
+            s[at + 1],
+            s[at + 2],
+            s[at + 3],
+        ) {
             return Verdict::Sound;
         }
     }

@@ -2,7 +2,7 @@
 
 use crate::deals::ROOM;
 use independent::{Deal, Line, Refusal};
-use tranche_weights::{LINE_WORDS, MOST_BLOCKS};
+use tranche_weights::{LINE_WORDS, MOST_BLOCKS, SHEET_WORDS};
 
 /// Count and charge, or else number and place of the refusal.
 type Outcome = Result<(u64, u64), (u64, u64)>;
@@ -39,6 +39,19 @@ pub fn check_blocks(name: &str, sheet: &[u64]) -> Result<(), String> {
         }
     }
     Ok(())
+}
+
+/// Holds the proved conversion of a sheet to the exact one. Neither refuses it.
+pub fn check_conversion(name: &str, sheet: &[u64]) -> Result<(), String> {
+    let mut output = [0; SHEET_WORDS];
+    let proved = tranche_weights::convert_words(sheet, &mut output);
+    let exact = independent::convert(sheet, SHEET_WORDS as u64);
+    match (proved, &exact) {
+        (Ok(count), Ok(exact)) if output[..count] == exact[..] => Ok(()),
+        _ => Err(format!(
+            "the proved conversion differs on the sheet \"{name}\": {proved:?} where {exact:?} is due"
+        )),
+    }
 }
 
 /// Whether each of the seven sums is the same.
@@ -104,14 +117,17 @@ mod tests {
         line.least_weights.iter().flat_map(beside).collect()
     }
 
-    /// The proved and the plain answer to each sheet of the table are admitted, and so are the proved sums of its blocks
-    /// where it is not refused.
+    /// The proved and the plain answer to each sheet of the table are admitted, and so are the proved sums of its blocks and
+    /// its proved conversion where these are not refused.
     #[test]
     fn compared_sheets_agree() {
         for (name, sheet) in deals::compared() {
             assert_eq!(check(name, &sheet), Ok(None), "{name}");
             if independent::block_sums(&sheet, 0).is_ok() {
                 assert_eq!(check_blocks(name, &sheet), Ok(()), "{name}");
+            }
+            if independent::convert(&sheet, u64::MAX).is_ok() {
+                assert_eq!(check_conversion(name, &sheet), Ok(()), "{name}");
             }
         }
     }

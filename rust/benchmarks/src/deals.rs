@@ -14,6 +14,9 @@ const STC: &[u64] = &[0, 0, 1, 1, 1];
 /// Those of an ordinary deal with a reporting date.
 const DATED: &[u64] = &[0, 0, 1, 1, 0, 20_260_630];
 
+/// Those of an ordinary deal whose risk weights are in hundredths of a percent.
+const HUNDREDTHS: &[u64] = &[0, 0, 1, 1, 0, 0, 1];
+
 /// Those of an ordinary deal of a mixed pool.
 const MIXED: &[u64] = &[2, 0, 1, 1];
 
@@ -39,13 +42,14 @@ const LONGEST: u64 = 120;
 const INFERRED_FROM: [(u64, u64, u64); 3] = [(10, 36, 9), (20, 48, 12), (31, 60, 14)];
 
 /// The sheets on which the versions are compared, with their names in the table.
-pub fn compared() -> [(&'static str, Vec<u64>); 14] {
+pub fn compared() -> [(&'static str, Vec<u64>); 15] {
     [
         ("small: 3 rows, 3 tranches, one unrated", small()),
         ("small, all tranches rated", small_rated()),
         ("small, three ratings on each tranche", small_rated_thrice()),
         ("small, all tranches with a short-term rating", small_short_term()),
         ("small, all tranches rated, maturities as dates", small_dated()),
+        ("small, risk weights in hundredths of a percent", small_hundredths()),
         ("small STC deal: 3 rows, 3 tranches, one unrated", small_stc()),
         ("small STC deal, all tranches rated", small_stc_rated()),
         ("small SEC-IRBA deal: mixed pool, 3 rows, 3 tranches", small_irba()),
@@ -100,6 +104,11 @@ fn small_dated() -> Vec<u64> {
         tranche[MATURITY] = maturity;
     }
     sheet(DATED, &few_rows(100), &tranches)
+}
+
+/// The small deal with risk weights in hundredths of a percent, 100%, 99.75% and 100%.
+fn small_hundredths() -> Vec<u64> {
+    sheet(HUNDREDTHS, &few_rows(10_000), &three_tranches(1_000_000_000, 0))
 }
 
 /// The small deal as an STC deal: half the parameter, and the second rating table.
@@ -257,10 +266,11 @@ mod tests {
         by_formula && charge >= 1 && line.detachment > charge
     }
 
-    /// The unrated tranche takes the formula, with and without the STC mark and with a second block.
+    /// The unrated tranche takes the formula, with and without the STC mark, with risk weights in hundredths and with a
+    /// second block.
     #[test]
     fn small_deals_are_as_named() {
-        for small in [small(), small_stc(), past_one_block()] {
+        for small in [small(), small_hundredths(), small_stc(), past_one_block()] {
             let small = deal(&small);
             let approaches: Vec<Approach> = small.lines.iter().map(|line| line.approach.into()).collect();
             assert_eq!(approaches, [Approach::SecErba, Approach::SecErba, Approach::SecSa]);
@@ -305,6 +315,15 @@ mod tests {
     #[test]
     fn dates_are_as_many_months_on() {
         assert_eq!(weights(&small_dated()), weights(&small_rated()));
+    }
+
+    /// The row of 99.75% is 35% of the pool, so that the base charge is 70 millionths less than 80,000; a twentieth is late.
+    /// It is no whole percent.
+    #[test]
+    fn hundredths_count() {
+        let hundredths = deal(&small_hundredths());
+        assert_eq!(hundredths.charge, (19 * 79_930 + 500_000_u64).div_ceil(20));
+        assert!(independent::convert(&small_hundredths(), u64::MAX).is_err_and(|refusal| refusal.number == 19));
     }
 
     /// With short-term grades each weight is the grade's figure; the first is the floor too, and the cap lowers none.

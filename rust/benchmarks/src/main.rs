@@ -1,9 +1,9 @@
 //! Times of the proved calculator beside a plain double-precision one and the exact independent one.
 //!
 //! `cargo run --release -p benchmarks` prints, as text that can stand in a README: the time per sheet of the three on
-//! some sheets, with ratios; sheets per second on one core and on all; the time to read a block's sums; and how the
-//! time grows with rows and tranches. Before a sheet is timed, its answers are compared. `--quick` takes fewer rounds
-//! and shorter runs.
+//! some sheets, with ratios; sheets per second on one core and on all; the time to read a block's sums and to convert a
+//! sheet to the other unit of risk weights; and how the time grows with rows and tranches. Before a sheet is timed, its
+//! answers are compared. `--quick` takes fewer rounds and shorter runs.
 
 #![forbid(unsafe_code)]
 
@@ -46,6 +46,7 @@ fn run(plan: &Plan) -> Result<(), String> {
     compare(plan)?;
     throughput(plan);
     block_sums(plan)?;
+    conversions(plan)?;
     for series in [growth::by_rows(), growth::by_tranches()] {
         println!("\n{}", series.measured(plan)?);
     }
@@ -118,6 +119,23 @@ fn block_sums(plan: &Plan) -> Result<(), String> {
     println!(
         "\nSums of one block of the large sheet (proved): {}; median of {} rounds.",
         duration(timing::median(&times[0])),
+        plan.rounds
+    );
+    Ok(())
+}
+
+/// The time to convert the small and the large deal to the other unit of risk weights, by the proved version.
+fn conversions(plan: &Plan) -> Result<(), String> {
+    let deals = [("small", deals::small()), ("large", deals::large())];
+    for (name, sheet) in &deals {
+        agreement::check_conversion(name, sheet)?;
+    }
+    let version = versions::proved_conversion;
+    let works = deals.each_ref().map(|(_, sheet)| Work { version, sheet });
+    let times = timing::rounds(&works, plan);
+    let [small, large] = [0, 1].map(|deal| duration(timing::median(&times[deal])));
+    println!(
+        "Conversion of the small sheet to hundredths (proved): {small}, of the large one {large}; median of {} rounds.",
         plan.rounds
     );
     Ok(())

@@ -1,11 +1,11 @@
 //! Rounds of repeated calls, and the medians, quartiles and ratios of their times.
 
-use crate::deals::ROOM;
 use crate::versions::Version;
 use std::array;
 use std::fmt;
 use std::thread;
 use std::time::{Duration, Instant};
+use tranche_weights::SHEET_WORDS;
 
 /// How many rounds to take and how long each should be.
 pub struct Plan {
@@ -43,7 +43,7 @@ pub struct Work<'a> {
 impl Work<'_> {
     /// Weighs the sheet again and again, with results of its own.
     fn repeat(&self, times: u64) {
-        let mut results = [0; ROOM];
+        let mut results = [0; SHEET_WORDS];
         for _ in 0..times {
             (self.version)(self.sheet, &mut results);
         }

@@ -1,10 +1,11 @@
-//! The three versions, and the reading of a block's sums, in the one form that is timed. Inputs and answers pass
-//! through `black_box`, so that the compiler can neither foresee the sheet nor drop the answer.
+//! The three versions, the reading of a block's sums and the conversion of a sheet, in the one form that is timed. Inputs
+//! and answers pass through `black_box`, so that the compiler can neither foresee the sheet nor drop the answer.
 
 use std::hint::black_box;
 use tranche_weights::MOST_BLOCKS;
 
-/// Weighs a sheet once. The results are lent to every version; the exact one makes its own.
+/// Weighs a sheet once. The results are lent to every version; the exact one makes its own. They are as long as the largest
+/// sheet, so that a sheet can be written there too.
 pub type Version = fn(&[u64], &mut [u64]);
 
 /// The versions in the order of the table's columns.
@@ -29,4 +30,9 @@ pub fn exact(sheet: &[u64], results: &mut [u64]) {
 pub fn proved_block_sums(sheet: &[u64], _: &mut [u64]) {
     let last = MOST_BLOCKS as u64 - 1;
     let _ = black_box(tranche_weights::block_sums(black_box(sheet), black_box(last)));
+}
+
+/// The sheet in the other unit of risk weights, by the proved version.
+pub fn proved_conversion(sheet: &[u64], output: &mut [u64]) {
+    let _ = black_box(tranche_weights::convert_words(black_box(sheet), black_box(output)));
 }

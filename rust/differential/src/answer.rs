@@ -1,5 +1,5 @@
-//! The numbers of an answer, by "The deal sheet" and "Refusals, by who can cause them" of document 01, by S-1, S-3 and
-//! S-5 to S-7: the words of a line, the words of a block's sums, the approaches, the refusals.
+//! The numbers of an answer, by "The deal sheet" and "Refusals, by who can cause them" of document 01, by S-1, S-3, S-5
+//! to S-7 and S-9: the words of a line, the words of a block's sums, the approaches, the refusals.
 
 use crate::sheet::TRANCHES;
 use independent::{BlockSums, Totals};
@@ -50,13 +50,13 @@ pub enum SumWord {
     Exposure,
     /// Nominal over all rows.
     Nominal,
-    /// Exposure times risk weight over all rows.
+    /// Exposure times risk weight, in hundredths of a percent, over all rows.
     WeightedExposure,
     /// Exposure over the rows with known status.
     KnownExposure,
     /// Nominal over the rows with known status.
     KnownNominal,
-    /// Exposure times risk weight over the rows with known status.
+    /// The same over the rows with known status.
     KnownWeightedExposure,
     /// Nominal over the delinquent rows.
     LateNominal,
@@ -137,11 +137,13 @@ pub mod refusal {
     pub const WORDS_FOLLOW: u64 = 3;
     /// A fact is outside its codes.
     pub const FACT: u64 = 4;
+    /// A risk weight is above the limit of its unit.
+    pub const RISK_WEIGHT: u64 = 6;
     /// A maturity is outside its months.
     pub const MATURITY: u64 = 10;
     /// The formula applies, A equals D, and D is above the charge.
     pub const THIN: u64 = 13;
-    /// Results shorter than the lines.
+    /// Results shorter than the lines, or an output shorter than the rewritten sheet.
     pub const ROOM: u64 = 14;
     /// A file's length is no multiple of a word's bytes, or above the longest.
     pub const FILE_LENGTH: u64 = 15;
@@ -151,6 +153,8 @@ pub mod refusal {
     pub const DATE: u64 = 17;
     /// A figure of the IRB section is outside its limits.
     pub const IRB_FIGURE: u64 = 18;
+    /// A risk weight that is to be written in whole percent is no multiple of it.
+    pub const NOT_WHOLE_PERCENT: u64 = 19;
 
     /// The numbers that a run must meet.
     pub const MET: &[u64] = &[
@@ -159,7 +163,7 @@ pub mod refusal {
         WORDS_FOLLOW,
         FACT,
         5,
-        6,
+        RISK_WEIGHT,
         7,
         8,
         9,
@@ -171,6 +175,7 @@ pub mod refusal {
         STC_RESECURITISATION,
         DATE,
         IRB_FIGURE,
+        NOT_WHOLE_PERCENT,
     ];
 
     /// The place of a number in the list.
@@ -180,9 +185,9 @@ pub mod refusal {
     }
 
     /// Whether a sheet's words alone, or the deal that they state, are refused by this number: neither the room nor the
-    /// length of a file.
+    /// length of a file, and not the conversion.
     pub fn is_of_words(number: u64) -> bool {
-        MET.contains(&number) && number != ROOM && number != FILE_LENGTH
+        MET.contains(&number) && ![ROOM, FILE_LENGTH, NOT_WHOLE_PERCENT].contains(&number)
     }
 }
 
@@ -238,6 +243,7 @@ mod tests {
             .all(|(place, &number)| refusal::place(number) == place));
         let of_words = [refusal::MISSING, refusal::THIN, refusal::DATE];
         assert!(!refusal::is_of_words(0) && of_words.into_iter().all(refusal::is_of_words));
-        assert!(!refusal::is_of_words(refusal::ROOM) && !refusal::is_of_words(refusal::FILE_LENGTH));
+        let others = [refusal::ROOM, refusal::FILE_LENGTH, refusal::NOT_WHOLE_PERCENT];
+        assert!(!others.into_iter().any(refusal::is_of_words));
     }
 }

@@ -1,16 +1,18 @@
-//! One sheet of a run with all that is done with it: its room for results, its file, a second sheet made from it, and
-//! numbers of blocks.
+//! One sheet of a run with all that is done with it: its room for results, its file, a second sheet made from it, numbers
+//! of blocks, and the output for the sheet in the other unit.
 
 use crate::blocks;
 use crate::damage;
 use crate::dates;
 use crate::inferred;
 use crate::irb;
-use crate::kind::{File, Kind, Relation, Room};
+use crate::kind::{File, Kind, Output, Relation, Room};
 use crate::limits;
 use crate::pool;
 use crate::random::Random;
-use crate::sheet::{file_form, pool_kind, Deal, Fact, Facts, Layout, FACTS, FEWEST_FACTS, FILE_BYTES, WORD_BYTES};
+use crate::sheet::{
+    file_form, pool_kind, takes_facts, unit, write_with_facts, Deal, Fact, Facts, Layout, FACTS, FILE_BYTES, WORD_BYTES,
+};
 use crate::tranches;
 
 /// One sheet of a run. It is made from seed and index alone; making another one reuses its lists.
@@ -34,6 +36,10 @@ pub struct Case {
     pub second: Vec<u64>,
     /// Numbers of blocks to be read besides those that every sheet is asked for.
     pub blocks: [u64; blocks::DRAWN],
+    /// What sort of output is lent for the sheet in the other unit, besides just what that needs.
+    pub output_kind: Output,
+    /// How many output words are lent then.
+    pub output: usize,
     /// The deal that the sheet was written from.
     deal: Deal,
 }
@@ -58,6 +64,8 @@ impl Case {
             relation: Relation::Unused,
             second: Vec::new(),
             blocks: [0; blocks::DRAWN],
+            output_kind: Output::Larger,
+            output: 0,
             deal: Deal::default(),
         }
     }
@@ -78,6 +86,8 @@ impl Case {
         self.make_second(&mut random);
         self.make_file(&mut random);
         self.blocks = blocks::draw(&mut random);
+        self.output_kind = Output::draw(&mut random);
+        self.output = self.output_kind.words(&self.sheet, &mut random);
     }
 
     /// Makes the second sheet. Facts are added to damaged sheets too, and months take the place of dates in them; the
@@ -133,22 +143,10 @@ impl Case {
     }
 }
 
-/// Whether a sheet can state more facts: it states fewer than the most and has all of those.
-fn takes_facts(sheet: &[u64]) -> bool {
-    let stated = sheet.first().copied().unwrap_or(0);
-    (FEWEST_FACTS..FACTS).contains(&stated) && sheet.len() > stated as usize
-}
-
 /// Writes the sheet with one or more facts added, of 0, over what the list holds.
 fn add_facts(random: &mut Random, sheet: &[u64], words: &mut Vec<u64>) {
-    let stated = sheet[Layout::FACTS_COUNT];
-    let filled = random.between(stated + 1, FACTS);
-    let (facts, sections) = sheet.split_at(Layout::FACTS_COUNT + 1 + stated as usize);
-    words.clear();
-    words.extend(facts);
-    words[Layout::FACTS_COUNT] = filled;
-    words.extend((stated..filled).map(|_| 0));
-    words.extend(sections);
+    let facts = random.between(sheet[Layout::FACTS_COUNT] + 1, FACTS);
+    write_with_facts(sheet, facts, words);
 }
 
 /// A length about that of the longest file: half of the time in whole words, from one word less to one more; now and
@@ -173,7 +171,8 @@ fn fill_deal(kind: Kind, random: &mut Random, deal: &mut Deal) {
     irb::aim(random, deal);
 }
 
-/// Draws the facts of a deal of a sound kind. A mark of 0 is stated half of the time.
+/// Draws the facts of a deal of a sound kind. A mark of 0 is stated half of the time, and now and then a unit of whole
+/// percent.
 fn facts(kind: Kind, random: &mut Random) -> Facts {
     let resecuritisation = match kind {
         Kind::Resecuritisation => true,
@@ -193,6 +192,11 @@ fn facts(kind: Kind, random: &mut Random) -> Facts {
     facts[Fact::Composition] = random.below(2);
     if stc || random.once_in(2) {
         facts[Fact::Stc] = u64::from(stc);
+    }
+    match (kind, random.below(8)) {
+        (Kind::Hundredths, _) | (_, 0 | 1) => facts[Fact::Unit] = unit::HUNDREDTHS,
+        (_, 2) => facts[Fact::Unit] = unit::PERCENT,
+        _ => {}
     }
     facts
 }

@@ -2,6 +2,8 @@
 
 use crate::blocks;
 use crate::case::Case;
+use crate::conversion;
+use crate::conversion_law;
 use crate::difference::{Asked, Difference, Part};
 use crate::kind::{File, Relation};
 use crate::lent::Lent;
@@ -24,6 +26,9 @@ pub fn check(library: &Library, case: &Case, lent: &mut Lent, tally: &mut Tally)
     check_second(library, case, &expected, lent, tally)?;
     let blocks = blocks::compare(library.block_sums, case)?;
     tally.note_blocks(&case.sheet, &expected, &blocks);
+    let conversions = conversion::compare(library.convert, case, lent)?;
+    conversion_law::compare(library, case, lent)?;
+    tally.note_conversions(case, &expected, &conversions);
     Ok(())
 }
 
@@ -62,7 +67,9 @@ fn check_second(
             }
             true
         }),
-        Relation::FactsAdded => second::compare_facts_added(library, case, lent).map(|()| true)?,
+        Relation::FactsAdded => {
+            second::compare_moved(Part::FactsAdded, library, case, &case.second, lent).map(|()| true)?
+        }
         Relation::MonthsForDates => second::compare_same(Part::MonthsForDates, library, case, lent).map(|()| true)?,
         Relation::SaPool => second::compare_same(Part::SaPool, library, case, lent).map(|()| true)?,
         Relation::OtherUnderIrba => second::compare_same(Part::OtherUnderIrba, library, case, lent).map(|()| true)?,

@@ -5,9 +5,9 @@ use crate::irb;
 use crate::kind::Kind;
 use crate::random::Random;
 use crate::sheet::{
-    pool_kind, status, Fact, Facts, IrbWord, Layout, RowWord, TrancheWord, DAYS, FACTS, FEWEST_FACTS, IRB_AVERAGE,
-    IRB_COUNT, IRB_SHARE, LONG_TERM, MANY_LOANS, MONTHS, POOL_AMOUNT, RISK_WEIGHT, ROWS, SHORT_TERM, TRANCHES,
-    TRANCHE_AMOUNT, WHOLE,
+    pool_kind, status, takes_facts, unit, write_with_facts, Fact, Facts, IrbWord, Layout, RowWord, TrancheWord, DAYS,
+    FACTS, FEWEST_FACTS, IRB_COUNT, IRB_SHARE, LONG_TERM, MANY_LOANS, MONTHS, NO_UNITS, ONE_PERCENT, POOL_AMOUNT,
+    RISK_WEIGHT, RISK_WEIGHT_PERCENT, ROWS, SHORT_TERM, TRANCHES, TRANCHE_AMOUNT, WHOLE,
 };
 use independent::date::Date;
 
@@ -30,18 +30,20 @@ const EDGES: &[u64] = &[
     TRANCHES - 1,
     TRANCHES,
     TRANCHES + 1,
+    ONE_PERCENT,
     ROWS - 1,
     ROWS,
     ROWS + 1,
     MONTHS - 1,
     MONTHS,
     MONTHS + 1,
+    RISK_WEIGHT_PERCENT - 1,
+    RISK_WEIGHT_PERCENT,
+    RISK_WEIGHT_PERCENT + 1,
+    MANY_LOANS,
     RISK_WEIGHT - 1,
     RISK_WEIGHT,
     RISK_WEIGHT + 1,
-    MANY_LOANS,
-    IRB_AVERAGE,
-    IRB_AVERAGE + 1,
     IRB_SHARE - 1,
     IRB_SHARE,
     WHOLE - 1,
@@ -78,6 +80,8 @@ pub fn apply(kind: Kind, random: &mut Random, layout: Layout, words: &mut Vec<u6
         Kind::StcMark => mark_resecuritisation(random, words),
         Kind::BadDate => set_bad_date(random, layout, words),
         Kind::BadSection => spoil_section(random, layout, words),
+        Kind::OtherUnit => set_unit(random, words),
+        Kind::BadWeight => set_bad_weight(random, layout, words),
         Kind::SeveralDamages => {
             for _ in 0..random.between(2, 4) {
                 apply(one_damage(random), random, layout, words);
@@ -97,6 +101,8 @@ fn one_damage(random: &mut Random) -> Kind {
         Kind::StcMark,
         Kind::BadDate,
         Kind::BadSection,
+        Kind::OtherUnit,
+        Kind::BadWeight,
     ]);
     random.pick(&[Kind::EdgeWord, Kind::EdgeWord, Kind::EdgeWord, Kind::Swapped, rare])
 }
@@ -160,6 +166,30 @@ fn set_bad_date(random: &mut Random, layout: Layout, words: &mut [u64]) {
         }
         None => set(words, place, dates::no_day(random)),
     }
+}
+
+/// Sets the other unit of risk weights, which stay as they are, or a number that is none. A sheet that does not state the
+/// unit gets it, with the facts before it, and its later words move.
+fn set_unit(random: &mut Random, words: &mut Vec<u64>) {
+    if takes_facts(words) {
+        write_with_facts(&words.clone(), FACTS, words);
+    }
+    let place = Layout::fact(Fact::Unit);
+    let old = words.get(place).copied().unwrap_or(unit::PERCENT);
+    let no_unit = random.pick(&NO_UNITS);
+    set(words, place, random.pick(&[unit::other(old), no_unit]));
+}
+
+/// Sets a risk weight above the limit of its unit: just above it, that of hundredths or one more, or any.
+fn set_bad_weight(random: &mut Random, layout: Layout, words: &mut [u64]) {
+    let stated = words
+        .get(Layout::fact(Fact::Unit))
+        .filter(|_| layout.facts as u64 == FACTS);
+    let least = unit::risk_weight(stated.copied().unwrap_or(unit::PERCENT)) + 1;
+    let above = random.between(least, u64::MAX);
+    let row = random.below(layout.rows as u64) as usize;
+    let bad = random.pick(&[least, least, RISK_WEIGHT.max(least), above]);
+    set(words, layout.risk_weight(row), bad);
 }
 
 /// Cuts the sheet anywhere, or where a section begins or ends, or before the last fact.
@@ -264,6 +294,9 @@ fn random_words(random: &mut Random, words: &mut Vec<u64>) {
         if random.once_in(4) {
             facts[Fact::ReportingDate] = random.pick(&[0, DAYS.0, DAYS.1]);
         }
+        if random.once_in(4) {
+            facts[Fact::Unit] = random.pick(&[unit::PERCENT, unit::HUNDREDTHS]);
+        }
         facts.write(words);
         words.push(rows);
     }
@@ -291,16 +324,16 @@ mod tests {
             irb: true,
         };
         let counts: Vec<_> = layout.counts().iter().map(|&place| own_edges(layout, place)).collect();
-        assert_eq!(counts[0], [0, 3, 4, 5, 6, 7]);
+        assert_eq!(counts[0], [0, 3, 4, 6, 7, 8]);
         assert_eq!([counts[1][2], counts[2][2], counts[3][2]], [ROWS, TRANCHES, 2]);
         let share = own_edges(layout, layout.irb_word(IrbWord::Share));
         assert_eq!(share[1..3], [IRB_SHARE - 1, IRB_SHARE]);
-        for fact in [Fact::Stc, Fact::ReportingDate] {
+        for fact in [Fact::Stc, Fact::ReportingDate, Fact::Unit] {
             assert_eq!(own_edges(layout, Layout::fact(fact)), Fact::EDGES[fact as usize]);
         }
         for row in 0..2 {
-            let weight = own_edges(layout, layout.row(row) + RowWord::RiskWeight as usize);
-            assert_eq!(weight, [0, RISK_WEIGHT, RISK_WEIGHT + 1]);
+            let weight = own_edges(layout, layout.risk_weight(row));
+            assert_eq!(weight, [0, 1, 1_250, 1_251, 125_000, 125_001]);
             let maturity = own_edges(layout, layout.tranche_word(row, TrancheWord::Maturity));
             assert_eq!(maturity[..4], [0, 1, MONTHS, MONTHS + 1]);
         }

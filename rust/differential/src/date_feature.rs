@@ -3,7 +3,7 @@
 use crate::answer::refusal;
 use crate::dates;
 use crate::seen::{Dates, Seen};
-use crate::sheet::{Fact, Layout, DAYS, FACTS, MONTHS};
+use crate::sheet::{Fact, Layout, DAYS, MONTHS};
 use independent::date::{self, days_of_month, Date, YEARS};
 use independent::Refusal;
 use std::cmp::Ordering;
@@ -41,7 +41,7 @@ impl NoDate {
 /// 29 February, as a date's word has it after the year.
 const LEAP_DAY: u64 = 229;
 
-/// What must be met on some refused sheet with six facts.
+/// What must be met on some refused sheet that states a sixth fact.
 #[derive(Debug, Clone, Copy, PartialEq, Eq)]
 pub enum DateFeature {
     /// The reporting date is no date.
@@ -109,7 +109,8 @@ impl DateFeature {
 
     /// Whether a refused sheet shows the feature. Words before the place of a refusal are good, so they can be read.
     pub(crate) fn shown(self, sheet: &[u64], refused: &Refusal) -> bool {
-        if ![refusal::DATE, refusal::MATURITY].contains(&refused.number) || sheet[Layout::FACTS_COUNT] != FACTS {
+        let of_date = [refusal::DATE, refusal::MATURITY].contains(&refused.number);
+        if !of_date || sheet[Layout::FACTS_COUNT] < Fact::ReportingDate.number() {
             return false;
         }
         let reporting = Layout::fact(Fact::ReportingDate);
@@ -299,11 +300,13 @@ mod tests {
         assert!([0, 1_201].into_iter().all(|maturity| shown(maturity).is_empty()));
     }
 
-    /// Months outside their limits count after a sixth fact of 0; with fewer facts, and for another number, nothing
-    /// does.
+    /// Months outside their limits count after a sixth fact of 0, be there a seventh or not; with fewer facts, and for
+    /// another number, nothing does.
     #[test]
     fn other_refusals_are_not_counted() {
         assert_eq!(refused(0, 1_201), [DateFeature::MonthsWithoutDate]);
+        let with_unit = sheet(&[0, 0, 1, 0, 0, 0, 1], 1_201);
+        assert_eq!(shown_by_refused(&with_unit), [DateFeature::MonthsWithoutDate]);
         assert_eq!(refused(0, 20_240_131), [DateFeature::MonthsWithoutDate]);
         let others = [sheet(&[0, 0, 1, 0, 0], 1_201), sheet(&[0, 0, 1, 0, 2, 0], 36), vec![6]];
         assert!(others.iter().all(|sheet| shown_by_refused(sheet).is_empty()));

@@ -6,13 +6,13 @@ use std::fmt;
 /// The compared part in which the sides differ.
 #[derive(Debug, Clone, Copy, PartialEq, Eq)]
 pub enum Part {
-    /// One side weighs or sums, the other refuses.
+    /// One side weighs, sums or converts, the other refuses.
     Outcome,
     /// The refusal's number.
     Number,
     /// The refusal's place, or a place above 0 of an accepted sheet.
     Place,
-    /// The tranche count, or a count above 0 on a refusal.
+    /// The count of tranches or of words written, or a count above 0 on a refusal.
     Count,
     /// The pool charge, or a charge above 0 on a refusal.
     Charge,
@@ -24,6 +24,12 @@ pub enum Part {
     AfterLines,
     /// A result word was written on a refusal.
     ResultsOnRefusal,
+    /// A word of the sheet in the other unit.
+    Converted,
+    /// A word after the sheet in the other unit was written.
+    AfterConverted,
+    /// An output word was written on a refusal.
+    OutputOnRefusal,
     /// The report's text.
     Text,
     /// The answer changes with the order of the pool's rows.
@@ -40,6 +46,12 @@ pub enum Part {
     SaPool,
     /// The answer under SEC-IRBA changes with statuses and ratings.
     OtherUnderIrba,
+    /// The answer changes with the unit of risk weights.
+    OtherUnit,
+    /// The sums of a block change with the unit of risk weights.
+    SumsInOtherUnit,
+    /// The sheet converted twice is not the sheet with all facts stated.
+    ConvertedTwice,
     /// One side stopped with a panic.
     Panic,
 }
@@ -51,12 +63,15 @@ impl fmt::Display for Part {
             Part::Outcome => "accepted or refused",
             Part::Number => "refusal number",
             Part::Place => "place",
-            Part::Count => "tranche count",
+            Part::Count => "count",
             Part::Charge => "pool charge",
             Part::Line(word) => word.name(),
             Part::Sum(word) => word.name(),
             Part::AfterLines => "a word after the lines was written",
             Part::ResultsOnRefusal => "results were written on a refusal",
+            Part::Converted => "converted word",
+            Part::AfterConverted => "a word after the converted sheet was written",
+            Part::OutputOnRefusal => "output was written on a refusal",
             Part::Text => "report text",
             Part::RowOrder => "order of rows",
             Part::RatingOrder => "order of ratings",
@@ -65,6 +80,9 @@ impl fmt::Display for Part {
             Part::MonthsForDates => "months in place of dates",
             Part::SaPool => "an SA pool without the section",
             Part::OtherUnderIrba => "statuses and ratings under SEC-IRBA",
+            Part::OtherUnit => "the other unit",
+            Part::SumsInOtherUnit => "sums in the other unit",
+            Part::ConvertedTwice => "converted twice",
             Part::Panic => "a panic",
         })
     }
@@ -79,6 +97,8 @@ pub enum Asked {
     File,
     /// The sums of the block of this number.
     Block(u64),
+    /// The sheet in the other unit, with so many output words.
+    Conversion(usize),
 }
 
 impl fmt::Display for Asked {
@@ -88,6 +108,7 @@ impl fmt::Display for Asked {
             Asked::Words => Ok(()),
             Asked::File => to.write_str(" of the file"),
             Asked::Block(block) => write!(to, " of block {block}"),
+            Asked::Conversion(room) => write!(to, " of the conversion to {room} words"),
         }
     }
 }

@@ -1,8 +1,9 @@
-//! The kinds of sheets, the kinds of room for results and the kinds of files that a run is made of, each with its name
-//! and its share.
+//! The kinds of sheets, the kinds of room for results and for the rewritten sheet, and the kinds of files that a run is
+//! made of, each with its name and its share.
 
 use crate::answer::LINE_WORDS;
 use crate::random::Random;
+use crate::sheet::{rewritten_words, Layout};
 
 /// An entry of a table of kinds: the kind, its name in the printed counts, and its share of the draws.
 type Entry<K> = (K, &'static str, u64);
@@ -59,6 +60,8 @@ pub enum Kind {
     IrbPool,
     /// A mixed pool, with its section; the share is often near 95%.
     MixedPool,
+    /// Risk weights in hundredths of a percent.
+    Hundredths,
     /// Every word at its lowest or highest allowed value.
     Limits,
     /// Cut at a random place.
@@ -81,11 +84,15 @@ pub enum Kind {
     BadDate,
     /// An IRB section with a wrong count, a word outside its limits, too few words or too many.
     BadSection,
+    /// Another unit of risk weights than the sheet was written in, or a number that is none.
+    OtherUnit,
+    /// A risk weight above the limit of its unit.
+    BadWeight,
 }
 
 impl Kind {
     /// All kinds, in the order of the enum.
-    pub const TABLE: [Entry<Kind>; 29] = [
+    pub const TABLE: [Entry<Kind>; 32] = [
         (Kind::Ordinary, "ordinary", 24),
         (Kind::Stc, "STC", 24),
         (Kind::Resecuritisation, "re-securitisation", 10),
@@ -104,6 +111,7 @@ impl Kind {
         (Kind::LargePool, "large pool", 3),
         (Kind::IrbPool, "IRB pool", 16),
         (Kind::MixedPool, "mixed pool", 18),
+        (Kind::Hundredths, "weights in hundredths", 16),
         (Kind::Limits, "at the limits", 3),
         (Kind::Truncated, "truncated", 4),
         (Kind::WordsAdded, "words added", 3),
@@ -115,6 +123,8 @@ impl Kind {
         (Kind::StcMark, "STC mark on a re-securitisation", 2),
         (Kind::BadDate, "a bad date", 8),
         (Kind::BadSection, "a bad IRB section", 12),
+        (Kind::OtherUnit, "another unit", 6),
+        (Kind::BadWeight, "a bad risk weight", 5),
     ];
 
     /// How many entries of the table, from its start, are kinds of sound sheets: those up to the one at the limits.
@@ -189,6 +199,53 @@ impl Room {
             Room::OneLessEach => needed - tranches,
             Room::Short => random.below(needed as u64) as usize,
             Room::Nothing => 0,
+        }
+    }
+}
+
+/// How many output words are lent for the sheet in the other unit, besides just those that it needs.
+#[derive(Debug, Clone, Copy, PartialEq, Eq)]
+pub enum Output {
+    /// Some more than it needs.
+    Larger,
+    /// Those of the largest sheet, or some more.
+    Ample,
+    /// One word less than it needs.
+    OneLess,
+    /// As many as the sheet has as given.
+    AsGiven,
+    /// Any number that is too small.
+    Short,
+    /// No word.
+    Nothing,
+}
+
+impl Output {
+    /// All kinds of output, in the order of the enum.
+    pub const TABLE: [Entry<Output>; 6] = [
+        (Output::Larger, "to spare", 4),
+        (Output::Ample, "for the largest sheet", 1),
+        (Output::OneLess, "one word short", 3),
+        (Output::AsGiven, "for the sheet as given", 2),
+        (Output::Short, "some words short", 1),
+        (Output::Nothing, "none", 1),
+    ];
+
+    /// Draws a kind of output.
+    pub fn draw(random: &mut Random) -> Output {
+        draw(&Output::TABLE, random)
+    }
+
+    /// The number of words to lend for a sheet in the other unit. A sheet that is not rewritten counts as if it were.
+    pub fn words(self, sheet: &[u64], random: &mut Random) -> usize {
+        let needed = rewritten_words(sheet);
+        match self {
+            Output::Larger => needed + random.between(1, 24) as usize,
+            Output::Ample => needed.max(Layout::LARGEST.words()) + random.below(24) as usize,
+            Output::OneLess => needed.saturating_sub(1),
+            Output::AsGiven => sheet.len(),
+            Output::Short => random.below(needed.max(1) as u64) as usize,
+            Output::Nothing => 0,
         }
     }
 }
@@ -283,6 +340,7 @@ mod tests {
     fn tables_follow_the_enums() {
         assert!((0..).zip(Kind::TABLE).all(|(place, entry)| entry.0 as usize == place));
         assert!((0..).zip(Room::TABLE).all(|(place, entry)| entry.0 as usize == place));
+        assert!((0..).zip(Output::TABLE).all(|(place, entry)| entry.0 as usize == place));
         assert!((0..).zip(File::TABLE).all(|(place, entry)| entry.0 as usize == place));
         assert!((0..)
             .zip(Relation::TABLE)
@@ -323,6 +381,29 @@ mod tests {
         );
         assert_eq!(words(Room::Short), (0..21).collect());
         assert_eq!(words(Room::Ample), (22..=45).collect());
+    }
+
+    /// The output for a sheet of six words with four facts, which is rewritten in nine: more, one less, as many as it has,
+    /// or any number less. For no sheet none is needed.
+    #[test]
+    fn outputs_follow_the_rewritten_sheet() {
+        let mut random = Random::of_sheet(7, 0);
+        let mut words = |output: Output, sheet: &[u64]| {
+            let drawn = (0..2_000).map(|_| output.words(sheet, &mut random));
+            drawn.collect::<BTreeSet<_>>()
+        };
+        let six = [4; 6];
+        let fixed = [Output::OneLess, Output::AsGiven, Output::Nothing];
+        assert_eq!(
+            fixed.map(|output| words(output, &six)),
+            [8, 6, 0].map(|word| BTreeSet::from([word]))
+        );
+        assert_eq!(words(Output::Short, &six), (0..9).collect());
+        assert_eq!(words(Output::Larger, &six), (10..=33).collect());
+        assert_eq!(words(Output::Ample, &six), (4_241..4_265).collect());
+        assert!([Output::OneLess, Output::Short]
+            .into_iter()
+            .all(|output| words(output, &[]) == BTreeSet::from([0])));
     }
 
     /// Every kind is drawn, about as often as its share says.

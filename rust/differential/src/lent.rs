@@ -1,5 +1,5 @@
-//! The words lent for results. They are filled with a pattern before the call, so that afterwards every written word
-//! can be told from an untouched one.
+//! The words lent for results, or for a sheet in the other unit. They are filled with a pattern before the call, so that
+//! afterwards every written word can be told from an untouched one.
 
 use crate::answer::LINE_WORDS;
 use crate::library::Reply;
@@ -7,8 +7,8 @@ use crate::library::Reply;
 /// Words after the lent ones that are looked at too: nothing may be written past the room.
 const GUARD: usize = 8;
 
-/// The highest bit. No right result word reaches it, and every word of the pattern has it: a line's word that was left
-/// out is always seen.
+/// The highest bit. No right result word reaches it, no word of an accepted sheet does, and every word of the pattern has
+/// it: a word that was left out is always seen.
 const HIGH: u64 = 1 << 63;
 
 /// The word of the pattern at one place: different at every place.
@@ -24,12 +24,17 @@ pub struct Lent {
 }
 
 impl Lent {
-    /// Fills the words with the pattern, lends so many of them to a weighing and gives its reply.
-    pub fn lend(&mut self, room: usize, weigh: impl FnOnce(&mut [u64]) -> Reply) -> Reply {
+    /// Fills the words with the pattern, lends so many of them to a weighing or a conversion and gives its reply.
+    pub fn lend<R>(&mut self, room: usize, call: impl FnOnce(&mut [u64]) -> R) -> R {
         self.words.clear();
         self.words.extend((0..room + GUARD).map(pattern));
         self.room = room;
-        weigh(&mut self.words[..room])
+        call(&mut self.words[..room])
+    }
+
+    /// The first `count` of the lent words, or fewer where there are no more.
+    pub fn first(&self, count: u64) -> &[u64] {
+        &self.words[..self.room.min(count as usize)]
     }
 
     /// The first `count` lines of the lent words, or fewer where the room holds no more.
@@ -90,12 +95,21 @@ mod tests {
         assert!(lent.lines_of(&refused).is_empty());
     }
 
+    /// The first words are as many as are asked for and lent.
+    #[test]
+    fn first_words_keep_to_the_room() {
+        let mut lent = Lent::default();
+        lent.lend(3, |words| words.copy_from_slice(&[7, 8, 9]));
+        assert_eq!([0, 2, 3].map(|count| lent.first(count).len()), [0, 2, 3]);
+        assert_eq!([lent.first(4), lent.first(u64::MAX)], [[7, 8, 9]; 2]);
+    }
+
     /// The pattern differs in every place that is ever lent.
     #[test]
     fn pattern_differs_everywhere() {
-        let mut words: Vec<u64> = (0..4_000).map(pattern).collect();
+        let mut words: Vec<u64> = (0..9_000).map(pattern).collect();
         words.sort_unstable();
         words.dedup();
-        assert_eq!(words.len(), 4_000);
+        assert_eq!(words.len(), 9_000);
     }
 }

@@ -1,5 +1,5 @@
 //! Holds the proved library of tranche weights against the independent implementation of document 01 ("the scope
-//! paper") and of requests S-1 to S-3 and S-5 to S-8 of document 02 ("later requests"), on seeded random sheets.
+//! paper") and of requests S-1 to S-3 and S-5 to S-9 of document 02 ("later requests"), on seeded random sheets.
 //!
 //! Every sheet is made from a seed and its index alone ([`Case`]), so that a run can be split over threads and any
 //! sheet can be made again. [`Run::go`] compares all sheets and gives the counts of what it met ([`Tally`]) or the
@@ -13,6 +13,9 @@ mod block_feature;
 mod blocks;
 mod case;
 mod check;
+mod conversion;
+mod conversion_feature;
+mod conversion_law;
 mod damage;
 mod date_feature;
 mod dates;
@@ -41,22 +44,25 @@ mod sought;
 mod tally;
 mod text;
 mod tranches;
+mod unit_feature;
 mod words;
 
 pub use block_feature::{BlockFeature, BlockRowFeature, RefusedAt};
 pub use case::Case;
 pub use check::check;
+pub use conversion_feature::{ConversionFeature, ConversionRefusal, ConvertedDeal};
 pub use date_feature::{DateFeature, DatedLineFeature};
 pub use difference::{Asked, Difference, Part};
 pub use inferred_feature::{InferredFeature, InferredRefusal, UntakenFeature};
 pub use irb_feature::{is_under_irba, IrbFeature, IrbLineFeature, IrbRefusal};
-pub use kind::{File, Kind, Relation, Room};
+pub use kind::{File, Kind, Output, Relation, Room};
 pub use law_feature::LawFeature;
 pub use least_feature::{Ends, LeastFeature, NearPair};
 pub use lent::Lent;
-pub use library::{BlockReply, Library, Reply, SumBlock, Weigh, WeighFile};
+pub use library::{BlockReply, ConversionReply, Convert, Library, Reply, SumBlock, Weigh, WeighFile};
 pub use line_feature::{Feature, StcFeature};
 pub use rating_feature::RatingFeature;
 pub use run::{Found, Run};
 pub use sheet_feature::{FileFeature, RoomFeature, SheetFeature};
 pub use tally::Tally;
+pub use unit_feature::{DealForm, UnitFeature, UnitRefusal};

@@ -1,7 +1,7 @@
-//! The library that is held against the independent implementation, as four functions, so that tests can put wrong
+//! The library that is held against the independent implementation, as five functions, so that tests can put wrong
 //! ones in their place.
 
-pub use tranche_weights::{BlockReply, Reply};
+pub use tranche_weights::{BlockReply, ConversionReply, Reply};
 
 /// Weighs a sheet's words into lent results and replies with the four numbers of the C function.
 pub type Weigh = fn(&[u64], &mut [u64]) -> Reply;
@@ -12,7 +12,11 @@ pub type WeighFile = fn(&[u8], &mut [u64]) -> Reply;
 /// Reads the sums of a block of a sheet's rows and replies with number, place and seven words, as the C function does.
 pub type SumBlock = fn(&[u64], u64) -> BlockReply;
 
-/// The four functions that are compared.
+/// Writes a sheet in the other unit of risk weights to lent output and replies with number, place and count, as the C
+/// function does.
+pub type Convert = fn(&[u64], &mut [u64]) -> ConversionReply;
+
+/// The five functions that are compared.
 #[derive(Clone, Copy)]
 pub struct Library {
     /// Weighs a sheet's words into lent results.
@@ -23,6 +27,8 @@ pub struct Library {
     pub report: fn(&[u8]) -> String,
     /// Reads the sums of a block of a sheet's rows.
     pub block_sums: SumBlock,
+    /// Writes a sheet in the other unit of risk weights to lent output.
+    pub convert: Convert,
 }
 
 impl Library {
@@ -32,5 +38,6 @@ impl Library {
         weigh_file: tranche_weights::reply_to_file,
         report: tranche_weights::report,
         block_sums: tranche_weights::reply_to_block,
+        convert: tranche_weights::reply_to_conversion,
     };
 }

@@ -2,8 +2,8 @@
 
 use crate::random::Random;
 use crate::sheet::{
-    pool_kind, status, Deal, Fact, Facts, Irb, Row, Tranche, IRB_AVERAGE, LOANS, LONG_TERM, MONTHS, POOL_AMOUNT,
-    RISK_WEIGHT, ROWS, SHORT_TERM, TRANCHES, TRANCHE_AMOUNT, WHOLE,
+    pool_kind, status, unit, Deal, Fact, Facts, Irb, Row, Tranche, IRB_AVERAGE, LOANS, LONG_TERM, MONTHS, POOL_AMOUNT,
+    ROWS, SHORT_TERM, TRANCHES, TRANCHE_AMOUNT, WHOLE,
 };
 use std::array;
 
@@ -44,6 +44,9 @@ pub fn fill(random: &mut Random, deal: &mut Deal) {
     if !random.once_in(4) {
         deal.facts[Fact::Stc] = random.below(2 - deal.facts[Fact::Resecuritisation]);
     }
+    if !random.once_in(3) {
+        deal.facts[Fact::Unit] = random.pick(&[unit::PERCENT, unit::HUNDREDTHS]);
+    }
     fill_rows(random, deal);
     fill_tranches(random, deal);
     fill_irb(random, deal);
@@ -78,7 +81,7 @@ fn fill_rows(random: &mut Random, deal: &mut Deal) {
         deal.rows.push(Row {
             exposure: exposures.word(random, 1, POOL_AMOUNT),
             nominal: nominals.word(random, 1, POOL_AMOUNT),
-            risk_weight: weights.word(random, 0, RISK_WEIGHT),
+            risk_weight: weights.word(random, 0, unit::risk_weight(deal.unit())),
             status: if resecuritisation { status::TRANCHE } else { ordinary },
         });
     }

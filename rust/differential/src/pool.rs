@@ -2,7 +2,10 @@
 
 use crate::kind::Kind;
 use crate::random::Random;
-use crate::sheet::{status, Deal, Row, BLOCK_EDGES, POOL_AMOUNT, RISK_WEIGHT, ROWS, WHOLE};
+use crate::sheet::{
+    status, unit, Deal, Row, BLOCK_EDGES, ONE_PERCENT, POOL_AMOUNT, RISK_WEIGHT, RISK_WEIGHT_PERCENT, ROWS,
+    WEIGHT_EDGES, WHOLE,
+};
 
 /// How the amounts of a pool are drawn.
 #[derive(Clone, Copy)]
@@ -57,30 +60,54 @@ impl Amounts {
 enum Weights {
     /// All the same.
     Same(u64),
-    /// Those that loans mostly have.
+    /// Those that loans mostly have, in whole percent.
     Usual,
-    /// From 0 to 1250.
+    /// Any whole percent.
+    Whole,
+    /// Mostly those that loans mostly have, else any.
+    MostlyUsual,
+    /// Those about a limit and about whole percents.
+    Edges,
+    /// Any.
     Any,
 }
 
 impl Weights {
-    /// Draws a way for a pool of this kind.
-    fn draw(kind: Kind, random: &mut Random) -> Weights {
+    /// Draws a way for a pool of this kind, in whole percent where the unit says so, and else in half of the pools.
+    fn draw(kind: Kind, unit: u64, random: &mut Random) -> Weights {
         if matches!(kind, Kind::ZeroCharge | Kind::SmallCharge) {
             return Weights::Same(0);
         }
-        let same = Weights::Same(random.below(RISK_WEIGHT + 1));
-        random.pick(&[same, Weights::Usual, Weights::Usual, Weights::Usual, Weights::Any])
+        if unit == unit::PERCENT || random.once_in(2) {
+            let same = Weights::Same(whole_weight(random));
+            return random.pick(&[same, Weights::Usual, Weights::Usual, Weights::Usual, Weights::Whole]);
+        }
+        let same = Weights::Same(any_weight(random));
+        random.pick(&[same, Weights::MostlyUsual, Weights::Edges, Weights::Edges, Weights::Any])
     }
 
-    /// Draws one risk weight.
+    /// Draws one risk weight, in hundredths of a percent.
     fn weight(self, random: &mut Random) -> u64 {
         match self {
             Weights::Same(weight) => weight,
-            Weights::Usual => random.pick(&[0, 1, 10, 20, 35, 50, 75, 100, 150, RISK_WEIGHT]),
-            Weights::Any => random.below(RISK_WEIGHT + 1),
+            Weights::Usual => ONE_PERCENT * random.pick(&[0, 1, 10, 20, 35, 50, 75, 100, 150, RISK_WEIGHT_PERCENT]),
+            Weights::Whole => whole_weight(random),
+            Weights::MostlyUsual if random.once_in(4) => any_weight(random),
+            Weights::MostlyUsual => Weights::Usual.weight(random),
+            Weights::Edges => random.pick(&WEIGHT_EDGES),
+            Weights::Any => any_weight(random),
         }
     }
+}
+
+/// Draws any risk weight, in hundredths of a percent.
+fn any_weight(random: &mut Random) -> u64 {
+    random.below(RISK_WEIGHT + 1)
+}
+
+/// Draws any risk weight in whole percent, in hundredths of a percent.
+fn whole_weight(random: &mut Random) -> u64 {
+    ONE_PERCENT * random.below(RISK_WEIGHT_PERCENT + 1)
 }
 
 /// How the statuses of a pool are drawn.
@@ -151,7 +178,8 @@ pub fn fill(kind: Kind, random: &mut Random, deal: &mut Deal) {
     let exposures = Amounts::draw(kind, random);
     let nominals = Amounts::draw(kind, random);
     let alike = !random.once_in(3);
-    let weights = Weights::draw(kind, random);
+    let unit = deal.unit();
+    let weights = Weights::draw(kind, unit, random);
     let statuses = Statuses::draw(kind, deal.is_resecuritisation(), random);
     deal.rows.clear();
     for _ in 0..row_count(kind, random) {
@@ -159,20 +187,20 @@ pub fn fill(kind: Kind, random: &mut Random, deal: &mut Deal) {
         deal.rows.push(Row {
             exposure,
             nominal: if alike { exposure } else { nominals.amount(random) },
-            risk_weight: weights.weight(random),
+            risk_weight: weights.weight(random) / unit::hundredths(unit),
             status: statuses.status(random),
         });
     }
     match kind {
-        Kind::UnknownShare => add_unknown(random, &mut deal.rows),
+        Kind::UnknownShare => add_unknown(random, unit, &mut deal.rows),
         Kind::SmallCharge => leave_small_charge(random, &mut deal.rows),
         _ => {}
     }
 }
 
 /// Adds unknown rows to known ones so that their exposure is just below, at or just above 5% of all: known exposure is
-/// made a multiple of 19, and a nineteenth of it is added, give or take a unit.
-fn add_unknown(random: &mut Random, rows: &mut Vec<Row>) {
+/// made a multiple of 19, and a nineteenth of it is added, give or take a unit. Risk weights are in the unit given.
+fn add_unknown(random: &mut Random, unit: u64, rows: &mut Vec<Row>) {
     let surplus = rows.iter().map(|row| row.exposure).sum::<u64>() % 19;
     let first = &mut rows[0].exposure;
     *first = if *first > surplus {
@@ -195,7 +223,7 @@ fn add_unknown(random: &mut Random, rows: &mut Vec<Row>) {
         } else {
             exposure
         };
-        let risk_weight = random.below(RISK_WEIGHT + 1);
+        let risk_weight = random.below(unit::risk_weight(unit) + 1);
         rows.push(Row {
             exposure,
             nominal,
@@ -206,8 +234,8 @@ fn add_unknown(random: &mut Random, rows: &mut Vec<Row>) {
     random.shuffle(rows);
 }
 
-/// Leaves one small row with a risk weight above zero, in a pool of zero weights: the charge is a few millionths, or a
-/// little more.
+/// Leaves one small row with a risk weight above zero, in a pool of zero weights, whatever their unit: the charge is a few
+/// millionths, or a little more.
 fn leave_small_charge(random: &mut Random, rows: &mut [Row]) {
     let place = random.below(rows.len() as u64) as usize;
     rows[place].risk_weight = random.between(1, 3);

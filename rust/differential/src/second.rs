@@ -54,19 +54,26 @@ pub fn compare_other_ratings(library: &Library, case: &Case, lent: &mut Lent) ->
     Ok(Some(rerated))
 }
 
-/// A fact that is not stated counts as 0 (S-1 and S-3): with more facts, of 0, the answer and the lines are the same,
-/// and a place after the facts that were stated is higher by the words added.
-pub fn compare_facts_added(library: &Library, case: &Case, lent: &mut Lent) -> Result<(), Difference> {
+/// A fact that is not stated counts as 0 (S-1, S-3 and S-9): with more facts, of 0, the answer and the lines are the
+/// same, and a place after the facts that were stated is higher by the words added. The unit of risk weights does not
+/// matter either (S-9). The second sheet is one with as many facts or more.
+pub fn compare_moved(
+    part: Part,
+    library: &Library,
+    case: &Case,
+    second: &[u64],
+    lent: &mut Lent,
+) -> Result<(), Difference> {
     let mut first = weigh(library, &case.sheet, case.room, lent);
-    let second = weigh(library, &case.second, case.room, lent);
-    let [stated, filled] = [&case.sheet, &case.second].map(|sheet| sheet[Layout::FACTS_COUNT]);
+    let other = weigh(library, second, case.room, lent);
+    let [stated, filled] = [&case.sheet, second].map(|sheet| sheet[Layout::FACTS_COUNT]);
     if first.0.place > Layout::FACTS_COUNT as u64 + stated {
         first.0.place += filled - stated;
     }
-    if first == second {
+    if first == other {
         return Ok(());
     }
-    Err(Difference::new(Part::FactsAdded, first, (second, &case.second)))
+    Err(Difference::new(part, first, (other, second)))
 }
 
 /// Whether the cap decided a line of an accepted sheet: with the composition not known, which takes the cap away, the
@@ -310,13 +317,14 @@ mod tests {
                 ..Library::PROVED
             };
             differences(Relation::FactsAdded, |case| {
-                compare_facts_added(&library, case, &mut Lent::default())
+                compare_moved(Part::FactsAdded, &library, case, &case.second, &mut Lent::default())
             })
         };
         assert!(compare(places_as_before) > 10);
         assert!(compare(least_weights_change) > 10);
         assert!(compare(|sheet, results| stated_fact_matters(Fact::Stc, sheet, results)) > 10);
         assert!(compare(|sheet, results| stated_fact_matters(Fact::ReportingDate, sheet, results)) > 10);
+        assert!(compare(|sheet, results| stated_fact_matters(Fact::Unit, sheet, results)) > 10);
         assert_eq!(compare(Library::PROVED.weigh), 0);
     }
 }

@@ -1,12 +1,28 @@
-//! The deal sheet, by "The deal sheet" of document 01, the fifth fact of S-1, the dates of S-3, the IRB section of S-5
-//! and the blocks of S-7: what it holds, and the places of its words.
+//! The deal sheet, by "The deal sheet" of document 01, the fifth fact of S-1, the dates of S-3, the IRB section of S-5,
+//! the blocks of S-7 and the unit of risk weights of S-9: what it holds, and the places of its words.
 
 use std::ops::{Index, IndexMut};
 
 /// The highest pool amount, exposure or nominal.
 pub const POOL_AMOUNT: u64 = 10_000_000_000;
-/// The highest risk weight of a pool row, in percent.
-pub const RISK_WEIGHT: u64 = 1_250;
+/// One percent, in hundredths of a percent.
+pub const ONE_PERCENT: u64 = 100;
+/// The highest risk weight of a pool row, in hundredths of a percent.
+pub const RISK_WEIGHT: u64 = 1_250 * ONE_PERCENT;
+/// The highest risk weight of a pool row, in whole percent.
+pub const RISK_WEIGHT_PERCENT: u64 = RISK_WEIGHT / ONE_PERCENT;
+/// Risk weights in hundredths of a percent about their limit, about that of whole percent and about whole percents.
+pub const WEIGHT_EDGES: [u64; 9] = [
+    0,
+    1,
+    ONE_PERCENT,
+    RISK_WEIGHT_PERCENT,
+    RISK_WEIGHT_PERCENT + 1,
+    3_750,
+    12_550,
+    RISK_WEIGHT - 1,
+    RISK_WEIGHT,
+];
 /// The most pool rows.
 pub const ROWS: u64 = 1_000;
 /// The rows of a block; the last block of a pool may have fewer.
@@ -80,6 +96,10 @@ macro_rules! row_words {
 
 /// The values at which the rule of a fact changes.
 const FACT_EDGES: &[u64] = &[0, 1, 2, 3];
+/// Numbers that are no unit of risk weights.
+pub const NO_UNITS: [u64; 3] = [2, ONE_PERCENT, u64::MAX];
+/// The values at which the rule of the unit changes, and others that are no unit.
+const UNIT_EDGES: &[u64] = &[0, 1, NO_UNITS[0], NO_UNITS[1], NO_UNITS[2]];
 /// The values at which the rule of a date changes: 0, the ends of the years, and days that a month or a year has not.
 const DATE_EDGES: &[u64] = &[
     0,
@@ -115,6 +135,8 @@ row_words! {
         Stc: FACT_EDGES,
         /// The reporting date; 0 for none.
         ReportingDate: DATE_EDGES,
+        /// The unit of risk weights: 0 whole percent, 1 hundredths of a percent.
+        Unit: UNIT_EDGES,
     }
 }
 
@@ -132,8 +154,8 @@ row_words! {
         Exposure: &[0, 1, POOL_AMOUNT, POOL_AMOUNT + 1],
         /// Nominal amount.
         Nominal: &[0, 1, POOL_AMOUNT, POOL_AMOUNT + 1],
-        /// Risk weight in whole percent.
-        RiskWeight: &[0, RISK_WEIGHT, RISK_WEIGHT + 1],
+        /// Risk weight, in the unit that the facts state.
+        RiskWeight: &[0, 1, RISK_WEIGHT_PERCENT, RISK_WEIGHT_PERCENT + 1, RISK_WEIGHT, RISK_WEIGHT + 1],
         /// Status code.
         Status: &[0, 1, 2, 3, 4],
     }
@@ -227,6 +249,37 @@ pub mod pool_kind {
     pub const MIXED: u64 = 2;
 }
 
+/// The codes of the units of risk weights.
+pub mod unit {
+    use super::{ONE_PERCENT, RISK_WEIGHT};
+
+    /// Whole percent; also where no unit is stated.
+    pub const PERCENT: u64 = 0;
+    /// Hundredths of a percent.
+    pub const HUNDREDTHS: u64 = 1;
+
+    /// The other unit.
+    pub const fn other(unit: u64) -> u64 {
+        match unit {
+            PERCENT => HUNDREDTHS,
+            _ => PERCENT,
+        }
+    }
+
+    /// The hundredths of a percent that are one of a unit.
+    pub const fn hundredths(unit: u64) -> u64 {
+        match unit {
+            PERCENT => ONE_PERCENT,
+            _ => 1,
+        }
+    }
+
+    /// The highest risk weight in a unit.
+    pub const fn risk_weight(unit: u64) -> u64 {
+        RISK_WEIGHT / hundredths(unit)
+    }
+}
+
 /// The facts of a deal, as words, and how many of them the sheet states.
 #[derive(Debug, Clone, Copy)]
 pub struct Facts {
@@ -276,7 +329,7 @@ pub struct Row {
     pub exposure: u64,
     /// Nominal amount.
     pub nominal: u64,
-    /// Risk weight in whole percent.
+    /// Risk weight, in the unit that the facts state.
     pub risk_weight: u64,
     /// Status code.
     pub status: u64,
@@ -374,6 +427,11 @@ impl Deal {
     /// Whether the deal is a re-securitisation.
     pub fn is_resecuritisation(&self) -> bool {
         self.facts[Fact::Resecuritisation] == 1
+    }
+
+    /// The unit of the risk weights.
+    pub fn unit(&self) -> u64 {
+        self.facts[Fact::Unit]
     }
 
     /// Whether the sheet has an IRB section.
@@ -544,10 +602,40 @@ impl Layout {
         sheet[self.tranche(tranche)..].first_chunk().expect("a tranche's words")
     }
 
+    /// The place of a row's risk weight; rows are counted from 0.
+    pub const fn risk_weight(&self, row: usize) -> usize {
+        self.row(row) + RowWord::RiskWeight as usize
+    }
+
     /// The rows of a sheet with these places.
     pub fn pool<'a>(&self, sheet: &'a [u64]) -> &'a [[u64; RowWord::COUNT]] {
         sheet[self.row(0)..self.tranche_count()].as_chunks().0
     }
+}
+
+/// Whether a sheet can state more facts: it states fewer than the most and has all of those.
+pub fn takes_facts(sheet: &[u64]) -> bool {
+    let stated = sheet.first().copied().unwrap_or(0);
+    (FEWEST_FACTS..FACTS).contains(&stated) && sheet.len() > stated as usize
+}
+
+/// Writes a sheet with so many facts stated, not fewer than it states, over what the list holds. Those that are added are
+/// 0. The sheet has all facts that it states.
+pub fn write_with_facts(sheet: &[u64], facts: u64, words: &mut Vec<u64>) {
+    let stated = sheet[Layout::FACTS_COUNT];
+    let (own, sections) = sheet.split_at(Layout::FACTS_COUNT + 1 + stated as usize);
+    words.clear();
+    words.extend(own);
+    words[Layout::FACTS_COUNT] = facts;
+    words.extend((stated..facts).map(|_| 0));
+    words.extend(sections);
+}
+
+/// How many words a sheet has that is rewritten in the other unit, where all facts are stated. One that states no good
+/// number of facts, and is not rewritten, counts as it is.
+pub fn rewritten_words(sheet: &[u64]) -> usize {
+    let stated = sheet.first().filter(|stated| (FEWEST_FACTS..=FACTS).contains(stated));
+    sheet.len() + stated.map_or(0, |stated| FACTS - stated) as usize
 }
 
 /// How many blocks so many rows have.
@@ -582,13 +670,13 @@ mod tests {
         let mut words = Vec::new();
         deal.write(&mut words);
         assert_eq!((Layout::of_sheet(&words), words.len()), (deal.layout(), 4_231));
-        deal.facts[Fact::ReportingDate] = 0;
+        deal.facts[Fact::Unit] = unit::PERCENT;
         deal.facts[Fact::PoolKind] = pool_kind::MIXED;
         deal.write(&mut words);
         assert_eq!(deal.layout().words(), words.len());
         assert_eq!(Layout::of_sheet(&words), deal.layout());
         assert_eq!(deal.layout(), Layout::LARGEST);
-        assert_eq!((file_form(&words).len(), FILE_BYTES), (33_920, 33_920));
+        assert_eq!((file_form(&words).len(), FILE_BYTES), (33_928, 33_928));
     }
 
     /// The fewest facts are stated until a later one is set, be it to 0; a fact that is not stated reads as 0.
@@ -606,8 +694,16 @@ mod tests {
         assert_eq!(section(&facts), [5, 0, 0, 0, 1, 0]);
         facts[Fact::ReportingDate] = 0;
         assert_eq!(section(&facts), [6, 0, 0, 0, 1, 0, 0]);
-        let later = [Fact::Composition, Fact::Stc, Fact::ReportingDate];
-        for (stated, expected) in [(4, [4, 0, 0]), (5, [4, 5, 0]), (6, [4, 5, 6])] {
+        facts[Fact::Unit] = unit::HUNDREDTHS;
+        assert_eq!(section(&facts), [7, 0, 0, 0, 1, 0, 0, 1]);
+        let later = [Fact::Composition, Fact::Stc, Fact::ReportingDate, Fact::Unit];
+        let expected = [
+            (4, [4, 0, 0, 0]),
+            (5, [4, 5, 0, 0]),
+            (6, [4, 5, 6, 0]),
+            (7, [4, 5, 6, 7]),
+        ];
+        for (stated, expected) in expected {
             let (layout, words) = places_with(stated);
             assert_eq!(later.map(|fact| layout.fact_word(&words, fact)), expected);
         }
@@ -616,15 +712,60 @@ mod tests {
     /// Facts are numbered from 1; the fewest and the most are counts of them.
     #[test]
     fn facts_are_numbered() {
-        assert_eq!([Fact::PoolKind, Fact::Stc].map(Fact::number), [1, 5]);
-        assert_eq!((FEWEST_FACTS, FACTS, Fact::ReportingDate.number()), (4, 6, 6));
+        assert_eq!(
+            [Fact::PoolKind, Fact::Stc, Fact::ReportingDate].map(Fact::number),
+            [1, 5, 6]
+        );
+        assert_eq!((FEWEST_FACTS, FACTS, Fact::Unit.number()), (4, 7, 7));
+    }
+
+    /// Each unit has its limit of 1250%, and is the other's other.
+    #[test]
+    fn units_have_their_limits() {
+        let units = [unit::PERCENT, unit::HUNDREDTHS];
+        assert_eq!(units.map(unit::other), [unit::HUNDREDTHS, unit::PERCENT]);
+        assert_eq!(units.map(unit::hundredths), [100, 1]);
+        assert_eq!(units.map(unit::risk_weight), [1_250, 125_000]);
+    }
+
+    /// A sheet can state more facts where it states four to six and has them.
+    #[test]
+    fn sheets_that_take_facts() {
+        for stated in 0..10 {
+            let sheet = [stated; 7];
+            assert_eq!(takes_facts(&sheet), [4, 5, 6].contains(&stated), "{stated}");
+        }
+        assert!(takes_facts(&[4; 5]) && !takes_facts(&[4; 4]) && !takes_facts(&[6; 6]) && !takes_facts(&[]));
+    }
+
+    /// A rewritten sheet has a word more for each fact that is not stated.
+    #[test]
+    fn words_of_rewritten_sheets() {
+        let words = [3, 4, 5, 6, 7, 8, u64::MAX].map(|stated| rewritten_words(&[stated; 20]));
+        assert_eq!(words, [20, 23, 22, 21, 20, 20, 20]);
+        assert_eq!(rewritten_words(&[]), 0);
+    }
+
+    /// Facts of 0 are added after those that are stated, and none where all are; the list is written over.
+    #[test]
+    fn facts_are_added() {
+        let with = |sheet: &[u64], facts| {
+            let mut words = vec![9; 3];
+            write_with_facts(sheet, facts, &mut words);
+            words
+        };
+        let four = [4, 2, 1, 1, 1, 8, 9];
+        assert_eq!(with(&four, 4), four);
+        assert_eq!(with(&four, 5), [5, 2, 1, 1, 1, 0, 8, 9]);
+        assert_eq!(with(&four, 7), [7, 2, 1, 1, 1, 0, 0, 0, 8, 9]);
+        assert_eq!(with(&[6, 2, 0, 1, 1, 1, 5], 7), [7, 2, 0, 1, 1, 1, 5, 0]);
     }
 
     /// A sheet fits its own places: not with a word more or less, not with another count of those that places follow
     /// from, and not with a pool kind that has no IRB section.
     #[test]
     fn sheets_fit_their_places() {
-        let (layout, words) = places_with(6);
+        let (layout, words) = places_with(7);
         assert!(layout.fits(&words));
         assert!(!layout.fits(&words[1..]) && !layout.fits(&[&words[..], &[0]].concat()) && !layout.fits(&[]));
         let with = |place: usize, word| {
@@ -669,19 +810,22 @@ mod tests {
         assert!(!under(pool_kind::IRB, 1, 1, WHOLE) && !under(pool_kind::IRB, 0, 0, WHOLE));
     }
 
-    /// Facts, a row's words and a tranche's words stand in document 01's order.
+    /// All facts, in their order.
+    const ALL_FACTS: [Fact; Fact::COUNT] = [
+        Fact::PoolKind,
+        Fact::Resecuritisation,
+        Fact::DueDiligence,
+        Fact::Composition,
+        Fact::Stc,
+        Fact::ReportingDate,
+        Fact::Unit,
+    ];
+
+    /// Facts, a row's words, a tranche's words and the IRB section stand in the papers' order.
     #[test]
     fn words_stand_in_their_order() {
-        let facts = [
-            Fact::PoolKind,
-            Fact::Resecuritisation,
-            Fact::DueDiligence,
-            Fact::Composition,
-            Fact::Stc,
-            Fact::ReportingDate,
-        ];
         let mut deal = Deal::default();
-        (10..).zip(facts).for_each(|(word, fact)| deal.facts[fact] = word);
+        (10..).zip(ALL_FACTS).for_each(|(word, fact)| deal.facts[fact] = word);
         deal.rows.push(Row {
             exposure: 20,
             nominal: 21,
@@ -705,14 +849,15 @@ mod tests {
         };
         let mut words = Vec::new();
         deal.write(&mut words);
-        assert_eq!(words[..12], [6, 10, 11, 12, 13, 14, 15, 1, 20, 21, 22, 23]);
-        assert_eq!(words[12..20], [1, 30, 31, 32, 33, 34, 35, 36]);
-        assert_eq!(words[20..], [1, 40, 41, 42, 43, 44, 45]);
-        assert_eq!(facts.map(|fact| words[Layout::fact(fact)]), [10, 11, 12, 13, 14, 15]);
+        assert_eq!(words[..13], [7, 10, 11, 12, 13, 14, 15, 16, 1, 20, 21, 22, 23]);
+        assert_eq!(words[13..21], [1, 30, 31, 32, 33, 34, 35, 36]);
+        assert_eq!(words[21..], [1, 40, 41, 42, 43, 44, 45]);
+        let facts = ALL_FACTS.map(|fact| words[Layout::fact(fact)]);
+        assert_eq!(facts, [10, 11, 12, 13, 14, 15, 16]);
         assert_eq!(deal.layout().irb_words(&words), Some(&[40, 41, 42, 43, 44, 45]));
         deal.facts[Fact::PoolKind] = pool_kind::SA;
         deal.write(&mut words);
-        assert_eq!((words.len(), deal.layout().irb_words(&words)), (20, None));
+        assert_eq!((words.len(), deal.layout().irb_words(&words)), (21, None));
     }
 
     /// A sheet with so many facts, two rows, two tranches and an IRB section; every word but the counts is its place,
@@ -765,6 +910,7 @@ mod tests {
             let after_facts = |places: usize| (facts + places) as u64;
             let row = row_words.map(|word| layout.pool(&words)[1][word as usize]);
             assert_eq!(row, [6, 7, 8, 9].map(after_facts));
+            assert_eq!(words[layout.risk_weight(1)], after_facts(8));
             let tranche = tranche_words.map(|word| words[layout.tranche_word(1, word)]);
             assert_eq!(tranche, [18, 19, 20, 21, 22, 23, 24].map(after_facts));
             let irb = irb_words.map(|word| words[layout.irb_word(word)]);

@@ -1,5 +1,5 @@
-//! What a run must meet on some sheet by its count of facts, its fifth fact (S-1) and its sixth (S-3), on some sheet by
-//! the room for its results, and on some file.
+//! What a run must meet on some sheet by its count of facts, its fifth fact (S-1), its sixth (S-3) and its seventh (S-9),
+//! on some sheet by the room for its results, and on some file.
 
 use crate::answer::{refusal, LINE_WORDS};
 use crate::seen::DealKind;
@@ -18,8 +18,10 @@ pub enum SheetFeature {
     ResecuritisationFiveFacts,
     /// An STC deal accepted.
     Stc,
-    /// Accepted with a sixth fact of 0.
+    /// Accepted with a sixth fact of 0, the last.
     SixFacts,
+    /// Accepted with a seventh fact of 0.
+    SevenFacts,
     /// An ordinary securitisation accepted with a reporting date.
     Dated,
     /// An STC deal accepted with a reporting date.
@@ -28,12 +30,14 @@ pub enum SheetFeature {
     ResecuritisationDated,
     /// A count of 3 facts refused.
     ThreeFacts,
-    /// A count of 7 facts refused.
-    SevenFacts,
-    /// Five or six facts counted, and the fifth missing.
+    /// A count of 8 facts refused.
+    EightFacts,
+    /// Five facts or more counted, and the fifth missing.
     FifthMissing,
-    /// Six facts counted, and the sixth missing.
+    /// Six facts or more counted, and the sixth missing.
     SixthMissing,
+    /// Seven facts counted, and the seventh missing.
+    SeventhMissing,
     /// A fifth fact above 1 in an ordinary securitisation.
     FifthAboveOne,
     /// A fifth fact above 1 in a re-securitisation.
@@ -44,7 +48,7 @@ pub enum SheetFeature {
 
 impl SheetFeature {
     /// All features with their names, in the order of the enum.
-    pub(crate) const TABLE: [(SheetFeature, &'static str); 15] = [
+    pub(crate) const TABLE: [(SheetFeature, &'static str); 17] = [
         (SheetFeature::FourFacts, "accepted with four facts"),
         (SheetFeature::FiveFacts, "accepted with a fifth fact of 0"),
         (
@@ -53,6 +57,7 @@ impl SheetFeature {
         ),
         (SheetFeature::Stc, "accepted as an STC deal"),
         (SheetFeature::SixFacts, "accepted with a sixth fact of 0"),
+        (SheetFeature::SevenFacts, "accepted with a seventh fact of 0"),
         (SheetFeature::Dated, "accepted with a reporting date"),
         (SheetFeature::StcDated, "accepted with a date, STC deal"),
         (
@@ -60,9 +65,10 @@ impl SheetFeature {
             "accepted with a date, re-securitisation",
         ),
         (SheetFeature::ThreeFacts, "refusal 2 for 3 facts"),
-        (SheetFeature::SevenFacts, "refusal 2 for 7 facts"),
+        (SheetFeature::EightFacts, "refusal 2 for 8 facts"),
         (SheetFeature::FifthMissing, "refusal 1 for the fifth fact"),
         (SheetFeature::SixthMissing, "refusal 1 for the sixth fact"),
+        (SheetFeature::SeventhMissing, "refusal 1 for the seventh fact"),
         (SheetFeature::FifthAboveOne, "refusal 4 for the fifth fact"),
         (
             SheetFeature::ResecuritisationFifthAboveOne,
@@ -84,13 +90,15 @@ impl SheetFeature {
         let kind = DealKind::of_sheet(sheet);
         let stated = sheet[Layout::FACTS_COUNT];
         let five = stated == Fact::Stc.number();
-        let dated = stated == FACTS && sheet[Layout::fact(Fact::ReportingDate)] != 0;
+        let fact_word = |fact| Layout::of_sheet(sheet).fact_word(sheet, fact);
+        let dated = fact_word(Fact::ReportingDate) != 0;
         match self {
             SheetFeature::FourFacts => stated == FEWEST_FACTS,
             SheetFeature::FiveFacts => five && kind == DealKind::Ordinary,
             SheetFeature::ResecuritisationFiveFacts => five && kind == DealKind::Resecuritisation,
             SheetFeature::Stc => kind == DealKind::Stc,
-            SheetFeature::SixFacts => stated == FACTS && !dated,
+            SheetFeature::SixFacts => stated == Fact::ReportingDate.number() && !dated,
+            SheetFeature::SevenFacts => stated == FACTS && fact_word(Fact::Unit) == 0,
             SheetFeature::Dated => dated && kind == DealKind::Ordinary,
             SheetFeature::StcDated => dated && kind == DealKind::Stc,
             SheetFeature::ResecuritisationDated => dated && kind == DealKind::Resecuritisation,
@@ -100,15 +108,20 @@ impl SheetFeature {
 
     /// Whether a refused sheet shows the feature. Words before the place of a refusal are good, so they can be read.
     fn shown_by_refused(self, sheet: &[u64], refused: &Refusal) -> bool {
-        let [fifth, sixth] = [Fact::Stc, Fact::ReportingDate].map(Layout::fact);
+        let fifth = Layout::fact(Fact::Stc);
         let refused_at = |number, place| (refused.number, refused.place) == (number, place as u64);
         let counts = |facts| sheet.first() == Some(&facts);
+        let is_missing = |fact: Fact| {
+            let counted = sheet.first().is_some_and(|&counted| counted >= fact.number());
+            counted && refused_at(refusal::MISSING, Layout::fact(fact))
+        };
         let resecuritisation = || sheet[Layout::fact(Fact::Resecuritisation)] == 1;
         match self {
             SheetFeature::ThreeFacts => refused_at(refusal::COUNT, Layout::FACTS_COUNT) && counts(FEWEST_FACTS - 1),
-            SheetFeature::SevenFacts => refused_at(refusal::COUNT, Layout::FACTS_COUNT) && counts(FACTS + 1),
-            SheetFeature::FifthMissing => refused_at(refusal::MISSING, fifth) && !counts(FEWEST_FACTS),
-            SheetFeature::SixthMissing => refused_at(refusal::MISSING, sixth) && counts(FACTS),
+            SheetFeature::EightFacts => refused_at(refusal::COUNT, Layout::FACTS_COUNT) && counts(FACTS + 1),
+            SheetFeature::FifthMissing => is_missing(Fact::Stc),
+            SheetFeature::SixthMissing => is_missing(Fact::ReportingDate),
+            SheetFeature::SeventhMissing => is_missing(Fact::Unit),
             SheetFeature::FifthAboveOne => refused_at(refusal::FACT, fifth) && !resecuritisation(),
             SheetFeature::ResecuritisationFifthAboveOne => refused_at(refusal::FACT, fifth) && resecuritisation(),
             SheetFeature::StcThin => refused.number == refusal::THIN && is_stc_under_sa(sheet),
@@ -256,8 +269,11 @@ mod tests {
         assert_eq!(shown(&sheet(&[0, 0, 0, 0, 1], 0)), [SheetFeature::Stc]);
         assert_eq!(shown(&sheet(&[0, 0, 0, 0, 0, 0], 0)), [SheetFeature::SixFacts]);
         assert_eq!(shown(&sheet(&[0, 1, 0, 0, 0, 0], 3)), [SheetFeature::SixFacts]);
+        assert_eq!(shown(&sheet(&[0, 0, 0, 0, 0, 0, 0], 0)), [SheetFeature::SevenFacts]);
+        assert_eq!(shown(&sheet(&[0, 0, 0, 0, 0, 0, 1], 0)), []);
         let date = 21_500_101;
         assert_eq!(shown(&sheet(&[0, 0, 0, 0, 0, date], 0)), [SheetFeature::Dated]);
+        assert_eq!(shown(&sheet(&[0, 0, 0, 0, 0, date, 1], 0)), [SheetFeature::Dated]);
         let stc = [SheetFeature::Stc, SheetFeature::StcDated];
         assert_eq!(shown(&sheet(&[0, 0, 0, 0, 1, date], 0)), stc);
         assert_eq!(
@@ -271,10 +287,14 @@ mod tests {
     #[test]
     fn refused_sheets_are_counted() {
         assert_eq!(shown(&[3]), [SheetFeature::ThreeFacts]);
-        assert_eq!(shown(&sheet(&[0; 7], 0)), [SheetFeature::SevenFacts]);
-        assert_eq!(shown(&[5, 0, 0, 0, 0]), [SheetFeature::FifthMissing]);
-        assert_eq!(shown(&[6, 0, 0, 0, 0]), [SheetFeature::FifthMissing]);
-        assert_eq!(shown(&[6, 0, 0, 0, 0, 0]), [SheetFeature::SixthMissing]);
+        assert_eq!(shown(&sheet(&[0; 8], 0)), [SheetFeature::EightFacts]);
+        for counted in [5, 6, 7] {
+            assert_eq!(shown(&[counted, 0, 0, 0, 0]), [SheetFeature::FifthMissing]);
+        }
+        for counted in [6, 7] {
+            assert_eq!(shown(&[counted, 0, 0, 0, 0, 0]), [SheetFeature::SixthMissing]);
+        }
+        assert_eq!(shown(&[7, 0, 0, 0, 0, 0, 0]), [SheetFeature::SeventhMissing]);
         assert_eq!(shown(&[5, 0, 0, 0, 0, 2]), [SheetFeature::FifthAboveOne]);
         assert_eq!(
             shown(&[5, 0, 1, 0, 0, 2]),
@@ -286,11 +306,12 @@ mod tests {
         assert_eq!(shown(&with_section(950_000)), []);
         for other in [
             &[][..],
-            &[8],
+            &[9],
             &[4, 0, 0, 0, 0],
             &[4, 0, 0, 0, 2],
             &[5, 0, 0, 0, 0, 0],
             &[5, 0, 1, 0, 0, 1],
+            &[6, 0, 0, 0, 0, 0, 0],
             &[6, 0, 0, 0, 0, 0, 1],
         ] {
             assert_eq!(shown(other), [], "{other:?}");

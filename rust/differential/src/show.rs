@@ -3,10 +3,11 @@
 use crate::answer::MOST_RESULTS;
 use crate::blocks;
 use crate::case::Case;
+use crate::conversion;
 use crate::difference::Part;
 use crate::kind::{File, Relation};
 use crate::lent::Lent;
-use crate::library::{BlockReply, Library, Reply};
+use crate::library::{BlockReply, ConversionReply, Library, Reply};
 use crate::run::Found;
 use crate::words::due;
 use independent::{Deal, Refusal};
@@ -16,12 +17,13 @@ fn words(list: &[u64]) -> String {
     list.iter().map(u64::to_string).collect::<Vec<_>>().join(" ")
 }
 
-/// The sheet, its room, and the file and second sheet where there are some.
+/// The sheet, its room and output, and the file and second sheet where there are some.
 pub fn case(case: &Case) -> String {
     let mut text = format!(
-        "kind {}, room {}\nsheet {}\n",
+        "kind {}, room {}, output {}\nsheet {}\n",
         case.kind.name(),
         case.room,
+        case.output,
         words(&case.sheet)
     );
     if case.file_kind != File::Unused {
@@ -96,7 +98,31 @@ fn block_answers(library: &Library, case: &Case) -> String {
     both.collect()
 }
 
-/// What both sides answer to the sheet, to its file where there is one, and to blocks of its rows.
+/// Number, place and count of a reply, and the words that were written, as a line.
+fn converted(reply: &ConversionReply, written: &[u64]) -> String {
+    let ConversionReply {
+        number, place, count, ..
+    } = reply;
+    let head = format!("number {number} place {place} count {count} words ");
+    head + &words(written) + "\n"
+}
+
+/// What both sides answer to the conversions that are asked for. Of the proved library no more words are shown than it
+/// says it wrote, and none on a refusal.
+fn conversion_answers(library: &Library, case: &Case) -> String {
+    let both = conversion::askings(case).into_iter().map(|asking| {
+        let room = asking.room;
+        let independent = converted(&asking.due(), asking.answer.as_deref().unwrap_or_default());
+        let mut lent = Lent::default();
+        let reply = lent.lend(room, |output| (library.convert)(&case.sheet, output));
+        let written = if reply.number == 0 { reply.count } else { 0 };
+        let proved = converted(&reply, lent.first(written));
+        format!("independent, conversion to {room} words: {independent}proved, conversion to {room} words: {proved}")
+    });
+    both.collect()
+}
+
+/// What both sides answer to the sheet, to its file where there is one, to blocks of its rows and to its conversion.
 pub fn answers(library: &Library, case: &Case) -> String {
     let independent = independent_answer(&independent::weigh(&case.sheet, case.room as u64));
     let proved = proved_answer(case.room, |results| (library.weigh)(&case.sheet, results));
@@ -105,7 +131,7 @@ pub fn answers(library: &Library, case: &Case) -> String {
         File::Unused => String::new(),
         _ => file_answers(library, case),
     };
-    text + &of_file + &block_answers(library, case)
+    text + &of_file + &block_answers(library, case) + &conversion_answers(library, case)
 }
 
 /// What both sides answer to the sheet's file, with the room of the sheet and as a report.

@@ -3,12 +3,14 @@
 use crate::answer::{refusal, Approach, LineWord, LINE_WORDS};
 use crate::block_feature::{AskedBlock, BlockFeature, BlockRowFeature};
 use crate::case::Case;
+use crate::conversion::Asking;
+use crate::conversion_feature::{ConversionFeature, ConversionRefusal, Converting};
 use crate::date_feature::{DateFeature, DatedLineFeature};
 use crate::inferred_feature::{InferredFeature, InferredRefusal, UntakenFeature};
 use crate::irb_feature::{
     is_under_irba, parameter_names, parameter_place, IrbFeature, IrbLineFeature, IrbRefusal, PARAMETERS,
 };
-use crate::kind::{File, Kind, Relation, Room};
+use crate::kind::{File, Kind, Output, Relation, Room};
 use crate::law_feature::{LawFeature, Rerated};
 use crate::least_feature::LeastFeature;
 use crate::lent::Lent;
@@ -18,6 +20,7 @@ use crate::seen::{DealKind, Seen};
 use crate::sheet::{status, Layout, RowWord, LONG_TERM, SHORT_TERM};
 use crate::sheet_feature::{FileFeature, RoomFeature, SheetFeature};
 use crate::sought::{Sought, Tranches};
+use crate::unit_feature::{UnitFeature, UnitRefusal};
 use independent::{Deal, Refusal};
 use std::fmt;
 
@@ -77,6 +80,7 @@ fn names() -> Vec<String> {
     let mut names = Vec::new();
     names.extend(Kind::TABLE.map(|(_, name, _)| format!("kind: {name}")));
     names.extend(Room::TABLE.map(|(_, name, _)| format!("room: {name}")));
+    names.extend(Output::TABLE.map(|(_, name, _)| format!("output: {name}")));
     names.extend(File::TABLE.map(|(_, name, _)| format!("file: {name}")));
     names.extend(Relation::TABLE.map(|(_, name, _)| format!("second sheet: {name}")));
     names.extend(LawFeature::TABLE.map(|(_, name)| name.to_string()));
@@ -87,7 +91,9 @@ fn names() -> Vec<String> {
     names.extend(DateFeature::TABLE.map(|(_, name)| name.to_string()));
     names.extend(IrbRefusal::TABLE.map(|(_, name)| name.to_string()));
     names.extend(InferredRefusal::TABLE.map(|(_, name)| name.to_string()));
+    names.extend(UnitRefusal::TABLE.map(|(_, name)| name.to_string()));
     names.extend(IrbFeature::TABLE.map(|(_, name)| name.to_string()));
+    names.extend(UnitFeature::TABLE.map(|(_, name)| name.to_string()));
     names.extend(Approach::TABLE.iter().map(|(_, name)| format!("lines: {name}")));
     let statuses = status::TABLE.iter();
     names.extend(statuses.map(|(code, name)| format!("accepted with status {code}, {name}")));
@@ -104,6 +110,8 @@ fn names() -> Vec<String> {
     names.extend(FileFeature::TABLE.map(|(_, name)| name.to_string()));
     names.extend(BlockRowFeature::TABLE.map(|(_, name)| name.to_string()));
     names.extend(BlockFeature::TABLE.map(|(_, name)| name.to_string()));
+    names.extend(ConversionFeature::TABLE.map(|(_, name)| name.to_string()));
+    names.extend(ConversionRefusal::TABLE.map(|(_, name)| name.to_string()));
     names
 }
 
@@ -114,6 +122,8 @@ pub struct Tally {
     pub kinds: [u64; Kind::TABLE.len()],
     /// Sheets with each sort of room.
     pub rooms: [u64; Room::TABLE.len()],
+    /// Sheets with each sort of output that is drawn.
+    pub outputs: [u64; Output::TABLE.len()],
     /// Sheets with each sort of file.
     pub files: [u64; File::TABLE.len()],
     /// Sheets with each sort of second sheet, where it was compared.
@@ -122,7 +132,8 @@ pub struct Tally {
     pub law_features: [u64; LawFeature::TABLE.len()],
     /// Accepted sheets.
     pub accepted: u64,
-    /// Refusals, in the order of their list: of a bad length, files; else sheets.
+    /// Refusals, in the order of their list: of a bad length, files; of a risk weight that is no whole percent, conversions;
+    /// else sheets.
     pub refusals: [u64; refusal::MET.len()],
     /// Sheets that show each feature.
     pub sheet_features: [u64; SheetFeature::TABLE.len()],
@@ -134,8 +145,12 @@ pub struct Tally {
     pub irb_refusals: [u64; IrbRefusal::TABLE.len()],
     /// Sheets refused for a tranche without thickness whose ratings show each feature.
     pub inferred_refusals: [u64; InferredRefusal::TABLE.len()],
+    /// Refused sheets whose unit or risk weight shows each feature.
+    pub unit_refusals: [u64; UnitRefusal::TABLE.len()],
     /// Accepted sheets whose pool kind and IRB section show each feature.
     pub irb_features: [u64; IrbFeature::TABLE.len()],
+    /// Accepted sheets whose unit and risk weights show each feature.
+    pub unit_features: [u64; UnitFeature::TABLE.len()],
     /// Lines by approach.
     pub approaches: [u64; Approach::TABLE.len()],
     /// Accepted sheets with a row of each status.
@@ -166,6 +181,10 @@ pub struct Tally {
     pub block_row_features: [u64; BlockRowFeature::TABLE.len()],
     /// Blocks that show each feature.
     pub block_features: [u64; BlockFeature::TABLE.len()],
+    /// Conversions that are written and show each feature.
+    pub conversion_features: [u64; ConversionFeature::TABLE.len()],
+    /// Conversions that are refused and show each feature.
+    pub conversion_refusals: [u64; ConversionRefusal::TABLE.len()],
     /// Lines with two admitted weights where the higher one is taken.
     pub higher_taken: u64,
     /// Lines with two admitted least weights where the lower one is taken.
@@ -192,6 +211,7 @@ impl Tally {
                 self.accepted += 1;
                 self.note_pool(&case.sheet, deal);
                 self.note_section(&case.sheet, deal);
+                self.note_unit(&case.sheet, deal);
                 self.note_lines(&case.sheet, deal, lent);
             }
             Err(refused) => {
@@ -201,7 +221,8 @@ impl Tally {
         }
     }
 
-    /// Notes what the dates, the pool kind, the IRB section and the ratings of a refused sheet show.
+    /// Notes what the dates, the pool kind, the IRB section, the ratings, the unit and the risk weights of a refused sheet
+    /// show.
     fn note_refused(&mut self, sheet: &[u64], refused: &Refusal) {
         for (count, (feature, _)) in self.date_features.iter_mut().zip(DateFeature::TABLE) {
             *count += u64::from(feature.shown(sheet, refused));
@@ -212,11 +233,21 @@ impl Tally {
         for (count, (feature, _)) in self.inferred_refusals.iter_mut().zip(InferredRefusal::TABLE) {
             *count += u64::from(feature.shown(sheet, refused));
         }
+        for (count, (feature, _)) in self.unit_refusals.iter_mut().zip(UnitRefusal::TABLE) {
+            *count += u64::from(feature.shown(sheet, refused));
+        }
     }
 
     /// Notes what the pool kind and the IRB section of an accepted sheet show.
     fn note_section(&mut self, sheet: &[u64], deal: &Deal) {
         for (count, (feature, _)) in self.irb_features.iter_mut().zip(IrbFeature::TABLE) {
+            *count += u64::from(feature.shown(sheet, deal));
+        }
+    }
+
+    /// Notes what the unit and the risk weights of an accepted sheet show.
+    fn note_unit(&mut self, sheet: &[u64], deal: &Deal) {
+        for (count, (feature, _)) in self.unit_features.iter_mut().zip(UnitFeature::TABLE) {
             *count += u64::from(feature.shown(sheet, deal));
         }
     }
@@ -325,6 +356,24 @@ impl Tally {
         }
     }
 
+    /// Notes the conversions of a sheet whose lines have this answer. What was written was found equal, and so were the
+    /// answers in both units. Of their refusals, that of a risk weight that is no whole percent alone is counted by its
+    /// number.
+    pub fn note_conversions(&mut self, case: &Case, answer: &Result<Deal, Refusal>, askings: &[Asking]) {
+        self.outputs[case.output_kind as usize] += 1;
+        for asking in askings {
+            let not_whole = asking.due().number == refusal::NOT_WHOLE_PERCENT;
+            self.refusals[refusal::place(refusal::NOT_WHOLE_PERCENT)] += u64::from(not_whole);
+            let converting = Converting::new(&case.sheet, answer, asking);
+            for (count, (feature, _)) in self.conversion_features.iter_mut().zip(ConversionFeature::TABLE) {
+                *count += u64::from(feature.shown(&converting));
+            }
+            for (count, (feature, _)) in self.conversion_refusals.iter_mut().zip(ConversionRefusal::TABLE) {
+                *count += u64::from(feature.shown(&converting));
+            }
+        }
+    }
+
     /// Notes that a second sheet was compared.
     pub fn note_second(&mut self, relation: Relation) {
         self.relations[relation as usize] += 1;
@@ -341,6 +390,9 @@ impl Tally {
 
     /// Notes that the cap decided some line of a sheet with this answer. SEC-IRBA is counted apart.
     pub fn note_cap(&mut self, sheet: &[u64], deal: &Deal) {
+        for (count, (feature, _)) in self.unit_features.iter_mut().zip(UnitFeature::TABLE) {
+            *count += u64::from(feature.shown_by_cap(sheet, deal));
+        }
         if is_under_irba(deal) {
             self.irb_features[IrbFeature::CapDecided as usize] += 1;
             return;
@@ -354,6 +406,7 @@ impl Tally {
     pub fn add(&mut self, other: &Tally) {
         add(&mut self.kinds, &other.kinds);
         add(&mut self.rooms, &other.rooms);
+        add(&mut self.outputs, &other.outputs);
         add(&mut self.files, &other.files);
         add(&mut self.relations, &other.relations);
         add(&mut self.law_features, &other.law_features);
@@ -364,7 +417,9 @@ impl Tally {
         add(&mut self.date_features, &other.date_features);
         add(&mut self.irb_refusals, &other.irb_refusals);
         add(&mut self.inferred_refusals, &other.inferred_refusals);
+        add(&mut self.unit_refusals, &other.unit_refusals);
         add(&mut self.irb_features, &other.irb_features);
+        add(&mut self.unit_features, &other.unit_features);
         add(&mut self.approaches, &other.approaches);
         add(&mut self.statuses, &other.statuses);
         add(&mut self.features, &other.features);
@@ -380,6 +435,8 @@ impl Tally {
         add(&mut self.file_features, &other.file_features);
         add(&mut self.block_row_features, &other.block_row_features);
         add(&mut self.block_features, &other.block_features);
+        add(&mut self.conversion_features, &other.conversion_features);
+        add(&mut self.conversion_refusals, &other.conversion_refusals);
         self.higher_taken += other.higher_taken;
         self.lower_taken += other.lower_taken;
         add(&mut self.apart, &other.apart);
@@ -391,6 +448,7 @@ impl Tally {
         let groups: &[&[u64]] = &[
             &self.kinds,
             &self.rooms,
+            &self.outputs,
             &self.files,
             &self.relations,
             &self.law_features,
@@ -401,7 +459,9 @@ impl Tally {
             &self.date_features,
             &self.irb_refusals,
             &self.inferred_refusals,
+            &self.unit_refusals,
             &self.irb_features,
+            &self.unit_features,
             &self.approaches,
             &self.statuses,
             &self.features,
@@ -417,6 +477,8 @@ impl Tally {
             &self.file_features,
             &self.block_row_features,
             &self.block_features,
+            &self.conversion_features,
+            &self.conversion_refusals,
         ];
         groups.concat()
     }
@@ -457,6 +519,7 @@ impl fmt::Display for Tally {
 #[cfg(test)]
 mod tests {
     use super::*;
+    use crate::conversion::askings;
     use crate::least_feature::Ends;
     use crate::sheet::{pool_kind, Fact, Irb, Row, Tranche, FILE_BYTES, WHOLE, WORD_BYTES};
 
@@ -568,6 +631,11 @@ mod tests {
         tally.room_features[RoomFeature::OneLessEach as usize] = 1;
         tally.block_row_features[0] = 1;
         tally.block_features[BlockFeature::TABLE.len() - 1] = 1;
+        tally.outputs[Output::AsGiven as usize] = 1;
+        tally.unit_refusals[0] = 1;
+        tally.unit_features[UnitFeature::TABLE.len() - 1] = 1;
+        tally.conversion_features[0] = 1;
+        tally.conversion_refusals[ConversionRefusal::TABLE.len() - 1] = 1;
         let missing = tally.missing();
         let noted = [
             "refusal 13",
@@ -579,6 +647,11 @@ mod tests {
             "refusal 14 with one less for each tranche",
             "blocks: pool of 1 row",
             "blocks: refused by 3, past",
+            "output: for the sheet as given",
+            "refusal 4 for a seventh fact of 2",
+            "hundredths: SEC-IRBA, cap decided",
+            "conversion: 4 facts, to hundredths",
+            "conversion: refusal 6 for 125,001",
         ];
         assert_eq!(missing.len(), all - noted.len());
         assert!(noted.iter().all(|name| !missing.contains(&name.to_string())));
@@ -602,6 +675,27 @@ mod tests {
         let formula = [0, 1, 2, 3].map(|apart| counts(0, apart));
         assert_eq!(formula, [[0, 0, 0], [1, 0, 0], [0, 1, 0], [0, 0, 1]]);
         assert_eq!([0, 1].map(|apart| counts(1, apart)), [[0; 3]; 2]);
+    }
+
+    /// A sheet counts by its sort of output, and its conversions by 19 each.
+    #[test]
+    fn conversions_are_counted() {
+        let sheet = |weight| {
+            let facts = [7, 0, 0, 0, 0, 0, 0, 1];
+            [&facts[..], &[1, 1, 1, weight, 0], &[1, 1, 1, 1, 0, 0, 0, 0]].concat()
+        };
+        let counts = |weight| {
+            let mut case = Case::blank();
+            case.sheet = sheet(weight);
+            case.output_kind = Output::Nothing;
+            let answer = independent::weigh(&case.sheet, LINE_WORDS as u64);
+            let mut tally = Tally::default();
+            tally.note_conversions(&case, &answer, &askings(&case));
+            let refused = tally.refusals[refusal::place(refusal::NOT_WHOLE_PERCENT)];
+            (tally.outputs, refused, tally.conversion_refusals[2])
+        };
+        let outputs = [0, 0, 0, 0, 0, 1];
+        assert_eq!([150, 100].map(counts), [(outputs, 2, 0), (outputs, 0, 1)]);
     }
 
     /// A cap that decided counts by the deal: for an STC deal also as one, under SEC-IRBA apart from all others.

@@ -71,7 +71,7 @@ fn compare_line(number: u64, line: &Line, words: &[u64; LINE_WORDS]) -> Result<(
 }
 
 /// No lent word at or after this place was written.
-fn untouched(part: Part, lent: &Lent, start: usize) -> Result<(), Difference> {
+pub fn untouched(part: Part, lent: &Lent, start: usize) -> Result<(), Difference> {
     match lent.touched(start) {
         Some(word) => Err(Difference::new(part, "the words as they were", word)),
         None => Ok(()),

@@ -3,12 +3,13 @@
 
 use differential::answer::{refusal, sum_words, Approach, LineWord, SumWord, LINE_WORDS, MOST_RESULTS, SUM_WORDS};
 use differential::sheet::{
-    blocks_of, pool_kind, Fact, IrbWord, Layout, TrancheWord, BLOCKS, BLOCK_ROWS, DAYS, FACTS, FEWEST_FACTS,
-    FILE_BYTES, IRB_SHARE, LONG_TERM, MANY_LOANS, MONTHS, RATINGS, WHOLE, WORD_BYTES,
+    blocks_of, pool_kind, rewritten_words, unit, write_with_facts, Fact, IrbWord, Layout, RowWord, TrancheWord, BLOCKS,
+    BLOCK_ROWS, DAYS, FACTS, FEWEST_FACTS, FILE_BYTES, IRB_AVERAGE, IRB_SHARE, LONG_TERM, MANY_LOANS, MONTHS,
+    ONE_PERCENT, RATINGS, RISK_WEIGHT, RISK_WEIGHT_PERCENT, WHOLE, WORD_BYTES,
 };
 use differential::{
-    show, Asked, BlockReply, Case, Difference, Ends, Feature, Found, LeastFeature, Library, Part, Reply, Run, SumBlock,
-    Tally, Weigh, WeighFile,
+    show, Asked, BlockReply, Case, ConversionReply, Convert, Difference, Ends, Feature, Found, LeastFeature, Library,
+    Part, Reply, Run, SumBlock, Tally, Weigh, WeighFile,
 };
 use independent::approach::{self, Figures};
 use independent::block::{self, sums_over};
@@ -29,7 +30,7 @@ const SEED: u64 = 3;
 fn run(library: Library, threads: u64) -> Result<Tally, Found> {
     let run = Run {
         seed: SEED,
-        sheets: 2_000,
+        sheets: 4_000,
         threads,
     };
     run.go(&library)
@@ -86,6 +87,15 @@ fn summed(block_sums: SumBlock) -> Option<Part> {
     first_part(library, |asked| matches!(asked, Asked::Block(_)))
 }
 
+/// The part in which a run first finds this conversion different.
+fn converted(convert: Convert) -> Option<Part> {
+    let library = Library {
+        convert,
+        ..Library::PROVED
+    };
+    first_part(library, |asked| matches!(asked, Asked::Conversion(_)))
+}
+
 /// The proved weighing, the start of each wrong one.
 fn proved(sheet: &[u64], results: &mut [u64]) -> Reply {
     (Library::PROVED.weigh)(sheet, results)
@@ -131,6 +141,8 @@ fn nothing_wrong_is_passed() {
     assert_eq!(reported(text), None);
     assert_eq!(summed(proved_sums), None);
     assert_eq!(summed(|sheet, number| over_rows(sheet, number, block_of)), None);
+    assert_eq!(converted(proved_conversion), None);
+    assert_eq!(converted(|sheet, output| Steps::RIGHT.convert(sheet, output)), None);
 }
 
 /// A refusal with its number one too high.
@@ -218,7 +230,7 @@ fn counts_above(sheet: &[u64], facts: u64) -> bool {
         .is_some_and(|&counted| counted > facts && counted <= FACTS)
 }
 
-/// Whether a sheet counts five or six facts and states a fifth fact like this one.
+/// Whether a sheet counts five facts or more and states a fifth fact like this one.
 fn fifth_is(sheet: &[u64], like: fn(u64) -> bool) -> bool {
     counts_above(sheet, FEWEST_FACTS) && sheet.get(FIFTH).is_some_and(|&fact| like(fact))
 }
@@ -286,22 +298,30 @@ fn wrong_fifth_fact() {
     assert_eq!(weighed(no_code_as_a_mark), Some(Part::Number));
     let without_good_mark: Weigh = |sheet, results| accepted_by(sheet, results, without_mark);
     assert_eq!(weighed(without_good_mark), Some(Part::Line(LineWord::Weight)));
-    let outcome_or_weight = [Some(Part::Outcome), Some(Part::Line(LineWord::Weight))];
-    assert!(outcome_or_weight.contains(&weighed(without_mark)));
+    let part = weighed(without_mark);
+    let found = matches!(part, Some(Part::Outcome | Part::Number | Part::Line(LineWord::Weight)));
+    assert!(found, "{part:?}");
     let four_facts: Weigh = |sheet, results| {
         accepted_by(sheet, results, |sheet, results| {
             facts_up_to(FEWEST_FACTS, sheet, results)
         })
     };
-    assert_eq!(weighed(four_facts), Some(Part::Outcome));
+    assert!(is_by_facts(weighed(four_facts)));
+}
+
+/// Whether a difference is one that wrong facts make: in the outcome, or between two sheets with other facts, other forms
+/// of maturities or other units.
+fn is_by_facts(part: Option<Part>) -> bool {
+    let of_second = matches!(part, Some(Part::FactsAdded | Part::MonthsForDates | Part::OtherUnit));
+    of_second || part == Some(Part::Outcome)
 }
 
 /// The place of the sixth fact.
 const SIXTH: usize = Layout::fact(Fact::ReportingDate);
 
-/// Whether a sheet counts six facts and states a sixth fact like this one.
+/// Whether a sheet counts six facts or more and states a sixth fact like this one.
 fn sixth_is(sheet: &[u64], like: fn(u64) -> bool) -> bool {
-    counts_above(sheet, FACTS - 1) && sheet.get(SIXTH).is_some_and(|&fact| like(fact))
+    counts_above(sheet, Fact::Stc.number()) && sheet.get(SIXTH).is_some_and(|&fact| like(fact))
 }
 
 /// Refuses a sixth fact of 0 as no date.
@@ -325,14 +345,17 @@ fn without_date(sheet: &[u64], results: &mut [u64]) -> Reply {
 #[test]
 fn wrong_sixth_fact() {
     let wrong: [Weigh; 3] = [
-        |sheet, results| accepted_by(sheet, results, |sheet, results| facts_up_to(FACTS - 1, sheet, results)),
+        |sheet, results| {
+            accepted_by(sheet, results, |sheet, results| {
+                facts_up_to(Fact::Stc.number(), sheet, results)
+            })
+        },
         |sheet, results| accepted_by(sheet, results, zero_as_a_date),
         |sheet, results| accepted_by(sheet, results, without_date),
     ];
     for weigh in wrong {
         let part = weighed(weigh);
-        let found = matches!(part, Some(Part::Outcome | Part::FactsAdded | Part::MonthsForDates));
-        assert!(found, "{part:?}");
+        assert!(is_by_facts(part), "{part:?}");
     }
 }
 
@@ -491,6 +514,7 @@ fn months_apart(reporting: Date, maturity: Date) -> u64 {
 }
 
 /// Months counted wrongly: no month more for a later day, one for the same day too, one always, or only whole months.
+/// Found by the weight, or by the approach of a tranche that takes no rating then.
 #[test]
 fn wrong_months() {
     let wrong: [Weigh; 4] = [
@@ -508,7 +532,9 @@ fn wrong_months() {
         },
     ];
     for weigh in wrong {
-        assert_eq!(weighed(weigh), Some(Part::Line(LineWord::Weight)));
+        let part = weighed(weigh);
+        let found = matches!(part, Some(Part::Line(LineWord::Approach | LineWord::Weight)));
+        assert!(found, "{part:?}");
     }
 }
 
@@ -821,7 +847,7 @@ impl Rework {
     /// independent implementation.
     fn weigh(&self, sheet: &[u64], results: &mut [u64]) -> Reply {
         let read = match independent::sheet::read(sheet) {
-            Ok(read) if independent::sheet::refuse_short_results(&read, results.len() as u64).is_ok() => read,
+            Ok(read) if results.len() >= LINE_WORDS * read.tranches.len() => read,
             _ => return proved(sheet, results),
         };
         let mut figures = Figures::of(&read);
@@ -922,7 +948,7 @@ fn base_rounded_down(rows: &[Row]) -> u128 {
         .iter()
         .map(|row| u128::from(row.exposure) * u128::from(row.risk_weight))
         .sum();
-    800 * weighted / sum(|row| row.exposure)
+    8 * weighted / sum(|row| row.exposure)
 }
 
 /// A rework that changes nothing passes, so that each one below is found for its own sake. A charge that is wrong is
@@ -958,7 +984,7 @@ fn wrong_charge_under_irba() {
 #[test]
 fn wrong_cap_under_irba() {
     let wrong = [
-        refigured!(|rows, figures| figures.average_weight = charge::average_risk_weight_times(100, rows) as u64),
+        refigured!(|rows, figures| figures.average_weight = charge::average_risk_weight_times(1, rows) as u64),
         refigured!(|_, figures| figures.average_weight = figures.average_weight.max(1_500)),
         refigured!(|_, figures| figures.average_weight += 1),
     ];
@@ -1222,7 +1248,7 @@ type Count = fn(&Weighing, &Tranche) -> Counted;
 /// The proved weighing, but each sheet of good words with enough room is weighed tranche by tranche as this says.
 fn weigh_counting(sheet: &[u64], results: &mut [u64], count: Count) -> Reply {
     let read = match independent::sheet::read(sheet) {
-        Ok(read) if independent::sheet::refuse_short_results(&read, results.len() as u64).is_ok() => read,
+        Ok(read) if results.len() >= LINE_WORDS * read.tranches.len() => read,
         _ => return proved(sheet, results),
     };
     let figures = &Figures::of(&read);
@@ -2466,4 +2492,1058 @@ fn difference_of_a_block_is_shown() {
         last.contains(&format!("difference in accepted or refused of block {BLOCKS}: ")),
         "{text}"
     );
+}
+
+/// The place of the seventh fact.
+const SEVENTH: usize = Layout::fact(Fact::Unit);
+
+/// Judges a seventh fact that is no unit by this number, at this place.
+fn no_unit_as(sheet: &[u64], results: &mut [u64], number: u64, place: usize) -> Reply {
+    let reply = proved(sheet, results);
+    match (reply.number, reply.place as usize) {
+        (refusal::FACT, SEVENTH) => Reply::refusing(number, place as u64),
+        _ => reply,
+    }
+}
+
+/// Takes a seventh fact above 1 for this unit.
+fn no_unit_taken(sheet: &[u64], results: &mut [u64], unit: u64) -> Reply {
+    let reply = proved(sheet, results);
+    match (reply.number, reply.place as usize) {
+        (refusal::FACT, SEVENTH) => {
+            let mut words = sheet.to_vec();
+            words[SEVENTH] = unit;
+            proved(&words, results)
+        }
+        _ => reply,
+    }
+}
+
+/// A seventh fact that is not taken, judged by another number or at another place, or taken though it is no unit.
+#[test]
+fn wrong_seventh_fact() {
+    let six_facts: Weigh = |sheet, results| {
+        accepted_by(sheet, results, |sheet, results| {
+            facts_up_to(Fact::ReportingDate.number(), sheet, results)
+        })
+    };
+    assert!(is_by_facts(weighed(six_facts)));
+    let judged: [(Weigh, Part); 3] = [
+        (
+            |sheet, results| no_unit_as(sheet, results, refusal::COUNT, SEVENTH),
+            Part::Number,
+        ),
+        (
+            |sheet, results| no_unit_as(sheet, results, refusal::RISK_WEIGHT, SEVENTH),
+            Part::Number,
+        ),
+        (
+            |sheet, results| no_unit_as(sheet, results, refusal::FACT, SEVENTH + 1),
+            Part::Place,
+        ),
+    ];
+    for (weigh, part) in judged {
+        assert_eq!(weighed(weigh), Some(part));
+    }
+    let taken: [Weigh; 2] = [
+        |sheet, results| no_unit_taken(sheet, results, unit::PERCENT),
+        |sheet, results| no_unit_taken(sheet, results, unit::HUNDREDTHS),
+    ];
+    for weigh in taken {
+        let part = weighed(weigh);
+        assert!(matches!(part, Some(Part::Outcome | Part::Number)), "{part:?}");
+    }
+}
+
+/// The unit of a good sheet.
+fn unit_of(sheet: &[u64]) -> u64 {
+    Layout::of_sheet(sheet).fact_word(sheet, Fact::Unit)
+}
+
+/// Changes the words of a good sheet's risk weights, each made of the unit and of itself.
+fn change_weights(words: &mut [u64], change: impl Fn(u64, u64) -> u64) {
+    let (layout, unit) = (Layout::of_sheet(words), unit_of(words));
+    for row in 0..layout.rows {
+        let weight = &mut words[layout.risk_weight(row)];
+        *weight = change(unit, *weight);
+    }
+}
+
+/// Weighs an accepted sheet with other risk weights, each made of the unit and of itself.
+fn reweighted(sheet: &[u64], results: &mut [u64], change: fn(u64, u64) -> u64) -> Reply {
+    accepted_by(sheet, results, |sheet, results| {
+        let mut words = sheet.to_vec();
+        change_weights(&mut words, change);
+        proved(&words, results)
+    })
+}
+
+/// Weighs an accepted sheet with the words of its risk weights read in hundredths.
+fn always_hundredths(sheet: &[u64], results: &mut [u64]) -> Reply {
+    accepted_by(sheet, results, |sheet, results| {
+        let mut words = Vec::new();
+        write_with_facts(sheet, FACTS, &mut words);
+        words[SEVENTH] = unit::HUNDREDTHS;
+        proved(&words, results)
+    })
+}
+
+/// Risk weights that are read in another way: hundredths cut to whole percents, rounded up to them, or taken for whole
+/// percents up to their limit; and whole percents taken for hundredths.
+#[test]
+fn wrong_unit_of_risk_weights() {
+    let wrong: [Weigh; 4] = [
+        |sheet, results| {
+            reweighted(sheet, results, |unit, word| match unit {
+                unit::PERCENT => word,
+                _ => word / ONE_PERCENT * ONE_PERCENT,
+            })
+        },
+        |sheet, results| {
+            reweighted(sheet, results, |unit, word| match unit {
+                unit::PERCENT => word,
+                _ => word.next_multiple_of(ONE_PERCENT),
+            })
+        },
+        |sheet, results| {
+            reweighted(sheet, results, |unit, word| match unit {
+                unit::PERCENT => word,
+                _ => (ONE_PERCENT * word).min(RISK_WEIGHT),
+            })
+        },
+        always_hundredths,
+    ];
+    for (place, weigh) in wrong.into_iter().enumerate() {
+        let part = weighed(weigh);
+        let found = matches!(part, Some(Part::Charge | Part::Outcome | Part::OtherUnit));
+        assert!(found, "{place}: {part:?}");
+    }
+}
+
+/// Refuses each accepted sheet in this unit with a risk weight above this limit.
+fn weights_up_to(sheet: &[u64], results: &mut [u64], of: u64, most: u64) -> Reply {
+    accepted_by(sheet, results, |sheet, results| {
+        let layout = Layout::of_sheet(sheet);
+        let mut weights = (0..layout.rows).map(|row| layout.risk_weight(row));
+        match weights.find(|&place| unit_of(sheet) == of && sheet[place] > most) {
+            Some(place) => Reply::refusing(refusal::RISK_WEIGHT, place as u64),
+            None => proved(sheet, results),
+        }
+    })
+}
+
+/// Takes a risk weight of up to so much more than the limit for that limit.
+fn weights_above_taken(sheet: &[u64], results: &mut [u64], more: u64) -> Reply {
+    let reply = proved(sheet, results);
+    let place = reply.place as usize;
+    if reply.number != refusal::RISK_WEIGHT {
+        return reply;
+    }
+    let in_hundredths = sheet[Layout::FACTS_COUNT] == FACTS && sheet[SEVENTH] == unit::HUNDREDTHS;
+    let most = unit::risk_weight(u64::from(in_hundredths));
+    if sheet[place] > most + more {
+        return reply;
+    }
+    let mut words = sheet.to_vec();
+    words[place] = most;
+    proved(&words, results)
+}
+
+/// Limits of risk weights: that of percent in hundredths, one less in either unit, one more, and that of hundredths in
+/// percent.
+#[test]
+fn wrong_limit_of_risk_weights() {
+    let below: [Weigh; 3] = [
+        |sheet, results| weights_up_to(sheet, results, unit::HUNDREDTHS, RISK_WEIGHT_PERCENT),
+        |sheet, results| weights_up_to(sheet, results, unit::HUNDREDTHS, RISK_WEIGHT - 1),
+        |sheet, results| weights_up_to(sheet, results, unit::PERCENT, RISK_WEIGHT_PERCENT - 1),
+    ];
+    for weigh in below {
+        let part = weighed(weigh);
+        assert!(matches!(part, Some(Part::Outcome | Part::OtherUnit)), "{part:?}");
+    }
+    let above: [Weigh; 2] = [
+        |sheet, results| weights_above_taken(sheet, results, 1),
+        |sheet, results| weights_above_taken(sheet, results, RISK_WEIGHT - RISK_WEIGHT_PERCENT),
+    ];
+    for weigh in above {
+        let part = weighed(weigh);
+        assert!(
+            matches!(part, Some(Part::Outcome | Part::Number | Part::Place)),
+            "{part:?}"
+        );
+    }
+}
+
+/// Weighs an accepted sheet in this unit that has an IRB section with another IRB average, made of its own.
+fn other_average(sheet: &[u64], results: &mut [u64], of: u64, change: fn(u64) -> u64) -> Reply {
+    accepted_by(sheet, results, |sheet, results| {
+        let layout = Layout::of_sheet(sheet);
+        let mut words = sheet.to_vec();
+        if layout.irb && unit_of(sheet) == of {
+            let average = &mut words[layout.irb_word(IrbWord::Average)];
+            *average = change(*average);
+        }
+        proved(&words, results)
+    })
+}
+
+/// An IRB average that is read in the unit of the risk weights: in whole percent, or in hundredths of the hundredths.
+#[test]
+fn wrong_unit_of_the_irb_average() {
+    let wrong: [Weigh; 2] = [
+        |sheet, results| {
+            other_average(sheet, results, unit::PERCENT, |average| {
+                (ONE_PERCENT * average).min(IRB_AVERAGE)
+            })
+        },
+        |sheet, results| other_average(sheet, results, unit::HUNDREDTHS, |average| average / ONE_PERCENT),
+    ];
+    for weigh in wrong {
+        let part = weighed(weigh);
+        let found = matches!(part, Some(Part::Line(LineWord::Weight) | Part::OtherUnit));
+        assert!(found, "{part:?}");
+    }
+}
+
+/// Sums with a fault in the weighted exposure of each sheet in this unit: over all rows, or over those with known status
+/// alone.
+fn other_weighted(sheet: &[u64], number: u64, of: u64, words: &[SumWord], fault: fn(u64) -> u64) -> BlockReply {
+    let mut reply = proved_sums(sheet, number);
+    if reply.number == 0 && unit_of(sheet) == of {
+        for &word in words {
+            reply.sums[word as usize] = fault(reply.sums[word as usize]);
+        }
+    }
+    reply
+}
+
+/// The sums of weighted exposure.
+const WEIGHTED: &[SumWord] = &[SumWord::WeightedExposure, SumWord::KnownWeightedExposure];
+
+/// Sums of a sheet in hundredths whose risk weights are cut to whole percents.
+fn sums_of_whole_percents(sheet: &[u64], number: u64) -> BlockReply {
+    let reply = proved_sums(sheet, number);
+    if reply.number != 0 || unit_of(sheet) == unit::PERCENT {
+        return reply;
+    }
+    let mut words = sheet.to_vec();
+    change_weights(&mut words, |_, word| word / ONE_PERCENT * ONE_PERCENT);
+    proved_sums(&words, number)
+}
+
+/// Weighted sums in another unit: left in percent, also over the rows with known status alone; a hundred times too high, or
+/// too low, in a sheet in hundredths; and of risk weights that are cut to whole percents.
+#[test]
+fn wrong_unit_of_weighted_sums() {
+    let all: [SumBlock; 4] = [
+        |sheet, number| other_weighted(sheet, number, unit::PERCENT, WEIGHTED, |sum| sum / ONE_PERCENT),
+        |sheet, number| {
+            other_weighted(sheet, number, unit::HUNDREDTHS, WEIGHTED, |sum| {
+                sum.wrapping_mul(ONE_PERCENT)
+            })
+        },
+        |sheet, number| other_weighted(sheet, number, unit::HUNDREDTHS, WEIGHTED, |sum| sum / ONE_PERCENT),
+        sums_of_whole_percents,
+    ];
+    for block_sums in all {
+        let part = summed(block_sums);
+        let found = matches!(part, Some(Part::Sum(SumWord::WeightedExposure) | Part::SumsInOtherUnit));
+        assert!(found, "{part:?}");
+    }
+    let known: SumBlock =
+        |sheet, number| other_weighted(sheet, number, unit::PERCENT, &WEIGHTED[1..], |sum| sum / ONE_PERCENT);
+    assert_eq!(summed(known), Some(Part::Sum(SumWord::KnownWeightedExposure)));
+}
+
+/// The proved conversion, the start of each wrong one.
+fn proved_conversion(sheet: &[u64], output: &mut [u64]) -> ConversionReply {
+    (Library::PROVED.convert)(sheet, output)
+}
+
+/// A conversion that is put together from its steps.
+struct Steps {
+    /// Judges a sheet that is to be written to so many output words.
+    judge: fn(&[u64], usize) -> Result<(), Refusal>,
+    /// The words of a sheet that is not refused, in the other unit.
+    rewrite: fn(&[u64]) -> Vec<u64>,
+}
+
+impl Steps {
+    /// The steps of S-9.
+    const RIGHT: Steps = Steps {
+        judge: |sheet, room| {
+            judge_words(sheet)?;
+            judge_weights(sheet)?;
+            judge_output(sheet, room)
+        },
+        rewrite: in_other_unit,
+    };
+
+    /// Converts a sheet by these steps. Words that pass the output are left out.
+    fn convert(&self, sheet: &[u64], output: &mut [u64]) -> ConversionReply {
+        match (self.judge)(sheet, output.len()) {
+            Ok(()) => {
+                let words = (self.rewrite)(sheet);
+                output.iter_mut().zip(&words).for_each(|(to, word)| *to = *word);
+                ConversionReply::writing(words.len() as u64)
+            }
+            Err(refusal) => ConversionReply::refusing(refusal.number, refusal.place),
+        }
+    }
+}
+
+/// A refusal of this number at this place.
+fn refuse(number: u64, place: usize) -> Result<(), Refusal> {
+    let place = place as u64;
+    Err(Refusal { number, place })
+}
+
+/// Judges the words of a sheet, and words that follow.
+fn judge_words(sheet: &[u64]) -> Result<(), Refusal> {
+    independent::sheet::read(sheet).map(|_| ())
+}
+
+/// The places of the risk weights, as far as the sheet goes, if it counts all facts and is in this unit.
+fn weight_places(sheet: &[u64], of: u64) -> impl DoubleEndedIterator<Item = usize> {
+    let places = Layout::LARGEST;
+    let rows = match (sheet.first(), sheet.get(SEVENTH), sheet.get(places.pool_count())) {
+        (Some(&FACTS), Some(&unit), Some(&rows)) if unit == of => rows,
+        _ => 0,
+    };
+    let reached = sheet
+        .len()
+        .saturating_sub(places.risk_weight(0))
+        .div_ceil(RowWord::COUNT);
+    (0..reached.min(rows as usize)).map(move |row| places.risk_weight(row))
+}
+
+/// Whether the word at a place is no multiple of this.
+fn no_multiple(sheet: &[u64], of: u64) -> impl Fn(&usize) -> bool + '_ {
+    move |&place| !sheet[place].is_multiple_of(of)
+}
+
+/// Refuses by 19 at this place, if there is one.
+fn judge_first(place: Option<usize>) -> Result<(), Refusal> {
+    place.map_or(Ok(()), |place| refuse(refusal::NOT_WHOLE_PERCENT, place))
+}
+
+/// Judges the risk weights of a sheet in hundredths.
+fn judge_weights(sheet: &[u64]) -> Result<(), Refusal> {
+    judge_first(weight_places(sheet, unit::HUNDREDTHS).find(no_multiple(sheet, ONE_PERCENT)))
+}
+
+/// Judges the output, of which so many words are needed.
+fn judge_room(needed: usize, room: usize) -> Result<(), Refusal> {
+    match room < needed {
+        true => refuse(refusal::ROOM, 0),
+        false => Ok(()),
+    }
+}
+
+/// Judges the output of a sheet.
+fn judge_output(sheet: &[u64], room: usize) -> Result<(), Refusal> {
+    judge_room(rewritten_words(sheet), room)
+}
+
+/// The words of a good sheet in the other unit; a risk weight that is no whole percent is cut.
+fn in_other_unit(sheet: &[u64]) -> Vec<u64> {
+    let mut words = Vec::new();
+    write_with_facts(sheet, FACTS, &mut words);
+    change_weights(&mut words, to_other_unit);
+    words[SEVENTH] = unit::other(words[SEVENTH]);
+    words
+}
+
+/// A word of this unit in the other one, cut to a whole number.
+fn to_other_unit(unit: u64, word: u64) -> u64 {
+    match unit {
+        unit::PERCENT => ONE_PERCENT * word,
+        _ => word / ONE_PERCENT,
+    }
+}
+
+/// The part in which a run first finds a conversion different that judges so.
+macro_rules! rejudged {
+    ($judge:expr) => {
+        converted(|sheet, output| {
+            let steps = Steps {
+                judge: $judge,
+                ..Steps::RIGHT
+            };
+            steps.convert(sheet, output)
+        })
+    };
+}
+
+/// The part in which a run first finds a conversion different that changes what it rightly writes, given the sheet.
+macro_rules! rewritten {
+    ($change:expr) => {
+        converted(|sheet, output| {
+            let steps = Steps {
+                rewrite: |sheet| {
+                    let change: fn(&[u64], &mut Vec<u64>) = $change;
+                    let mut words = in_other_unit(sheet);
+                    change(sheet, &mut words);
+                    words
+                },
+                ..Steps::RIGHT
+            };
+            steps.convert(sheet, output)
+        })
+    };
+}
+
+/// Whether a difference is in what a refusal says, or in whether there is one, of the sheet or of the converted one.
+fn is_by_judgement(part: Option<Part>) -> bool {
+    let of_sheet = matches!(part, Some(Part::Outcome | Part::Number | Part::Place));
+    of_sheet || part == Some(Part::ConvertedTwice)
+}
+
+/// Whether a difference is in what is written, of the sheet or of the converted one.
+fn is_by_words(part: Option<Part>) -> bool {
+    matches!(part, Some(Part::Converted | Part::ConvertedTwice))
+}
+
+/// Judged in another order: 19 before the words, 19 before 3, 14 before 19, 14 before the words.
+#[test]
+fn wrong_order_of_a_conversion() {
+    let wrong = [
+        rejudged!(|sheet, room| {
+            judge_weights(sheet)?;
+            judge_words(sheet)?;
+            judge_output(sheet, room)
+        }),
+        rejudged!(|sheet, room| {
+            let words = judge_words(sheet);
+            let good = words.map_or_else(|refused| refused.number == refusal::WORDS_FOLLOW, |()| true);
+            if good {
+                judge_weights(sheet)?;
+            }
+            words?;
+            judge_output(sheet, room)
+        }),
+        rejudged!(|sheet, room| {
+            judge_words(sheet)?;
+            judge_output(sheet, room)?;
+            judge_weights(sheet)
+        }),
+        rejudged!(|sheet, room| {
+            judge_output(sheet, room)?;
+            judge_words(sheet)?;
+            judge_weights(sheet)
+        }),
+    ];
+    for part in wrong {
+        assert_eq!(part, Some(Part::Number));
+    }
+}
+
+/// Refuses a good sheet by 19 as this judges, and else as is right.
+fn with_weights(sheet: &[u64], room: usize, judge: fn(&[u64]) -> Result<(), Refusal>) -> Result<(), Refusal> {
+    judge_words(sheet)?;
+    judge(sheet)?;
+    judge_output(sheet, room)
+}
+
+/// Risk weights judged in another way: not at all, or the first row's alone; only by a multiple of 50; also in a sheet in
+/// percent; 0 too.
+#[test]
+fn wrong_judgement_of_whole_percents() {
+    let wrong = [
+        rejudged!(|sheet, room| with_weights(sheet, room, |_| Ok(()))),
+        rejudged!(|sheet, room| with_weights(sheet, room, |sheet| {
+            let mut weights = weight_places(sheet, unit::HUNDREDTHS).take(1);
+            judge_first(weights.find(no_multiple(sheet, ONE_PERCENT)))
+        })),
+        rejudged!(|sheet, room| with_weights(sheet, room, |sheet| {
+            judge_first(weight_places(sheet, unit::HUNDREDTHS).find(no_multiple(sheet, 50)))
+        })),
+        rejudged!(|sheet, room| with_weights(sheet, room, |sheet| {
+            judge_weights(sheet)?;
+            judge_first(weight_places(sheet, unit::PERCENT).find(no_multiple(sheet, ONE_PERCENT)))
+        })),
+        rejudged!(|sheet, room| with_weights(sheet, room, |sheet| {
+            judge_weights(sheet)?;
+            judge_first(weight_places(sheet, unit::HUNDREDTHS).find(|&place| sheet[place] == 0))
+        })),
+    ];
+    for (place, part) in wrong.into_iter().enumerate() {
+        assert!(is_by_judgement(part), "{place}: {part:?}");
+    }
+}
+
+/// The place of 19: of the last such risk weight, of the row's first word, the row's number, 0, and one too high as in a
+/// sheet with a fact more.
+#[test]
+fn wrong_place_of_a_risk_weight() {
+    let wrong = [
+        rejudged!(|sheet, room| with_weights(sheet, room, |sheet| {
+            judge_first(weight_places(sheet, unit::HUNDREDTHS).rfind(no_multiple(sheet, ONE_PERCENT)))
+        })),
+        rejudged!(|sheet, room| with_weights(sheet, room, |sheet| {
+            judge_weights(sheet).map_err(|refused| at(refused, |place| place - RowWord::RiskWeight as u64))
+        })),
+        rejudged!(|sheet, room| with_weights(sheet, room, |sheet| {
+            let row = |place: u64| (place as usize - Layout::LARGEST.row(0)) / RowWord::COUNT;
+            judge_weights(sheet).map_err(|refused| Refusal {
+                place: row(refused.place) as u64,
+                ..refused
+            })
+        })),
+        rejudged!(|sheet, room| with_weights(sheet, room, |sheet| {
+            judge_weights(sheet).map_err(|refused| at(refused, |_| 0))
+        })),
+        rejudged!(|sheet, room| with_weights(sheet, room, |sheet| {
+            judge_weights(sheet).map_err(|refused| at(refused, |place| place + 1))
+        })),
+    ];
+    for part in wrong {
+        assert_eq!(part, Some(Part::Place));
+    }
+}
+
+/// A refusal at another place.
+fn at(refused: Refusal, place: fn(u64) -> u64) -> Refusal {
+    Refusal {
+        place: place(refused.place),
+        ..refused
+    }
+}
+
+/// Places of the words as in the sheet with all facts stated, after the facts or everywhere.
+#[test]
+fn wrong_places_of_a_conversion() {
+    let wrong = [
+        rejudged!(|sheet, room| {
+            let added = (rewritten_words(sheet) - sheet.len()) as u64;
+            let stated = sheet.first().copied().unwrap_or(0);
+            judge_words(sheet).map_err(|refused| match refused.place > stated {
+                true => Refusal {
+                    place: refused.place + added,
+                    ..refused
+                },
+                false => refused,
+            })?;
+            judge_weights(sheet)?;
+            judge_output(sheet, room)
+        }),
+        rejudged!(|sheet, room| {
+            let added = (rewritten_words(sheet) - sheet.len()) as u64;
+            judge_words(sheet).map_err(|refused| Refusal {
+                place: refused.place + added,
+                ..refused
+            })?;
+            judge_weights(sheet)?;
+            judge_output(sheet, room)
+        }),
+    ];
+    for part in wrong {
+        assert_eq!(part, Some(Part::Place));
+    }
+}
+
+/// Judges a sheet as is right, and then its lines with so much room for them.
+fn with_lines(sheet: &[u64], room: usize, results: usize) -> Result<(), Refusal> {
+    (Steps::RIGHT.judge)(sheet, room)?;
+    independent::weigh(sheet, results as u64).map(|_| ())
+}
+
+/// Judges a sheet as is right, but for an output of which so many words are needed.
+fn with_room(sheet: &[u64], room: usize, needed: usize) -> Result<(), Refusal> {
+    judge_words(sheet)?;
+    judge_weights(sheet)?;
+    judge_room(needed, room)
+}
+
+/// Sheets refused that are not, or written that are refused: 13 judged, or 14 of the lines in the output; an output of the
+/// sheet as given taken, one word more asked for, or that of the largest sheet; no output judged.
+#[test]
+fn wrong_judgement_of_an_output() {
+    let wrong = [
+        rejudged!(|sheet, room| with_lines(sheet, room, MOST_RESULTS)),
+        rejudged!(|sheet, room| with_lines(sheet, room, 0)),
+        rejudged!(|sheet, room| with_room(sheet, room, sheet.len())),
+        rejudged!(|sheet, room| with_room(sheet, room, rewritten_words(sheet) + 1)),
+        rejudged!(|sheet, room| with_room(sheet, room, Layout::LARGEST.words())),
+        rejudged!(|sheet, room| with_room(sheet, room, 0)),
+    ];
+    for part in wrong {
+        assert_eq!(part, Some(Part::Outcome));
+    }
+}
+
+/// Converts a sheet whose seventh fact is no unit as if it were this one, though it is refused.
+fn no_unit_converted(sheet: &[u64], output: &mut [u64], unit: u64) -> ConversionReply {
+    let reply = proved_conversion(sheet, output);
+    match (reply.number, reply.place as usize) {
+        (refusal::FACT, SEVENTH) => {
+            let mut words = sheet.to_vec();
+            words[SEVENTH] = unit;
+            proved_conversion(&words, output)
+        }
+        _ => reply,
+    }
+}
+
+/// Takes words that follow the last section.
+fn words_after_sections_converted(sheet: &[u64], output: &mut [u64]) -> ConversionReply {
+    let reply = proved_conversion(sheet, output);
+    match reply.number {
+        refusal::WORDS_FOLLOW => proved_conversion(&sheet[..reply.place as usize], output),
+        _ => reply,
+    }
+}
+
+/// Converts a sheet whose pool is good, whatever follows that: with one tranche in place of what follows.
+fn pool_converted_alone(sheet: &[u64], output: &mut [u64]) -> ConversionReply {
+    let reply = proved_conversion(sheet, output);
+    match Layout::before(sheet, reply.place as usize).filter(|_| reply.number != 0) {
+        Some(layout) => {
+            let mut words = [&sheet[..layout.tranche_count()], &[1, 1, 1, 1, 0, 0, 0, 0]].concat();
+            words[Layout::fact(Fact::PoolKind)] = pool_kind::SA;
+            if sixth_is(sheet, |_| true) {
+                words[SIXTH] = 0;
+            }
+            proved_conversion(&words, output)
+        }
+        None => reply,
+    }
+}
+
+/// Refuses a good sheet in hundredths with a risk weight above the limit of percent.
+fn percent_limit_of_hundredths(sheet: &[u64], room: usize) -> Result<(), Refusal> {
+    judge_words(sheet)?;
+    let above = |&place: &usize| sheet[place] > RISK_WEIGHT_PERCENT;
+    if let Some(place) = weight_places(sheet, unit::HUNDREDTHS).find(above) {
+        return refuse(refusal::RISK_WEIGHT, place);
+    }
+    judge_weights(sheet)?;
+    judge_output(sheet, room)
+}
+
+/// Words judged in another way: a seventh fact that is no unit taken for percent or for hundredths, seven facts refused,
+/// the limit of percent in hundredths, words after the pool and after the last section not judged.
+#[test]
+fn wrong_judgement_of_converted_words() {
+    let wrong = [
+        converted(|sheet, output| no_unit_converted(sheet, output, unit::PERCENT)),
+        converted(|sheet, output| no_unit_converted(sheet, output, unit::HUNDREDTHS)),
+        rejudged!(|sheet, room| match counts_above(sheet, Fact::ReportingDate.number()) {
+            true => refuse(refusal::COUNT, Layout::FACTS_COUNT),
+            false => (Steps::RIGHT.judge)(sheet, room),
+        }),
+        rejudged!(percent_limit_of_hundredths),
+        converted(words_after_sections_converted),
+        converted(pool_converted_alone),
+    ];
+    for (place, part) in wrong.into_iter().enumerate() {
+        assert!(is_by_judgement(part), "{place}: {part:?}");
+    }
+}
+
+/// The facts written wrongly: not filled; filled, with their count as given; filled before those that are stated, or after
+/// the count of rows; a unit that is left as it is, always hundredths or always percent; the reporting date left out.
+#[test]
+fn wrong_facts_of_a_conversion() {
+    let unfilled = rewritten!(|sheet, words| {
+        let stated = sheet[Layout::FACTS_COUNT] as usize;
+        words.drain(stated + 1..stated + 1 + words.len() - sheet.len());
+        words[Layout::FACTS_COUNT] = stated as u64;
+    });
+    assert_eq!(unfilled, Some(Part::Count));
+    let wrong = [
+        rewritten!(|sheet, words| words[Layout::FACTS_COUNT] = sheet[Layout::FACTS_COUNT]),
+        rewritten!(|sheet, words| {
+            let zeros = (words.len() - sheet.len()).saturating_sub(1);
+            words[1..SEVENTH].rotate_right(zeros);
+        }),
+        rewritten!(|sheet, words| {
+            let stated = sheet[Layout::FACTS_COUNT] as usize;
+            words[stated + 1..SEVENTH + 2].rotate_right(1);
+        }),
+        rewritten!(|_, words| words[SEVENTH] = unit::other(words[SEVENTH])),
+        rewritten!(|_, words| words[SEVENTH] = unit::HUNDREDTHS),
+        rewritten!(|_, words| words[SEVENTH] = unit::PERCENT),
+        rewritten!(|_, words| words[SIXTH] = 0),
+    ];
+    for (place, part) in wrong.into_iter().enumerate() {
+        assert!(is_by_words(part), "{place}: {part:?}");
+    }
+}
+
+/// Changes the words at these places of a converted sheet as its risk weights are changed, cut to whole numbers.
+fn change_too(sheet: &[u64], words: &mut [u64], places: impl Fn(&Layout) -> Vec<usize>) {
+    let unit = unit_of(sheet);
+    for place in places(&Layout::of_sheet(words)) {
+        words[place] = to_other_unit(unit, words[place]);
+    }
+}
+
+/// Changes a word of each row of a converted sheet as its risk weight is changed.
+fn change_rows_too(sheet: &[u64], words: &mut [u64], word: RowWord) {
+    change_too(sheet, words, |layout| {
+        (0..layout.rows).map(|row| layout.row(row) + word as usize).collect()
+    })
+}
+
+/// Other words changed as the risk weights are: exposure, nominal, the IRB average, the amounts of tranches.
+#[test]
+fn wrong_words_of_a_conversion() {
+    let wrong = [
+        rewritten!(|sheet, words| change_rows_too(sheet, words, RowWord::Exposure)),
+        rewritten!(|sheet, words| change_rows_too(sheet, words, RowWord::Nominal)),
+        rewritten!(|sheet, words| change_too(sheet, words, |layout| {
+            let average = layout.irb.then(|| layout.irb_word(IrbWord::Average));
+            average.into_iter().collect()
+        })),
+        rewritten!(|sheet, words| change_too(sheet, words, |layout| {
+            let amounts = (0..layout.tranches).map(|tranche| layout.tranche_word(tranche, TrancheWord::Amount));
+            amounts.collect()
+        })),
+    ];
+    for (place, part) in wrong.into_iter().enumerate() {
+        assert_eq!(part, Some(Part::Converted), "{place}");
+    }
+}
+
+/// Writes back the risk weights as given in the rows that are meant, counted from 0, of so many.
+fn leave_weights(sheet: &[u64], words: &mut [u64], meant: fn(usize, usize) -> bool) {
+    let [given, written] = [sheet, &*words].map(Layout::of_sheet);
+    for row in (0..given.rows).filter(|&row| meant(row, given.rows)) {
+        words[written.risk_weight(row)] = sheet[given.risk_weight(row)];
+    }
+}
+
+/// Risk weights written wrongly: as given, in all rows, in the last one, after the first one or after the first block; times
+/// ten; and divided where they are to be multiplied.
+#[test]
+fn wrong_risk_weights_of_a_conversion() {
+    let wrong = [
+        rewritten!(|sheet, words| leave_weights(sheet, words, |_, _| true)),
+        rewritten!(|sheet, words| leave_weights(sheet, words, |row, rows| row + 1 == rows)),
+        rewritten!(|sheet, words| leave_weights(sheet, words, |row, _| row > 0)),
+        rewritten!(|sheet, words| leave_weights(sheet, words, |row, _| row as u64 >= BLOCK_ROWS)),
+        rewritten!(|sheet, words| {
+            leave_weights(sheet, words, |_, _| true);
+            change_weights(words, |unit, word| match unit {
+                unit::HUNDREDTHS => 10 * word,
+                _ => word / 10,
+            });
+        }),
+        rewritten!(|sheet, words| {
+            leave_weights(sheet, words, |_, _| true);
+            change_weights(words, |_, word| word / ONE_PERCENT);
+        }),
+    ];
+    for (place, part) in wrong.into_iter().enumerate() {
+        assert_eq!(part, Some(Part::Converted), "{place}");
+    }
+}
+
+/// Writes a good sheet in this unit as it is, with all facts stated, where the output is long enough.
+fn to_one_unit(sheet: &[u64], output: &mut [u64], to: u64) -> ConversionReply {
+    let steps = Steps {
+        judge: |sheet, room| {
+            judge_words(sheet)?;
+            judge_output(sheet, room)
+        },
+        rewrite: |sheet| {
+            let mut words = Vec::new();
+            write_with_facts(sheet, FACTS, &mut words);
+            words
+        },
+    };
+    match independent::sheet::read(sheet).is_ok_and(|_| unit_of(sheet) == to) {
+        true => steps.convert(sheet, output),
+        false => proved_conversion(sheet, output),
+    }
+}
+
+/// Conversions to hundredths alone, and to percent alone.
+#[test]
+fn wrong_direction_of_a_conversion() {
+    let wrong: [Convert; 2] = [
+        |sheet, output| to_one_unit(sheet, output, unit::HUNDREDTHS),
+        |sheet, output| to_one_unit(sheet, output, unit::PERCENT),
+    ];
+    for convert in wrong {
+        let part = converted(convert);
+        assert!(is_by_words(part) || part == Some(Part::Outcome), "{part:?}");
+    }
+}
+
+/// Converts a sheet whose risk weights are no whole percents with rounded ones, though it is refused.
+fn rounded_conversion(sheet: &[u64], output: &mut [u64], round: fn(u64) -> u64) -> ConversionReply {
+    let reply = proved_conversion(sheet, output);
+    if reply.number != refusal::NOT_WHOLE_PERCENT {
+        return reply;
+    }
+    let mut words = sheet.to_vec();
+    change_weights(&mut words, |_, word| ONE_PERCENT * round(word));
+    proved_conversion(&words, output)
+}
+
+/// Risk weights rounded to whole percents: down, to the nearest, and up.
+#[test]
+fn risk_weights_rounded() {
+    let wrong: [Convert; 3] = [
+        |sheet, output| rounded_conversion(sheet, output, |word| word / ONE_PERCENT),
+        |sheet, output| rounded_conversion(sheet, output, |word| (word + ONE_PERCENT / 2) / ONE_PERCENT),
+        |sheet, output| rounded_conversion(sheet, output, |word| word.div_ceil(ONE_PERCENT)),
+    ];
+    for convert in wrong {
+        let part = converted(convert);
+        assert!(matches!(part, Some(Part::Outcome | Part::Number)), "{part:?}");
+    }
+}
+
+/// The proved conversion with a fault in the reply to each refused sheet, or else to each one that is written, given the
+/// sheet.
+fn faulty_conversion(
+    sheet: &[u64],
+    output: &mut [u64],
+    on_refusal: bool,
+    fault: fn(&[u64], &mut ConversionReply),
+) -> ConversionReply {
+    let mut reply = proved_conversion(sheet, output);
+    if (reply.number != 0) == on_refusal {
+        fault(sheet, &mut reply);
+    }
+    reply
+}
+
+/// The part in which a run first finds a fault in the reply to each refused sheet, or else to each one that is written.
+macro_rules! faulty_conversions {
+    ($on_refusal:expr, $fault:expr) => {
+        converted(|sheet, output| faulty_conversion(sheet, output, $on_refusal, $fault))
+    };
+}
+
+/// Number, place and count of a refused sheet, wrong or not written; and such a sheet reported as written.
+#[test]
+fn wrong_reply_to_a_refused_conversion() {
+    let wrong = [
+        (faulty_conversions!(true, |_, reply| reply.number += 1), Part::Number),
+        (faulty_conversions!(true, |_, reply| reply.place += 1), Part::Place),
+        (
+            faulty_conversions!(true, |_, reply| reply.place = u64::MAX),
+            Part::Place,
+        ),
+        (faulty_conversions!(true, |_, reply| reply.count = 1), Part::Count),
+        (
+            faulty_conversions!(true, |_, reply| reply.count = u64::MAX),
+            Part::Count,
+        ),
+        (
+            faulty_conversions!(true, |_, reply| *reply = ConversionReply::writing(0)),
+            Part::Outcome,
+        ),
+    ];
+    for (part, due) in wrong {
+        assert_eq!(part, Some(due));
+    }
+}
+
+/// Place and count of a sheet that is written, wrong or not written; the count of the words as given, of the tranches, and
+/// 0; and such a sheet reported as refused.
+#[test]
+fn wrong_reply_to_a_conversion() {
+    let wrong = [
+        (faulty_conversions!(false, |_, reply| reply.place = 1), Part::Place),
+        (
+            faulty_conversions!(false, |_, reply| reply.place = u64::MAX),
+            Part::Place,
+        ),
+        (faulty_conversions!(false, |_, reply| reply.count += 1), Part::Count),
+        (faulty_conversions!(false, |_, reply| reply.count -= 1), Part::Count),
+        (
+            faulty_conversions!(false, |_, reply| reply.count = u64::MAX),
+            Part::Count,
+        ),
+        (faulty_conversions!(false, |_, reply| reply.count = 0), Part::Count),
+        (
+            faulty_conversions!(false, |sheet, reply| reply.count = sheet.len() as u64),
+            Part::Count,
+        ),
+        (
+            faulty_conversions!(false, |sheet, reply| {
+                reply.count = Layout::of_sheet(sheet).tranches as u64
+            }),
+            Part::Count,
+        ),
+        (
+            faulty_conversions!(false, |_, reply| *reply = ConversionReply::refusing(refusal::ROOM, 0)),
+            Part::Outcome,
+        ),
+    ];
+    for (part, due) in wrong {
+        assert_eq!(part, Some(due));
+    }
+}
+
+/// The proved conversion with another output, made of the reply, the output as lent and the output.
+fn other_output(
+    sheet: &[u64],
+    output: &mut [u64],
+    change: fn(&ConversionReply, &[u64], &mut [u64]),
+) -> ConversionReply {
+    let before = output.to_vec();
+    let reply = proved_conversion(sheet, output);
+    change(&reply, &before, output);
+    reply
+}
+
+/// The words after those that a reply says were written; none on a refusal.
+fn after_written<'a>(reply: &ConversionReply, output: &'a mut [u64]) -> &'a mut [u64] {
+    match reply.number {
+        0 => &mut output[reply.count as usize..],
+        _ => &mut [],
+    }
+}
+
+/// Later words are untouched: all of them, the first and the last.
+#[test]
+fn words_after_a_conversion_written() {
+    let wrong: [Convert; 3] = [
+        |sheet, output| other_output(sheet, output, |reply, _, output| after_written(reply, output).fill(0)),
+        |sheet, output| {
+            other_output(sheet, output, |reply, _, output| {
+                after_written(reply, output)
+                    .iter_mut()
+                    .take(1)
+                    .for_each(|word| *word = 0)
+            })
+        },
+        |sheet, output| {
+            other_output(sheet, output, |reply, _, output| {
+                after_written(reply, output)
+                    .last_mut()
+                    .into_iter()
+                    .for_each(|word| *word = 0)
+            })
+        },
+    ];
+    for convert in wrong {
+        assert_eq!(converted(convert), Some(Part::AfterConverted));
+    }
+}
+
+/// Leaves the words from one place to another, of those that were written, as they were lent.
+fn leave_words(reply: &ConversionReply, before: &[u64], output: &mut [u64], places: fn(usize) -> (usize, usize)) {
+    if reply.number == 0 {
+        let (first, end) = places(reply.count as usize);
+        output[first..end].copy_from_slice(&before[first..end]);
+    }
+}
+
+/// Words left unwritten but reported written: the first, the unit, the last, and all after the facts.
+#[test]
+fn words_of_a_conversion_not_written() {
+    let wrong: [Convert; 4] = [
+        |sheet, output| {
+            other_output(sheet, output, |reply, before, output| {
+                leave_words(reply, before, output, |_| (0, 1))
+            })
+        },
+        |sheet, output| {
+            other_output(sheet, output, |reply, before, output| {
+                leave_words(reply, before, output, |_| (SEVENTH, SEVENTH + 1))
+            })
+        },
+        |sheet, output| {
+            other_output(sheet, output, |reply, before, output| {
+                leave_words(reply, before, output, |count| (count - 1, count))
+            })
+        },
+        |sheet, output| {
+            other_output(sheet, output, |reply, before, output| {
+                leave_words(reply, before, output, |count| (SEVENTH + 1, count))
+            })
+        },
+    ];
+    for convert in wrong {
+        assert_eq!(converted(convert), Some(Part::Converted));
+    }
+}
+
+/// Writes what fits of a good sheet in the other unit, where the sheet is refused by this number.
+fn written_on(number: u64, sheet: &[u64], output: &mut [u64]) -> ConversionReply {
+    let reply = proved_conversion(sheet, output);
+    if reply.number == number {
+        let words = in_other_unit(sheet);
+        output.iter_mut().zip(words).for_each(|(to, word)| *to = word);
+    }
+    reply
+}
+
+/// Nothing is written on a refusal: not the first word, not the last, and not what fits of the sheet where it is refused
+/// for its output or for a risk weight.
+#[test]
+fn output_written_on_a_refusal() {
+    let wrong: [Convert; 4] = [
+        |sheet, output| {
+            other_output(sheet, output, |reply, _, output| {
+                let first = output.first_mut().filter(|_| reply.number != 0);
+                first.into_iter().for_each(|word| *word = 0)
+            })
+        },
+        |sheet, output| {
+            other_output(sheet, output, |reply, _, output| {
+                let last = output.last_mut().filter(|_| reply.number != 0);
+                last.into_iter().for_each(|word| *word = 0)
+            })
+        },
+        |sheet, output| written_on(refusal::ROOM, sheet, output),
+        |sheet, output| written_on(refusal::NOT_WHOLE_PERCENT, sheet, output),
+    ];
+    for convert in wrong {
+        assert_eq!(converted(convert), Some(Part::OutputOnRefusal));
+    }
+}
+
+/// A conversion that panics ends the run as a difference.
+#[test]
+fn panic_on_a_conversion_is_a_difference() {
+    let library = Library {
+        convert: |_, _| panic!("a side that stops"),
+        ..Library::PROVED
+    };
+    assert_eq!(
+        first_difference(library).map(|difference| difference.part),
+        Some(Part::Panic)
+    );
+}
+
+/// A difference in a conversion is shown with its output and with what each side said to it.
+#[test]
+fn difference_of_a_conversion_is_shown() {
+    let library = Library {
+        convert: |sheet, output| {
+            other_output(sheet, output, |reply, _, output| {
+                if reply.number == 0 {
+                    output[SEVENTH] = 9;
+                }
+            })
+        },
+        ..Library::PROVED
+    };
+    let found = run(library, 2).expect_err("9 is no unit");
+    let case = Case::new(SEED, found.index);
+    let room = rewritten_words(&case.sheet);
+    assert_eq!(found.difference.asked, Asked::Conversion(room));
+    let text = show::difference(&library, SEED, &case, &found);
+    let mut words = in_other_unit(&case.sheet);
+    for side in ["independent", "proved"] {
+        let shown: Vec<String> = words.iter().map(u64::to_string).collect();
+        let line = format!(
+            "\n{side}, conversion to {room} words: number 0 place 0 count {room} words {}\n",
+            shown.join(" ")
+        );
+        assert!(text.contains(&line), "{text}");
+        words[SEVENTH] = 9;
+    }
+    let last = text.lines().last().unwrap_or_default();
+    let part = format!("difference in converted word of the conversion to {room} words: ");
+    assert!(last.contains(&part), "{text}");
 }

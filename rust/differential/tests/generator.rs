@@ -2,10 +2,11 @@
 
 use differential::answer::{refusal, Approach, LINE_WORDS, MOST_RESULTS};
 use differential::sheet::{
-    pool_kind, status, Fact, IrbWord, Layout, RowWord, TrancheWord, BLOCKS, BLOCK_EDGES, DAYS, FACTS, FEWEST_FACTS,
-    IRB_AVERAGE, IRB_SHARE, LOANS, MANY_LOANS, MONTHS, POOL_AMOUNT, ROWS, TRANCHES, TRANCHE_AMOUNT, WHOLE,
+    pool_kind, rewritten_words, status, unit, Fact, IrbWord, Layout, RowWord, TrancheWord, BLOCKS, BLOCK_EDGES, DAYS,
+    FACTS, FEWEST_FACTS, IRB_AVERAGE, IRB_SHARE, LOANS, MANY_LOANS, MONTHS, NO_UNITS, ONE_PERCENT, POOL_AMOUNT,
+    RISK_WEIGHT, ROWS, TRANCHES, TRANCHE_AMOUNT, WEIGHT_EDGES, WHOLE,
 };
-use differential::{is_under_irba, Case, Kind, Relation};
+use differential::{is_under_irba, Case, Kind, Output, Relation};
 use independent::approach::Figures;
 use independent::charge::{self, Points};
 use independent::inferred::is_rated;
@@ -54,12 +55,12 @@ fn marks_follow_the_kinds() {
             let fact = |fact| layout.fact_word(&sheet, fact);
             (layout.facts as u64, fact(Fact::Resecuritisation), fact(Fact::Stc))
         };
-        sheets(kind, 5_000).map(of_sheet).collect::<BTreeSet<_>>()
+        sheets(kind, 20_000).map(of_sheet).collect::<BTreeSet<_>>()
     };
-    let five = Fact::Stc.number();
-    let ordinary = [(FEWEST_FACTS, 0, 0), (five, 0, 0), (FACTS, 0, 0)];
-    let resecuritisation = [(FEWEST_FACTS, 1, 0), (five, 1, 0), (FACTS, 1, 0)];
-    let stc = [(five, 0, 1), (FACTS, 0, 1)];
+    let counts = [4, 5, 6, 7];
+    let ordinary = counts.map(|count| (count, 0, 0));
+    let resecuritisation = counts.map(|count| (count, 1, 0));
+    let stc = [5, 6, 7].map(|count| (count, 0, 1));
     assert_eq!(facts(Kind::Ordinary), BTreeSet::from(ordinary));
     assert_eq!(facts(Kind::Stc), BTreeSet::from(stc));
     assert_eq!(facts(Kind::Resecuritisation), BTreeSet::from(resecuritisation));
@@ -96,7 +97,8 @@ fn marks_on_resecuritisations() {
     );
 }
 
-/// Each sound kind has sheets that do not state a reporting date, that state 0 for it, and that state one.
+/// Each sound kind has sheets that do not state a reporting date, but for that in hundredths, which states all facts; and
+/// sheets that state 0 for it, and that state one.
 #[test]
 fn dates_come_in_all_kinds() {
     let mut met = BTreeSet::new();
@@ -104,12 +106,15 @@ fn dates_come_in_all_kinds() {
         if case.kind.is_sound() {
             let layout = Layout::of_sheet(&case.sheet);
             let date = layout.fact_word(&case.sheet, Fact::ReportingDate);
-            met.insert((case.kind as usize, layout.facts as u64 == FACTS, date != 0));
+            let stated = layout.facts as u64 >= Fact::ReportingDate.number();
+            met.insert((case.kind as usize, stated, date != 0));
         }
     }
     let kinds = Kind::TABLE.iter().filter(|(kind, _, _)| kind.is_sound());
     let all = kinds.flat_map(|&(kind, _, _)| {
-        [(false, false), (true, false), (true, true)].map(|(stated, date)| (kind as usize, stated, date))
+        let unstated = (kind != Kind::Hundredths).then_some((false, false));
+        let forms = unstated.into_iter().chain([(true, false), (true, true)]);
+        forms.map(move |(stated, date)| (kind as usize, stated, date))
     });
     assert_eq!(met, all.collect());
 }
@@ -352,8 +357,130 @@ fn facts_are_added_up_to_each_count() {
     let counts = added.map(|case| [&case.sheet, &case.second].map(|sheet| sheet[Layout::FACTS_COUNT]));
     assert_eq!(
         counts.collect::<BTreeSet<_>>(),
-        BTreeSet::from([[4, 5], [4, 6], [5, 6]])
+        BTreeSet::from([[4, 5], [4, 6], [4, 7], [5, 6], [5, 7], [6, 7]])
     );
+}
+
+/// The risk weights of a sheet that has its counts right, with the unit that it states; 2 where it states none.
+fn weights(sheet: &[u64]) -> (u64, Vec<u64>) {
+    let layout = Layout::of_sheet(sheet);
+    let unit = match layout.facts as u64 == FACTS {
+        true => layout.fact_word(sheet, Fact::Unit),
+        false => 2,
+    };
+    let rows = layout.pool(sheet).iter();
+    (unit, rows.map(|row| row[RowWord::RiskWeight as usize]).collect())
+}
+
+/// Each sound kind has sheets that state no unit, that state percent and that state hundredths, but for that in
+/// hundredths alone.
+#[test]
+fn units_come_in_all_kinds() {
+    let mut met = BTreeSet::new();
+    for case in (0..20_000).map(|index| Case::new(24, index)) {
+        if case.kind.is_sound() {
+            met.insert((case.kind as usize, weights(&case.sheet).0));
+        }
+    }
+    let kinds = Kind::TABLE.iter().filter(|(kind, _, _)| kind.is_sound());
+    let all = kinds.flat_map(|&(kind, _, _)| {
+        let units = match kind {
+            Kind::Hundredths => vec![unit::HUNDREDTHS],
+            _ => vec![unit::PERCENT, unit::HUNDREDTHS, 2],
+        };
+        units.into_iter().map(move |unit| (kind as usize, unit))
+    });
+    assert_eq!(met, all.collect());
+}
+
+/// Sheets in hundredths have all risk weights about limits and whole percents. Some have whole percents alone, some none
+/// of these, and some have both; of the last some have one risk weight that is none, and some several.
+#[test]
+fn weights_in_hundredths() {
+    let (mut met, mut forms) = (BTreeSet::new(), BTreeSet::new());
+    for sheet in sheets(Kind::Hundredths, 20_000) {
+        let (_, weights) = weights(&sheet);
+        let parts = weights.iter().filter(|&weight| weight % ONE_PERCENT != 0).count();
+        if weights.len() > 2 {
+            forms.insert((parts.min(2), parts == weights.len()));
+        }
+        met.extend(weights);
+    }
+    assert!(WEIGHT_EDGES.iter().all(|weight| met.contains(weight)));
+    assert!(met.iter().all(|&weight| weight <= RISK_WEIGHT) && met.len() > 1_000);
+    assert_eq!(forms, BTreeSet::from([(0, false), (1, false), (2, false), (2, true)]));
+}
+
+/// Another unit is refused where it is none, by 4 at the seventh fact; of hundredths in place of percent no risk weight is
+/// refused, and of percent in place of hundredths some are, by 6.
+#[test]
+fn other_units_are_judged() {
+    let mut met = BTreeSet::new();
+    for sheet in sheets(Kind::OtherUnit, 20_000) {
+        let (unit, _) = weights(&sheet);
+        let refused = independent::sheet::read(&sheet).err();
+        if let Some(refused) = refused.filter(|refused| refused.number == refusal::FACT) {
+            assert_eq!(refused.place, Layout::fact(Fact::Unit) as u64);
+        }
+        met.insert((unit, refused.map_or(0, |refused| refused.number)));
+    }
+    let no_units = NO_UNITS.map(|unit| (unit, refusal::FACT));
+    let units = [
+        (unit::PERCENT, 0),
+        (unit::PERCENT, refusal::RISK_WEIGHT),
+        (unit::HUNDREDTHS, 0),
+    ];
+    assert_eq!(met, no_units.into_iter().chain(units).collect());
+}
+
+/// A bad risk weight is refused by 6 at its own place, just above the limit of its unit and far above, with fewer facts
+/// than the most and with all.
+#[test]
+fn bad_weights_are_refused() {
+    let mut met = BTreeSet::new();
+    for sheet in sheets(Kind::BadWeight, 20_000) {
+        let refused = independent::sheet::read(&sheet).expect_err("a bad risk weight");
+        let (unit, weights) = weights(&sheet);
+        let most = unit::risk_weight(unit % 2);
+        let row = weights
+            .iter()
+            .position(|&weight| weight > most)
+            .expect("a bad risk weight");
+        let place = Layout::of_sheet(&sheet).risk_weight(row) as u64;
+        assert_eq!((refused.number, refused.place), (refusal::RISK_WEIGHT, place));
+        met.insert((unit, weights[row] - most == 1, weights[row] == RISK_WEIGHT));
+    }
+    let of_unit = |unit| [(unit, true, false), (unit, false, false)];
+    let all = [unit::PERCENT, unit::HUNDREDTHS, 2].into_iter().flat_map(of_unit);
+    let of_hundredths = [(unit::PERCENT, false, true), (2, false, true)];
+    assert_eq!(met, all.chain(of_hundredths).collect());
+}
+
+/// Sheets are converted in both directions and refused by each number that a conversion has; outputs are drawn that are
+/// longer than the converted sheet, as long as the sheet as given, one word short and shorter.
+#[test]
+fn conversions_come_with_all_outputs() {
+    let mut met = BTreeSet::new();
+    for case in (0..20_000).map(|index| Case::new(25, index)) {
+        let needed = rewritten_words(&case.sheet);
+        assert_eq!(
+            case.output > needed,
+            [Output::Larger, Output::Ample].contains(&case.output_kind)
+        );
+        let lacking = needed.saturating_sub(case.output).min(4);
+        let answer = independent::convert(&case.sheet, case.output as u64);
+        let facts = case.sheet.first().copied().unwrap_or(0);
+        met.insert((facts, lacking, answer.map_or_else(|refused| refused.number, |_| 0)));
+    }
+    let written = (FEWEST_FACTS..=FACTS).map(|facts| (facts, 0, 0));
+    let short = (FEWEST_FACTS..=FACTS).flat_map(|facts| [1, FACTS - facts, 4].map(|lacking| (facts, lacking as usize)));
+    let short = short.filter(|&(_, lacking)| lacking > 0);
+    let refused = [0, 1, 4].map(|lacking| (FACTS, lacking, refusal::NOT_WHOLE_PERCENT));
+    let wanted = written
+        .chain(short.map(|(facts, lacking)| (facts, lacking, refusal::ROOM)))
+        .chain(refused);
+    let missed: Vec<_> = wanted.filter(|case| !met.contains(case)).collect();
+    assert!(missed.is_empty(), "{missed:?}");
 }
 
 /// Non-senior tranches of just one half of the pool and a millionth more or less occur, rated, with and without the
@@ -681,6 +808,23 @@ fn limits_are_met() {
             .collect::<Vec<_>>(),
         Vec::<&(&str, u64)>::new()
     );
+}
+
+/// The limits of risk weights are met in each unit, and no others, and with them the largest weighted sum.
+#[test]
+fn limits_of_risk_weights_are_met() {
+    let (mut met, mut largest) = (BTreeSet::new(), BTreeSet::new());
+    for sheet in sheets(Kind::Limits, 20_000) {
+        let (unit, weights) = weights(&sheet);
+        met.extend(weights.into_iter().map(|weight| (unit, weight)));
+        let read = independent::sheet::read(&sheet).expect("a sound sheet");
+        let sums = charge::weighted_exposure_sum(&read.pool);
+        largest.extend((sums == u128::from(ROWS * POOL_AMOUNT) * u128::from(RISK_WEIGHT)).then_some(unit));
+    }
+    let ends = [(unit::PERCENT, 1_250), (unit::HUNDREDTHS, 125_000), (2, 1_250)];
+    let all = ends.into_iter().flat_map(|(unit, most)| [(unit, 0), (unit, most)]);
+    assert_eq!(met, all.collect());
+    assert_eq!(largest, BTreeSet::from([unit::PERCENT, unit::HUNDREDTHS, 2]));
 }
 
 /// The limits of maturities are met, and no others: of months, and of dates after the first and after the last reporting

@@ -1,4 +1,5 @@
-//! What is answered to a sheet: a weighed deal, the sums of a block of its pool, or a refusal.
+//! What is answered to a sheet: a weighed deal, the sums of a block of its pool, or a refusal. The converter's answer
+//! is the words it writes, or a refusal.
 
 /// A refusal: its number and its place, as listed under "Refusals, by who can cause them".
 #[derive(Debug, Clone, Copy, PartialEq, Eq)]
@@ -45,7 +46,8 @@ pub struct BlockSums {
     pub late_nominal: u64,
 }
 
-/// Sums over some rows: exposure, nominal, and exposure times risk weight in whole percent.
+/// Sums over some rows: exposure, nominal, and exposure times risk weight in hundredths of a percent, whatever the unit
+/// of the sheet.
 #[derive(Debug, Clone, Copy, Default, PartialEq, Eq)]
 pub struct Totals {
     pub exposure: u64,

@@ -162,9 +162,10 @@ pub fn refuse_no_thickness(approach: Approach, points: &Points, charge: u64, pla
     Ok(())
 }
 
-/// The pool's average in the cap: 100 x (sum of exposure x risk weight) / (sum of exposure) over all rows, rounded up.
+/// The pool's average in the cap: (sum of exposure x risk weight) / (sum of exposure) over all rows, rounded up. Document
+/// 01 has 100 times that for weights in whole percent.
 fn average_weight(pool: &[Row]) -> u64 {
-    to_word(average_risk_weight_times(100, pool))
+    to_word(average_risk_weight_times(1, pool))
 }
 
 /// The cap, where it applies: to class 1 of a deal with known composition that is no re-securitisation.
@@ -258,7 +259,7 @@ fn amounts(held: u64, weight: u64) -> Amounts {
 #[cfg(test)]
 mod tests {
     use super::*;
-    use crate::sheet::{PoolKind, Status};
+    use crate::sheet::{PoolKind, Status, WeightUnit};
 
     /// Checked deal: rows (2, 100%) and (1, 50%) have cap 8,334. Unknown rows count in it too.
     #[test]
@@ -270,12 +271,28 @@ mod tests {
             status,
         };
         assert_eq!(
-            average_weight(&[row(2, 100, Status::Paying), row(1, 50, Status::Paying)]),
+            average_weight(&[row(2, 10_000, Status::Paying), row(1, 5_000, Status::Paying)]),
             8_334
         );
         assert_eq!(
-            average_weight(&[row(2, 100, Status::Unknown), row(1, 50, Status::Delinquent)]),
+            average_weight(&[row(2, 10_000, Status::Unknown), row(1, 5_000, Status::Delinquent)]),
             8_334
+        );
+    }
+
+    /// Parts of a percent count in the cap: rows (2, 37.5%) and (1, 0.01%) have an average of 2,500.33 hundredths.
+    #[test]
+    fn cap_counts_parts_of_a_percent() {
+        let row = |exposure, risk_weight| Row {
+            exposure,
+            nominal: 1,
+            risk_weight,
+            status: Status::Paying,
+        };
+        assert_eq!(average_weight(&[row(1, 3_750)]), 3_750);
+        assert_eq!(
+            [0, 1].map(|part| average_weight(&[row(2, 3_750), row(1, part)])),
+            [2_500, 2_501]
         );
     }
 
@@ -288,6 +305,7 @@ mod tests {
             composition_known: true,
             stc,
             reporting_date: None,
+            weight_unit: WeightUnit::Percent,
         }
     }
 
@@ -348,7 +366,7 @@ mod tests {
         let row = |exposure, status| Row {
             exposure,
             nominal: 1,
-            risk_weight: 100,
+            risk_weight: 10_000,
             status,
         };
         let unknown = if unknown_above_limit { 6 } else { 5 };

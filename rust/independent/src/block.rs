@@ -1,4 +1,4 @@
-//! The sums of S-7, by blocks of the pool's rows.
+//! The sums of S-7, by blocks of the pool's rows. Weighted exposure is, by S-9, in hundredths of a percent.
 
 use crate::answer::{BlockSums, Totals};
 use crate::charge::{exposure_sum, known_rows, late_nominal_sum, nominal_sum, to_word, weighted_exposure_sum};
@@ -83,14 +83,14 @@ mod tests {
         let row = Row {
             exposure: 10_000_000_000,
             nominal: 10_000_000_000,
-            risk_weight: 1_250,
+            risk_weight: 125_000,
             status: Status::Delinquent,
         };
         let times = |rows: u64| {
             let all = Totals {
                 exposure: rows * 10_000_000_000,
                 nominal: rows * 10_000_000_000,
-                weighted_exposure: rows * 12_500_000_000_000,
+                weighted_exposure: rows * 1_250_000_000_000_000,
             };
             BlockSums {
                 all,

@@ -1,4 +1,5 @@
-//! "Points and pool charge" of document 01. All shares are in millionths.
+//! "Points and pool charge" of document 01. All shares are in millionths, and risk weights, by S-9, in hundredths of a
+//! percent.
 
 use crate::sheet::{self, Row, Status, Tranche};
 
@@ -31,7 +32,7 @@ pub fn exposure_sum(rows: &[Row]) -> u128 {
     sum(rows.iter(), |row| row.exposure.into())
 }
 
-/// The sum of exposure x risk weight.
+/// The sum of exposure x risk weight, in hundredths of a percent.
 pub fn weighted_exposure_sum(rows: &[Row]) -> u128 {
     sum(rows.iter(), |row| {
         u128::from(row.exposure) * u128::from(row.risk_weight)
@@ -84,10 +85,10 @@ fn known_charge(known: &[Row]) -> u128 {
     ((WHOLE - late) * base_charge(known) + LATE_CHARGE * late).div_ceil(WHOLE)
 }
 
-/// The base charge of some rows: 800 x (sum of exposure x risk weight) / (sum of exposure), rounded up. A risk weight
-/// of 100% gives 8%, which is 80,000 millionths.
+/// The base charge of some rows: 8 x (sum of exposure x risk weight) / (sum of exposure), rounded up, which is document
+/// 01's 800 for weights in whole percent. A risk weight of 100% gives 8%, which is 80,000 millionths.
 pub fn base_charge(rows: &[Row]) -> u128 {
-    average_risk_weight_times(800, rows)
+    average_risk_weight_times(8, rows)
 }
 
 /// The rows with known status.
@@ -107,8 +108,8 @@ pub fn late_nominal_sum(rows: &[Row]) -> u128 {
     sum(late, |row| row.nominal.into())
 }
 
-/// `factor` x (sum of exposure x risk weight) / (sum of exposure), rounded up. The base charge takes it with 800, the
-/// cap with 100 over all rows.
+/// `factor` x (sum of exposure x risk weight) / (sum of exposure), rounded up. The base charge takes it with 8, the cap
+/// with 1 over all rows.
 pub fn average_risk_weight_times(factor: u128, rows: &[Row]) -> u128 {
     (factor * weighted_exposure_sum(rows)).div_ceil(exposure_sum(rows))
 }
@@ -118,7 +119,7 @@ fn sum<'a>(rows: impl Iterator<Item = &'a Row>, figure: impl Fn(&Row) -> u128) -
     rows.map(figure).sum()
 }
 
-/// A result as a word. Every result of the calculator fits (the largest, a risk-weighted amount, is 1.25 x 10^14).
+/// A result as a word. Every result of the calculator fits (the largest, a weighted exposure, is 1.25 x 10^18).
 pub fn to_word(value: u128) -> u64 {
     u64::try_from(value).expect("a result fits a word")
 }
@@ -140,7 +141,7 @@ mod tests {
     /// Checked deal: rows (2, 100%) and (1, 50%) have base charge 66,667.
     #[test]
     fn base_charge_is_rounded_up() {
-        let pool = [row(2, 100, Status::Paying), row(1, 50, Status::Paying)];
+        let pool = [row(2, 10_000, Status::Paying), row(1, 5_000, Status::Paying)];
         assert_eq!(base_charge(&pool), 66_667);
         assert_eq!(
             pool_charge(&pool),
@@ -151,13 +152,21 @@ mod tests {
         );
     }
 
+    /// Parts of a percent count in the base charge, which is rounded up once: rows (2, 37.5%) and (1, 0.01%) have an
+    /// average of 2,500.33 hundredths, and eight times that is 20,002.67.
+    #[test]
+    fn base_charge_counts_parts_of_a_percent() {
+        let pool = |part| [row(2, 3_750, Status::Paying), row(1, part, Status::Paying)];
+        assert_eq!([0, 1, 2].map(|part| base_charge(&pool(part))), [20_000, 20_003, 20_006]);
+    }
+
     /// Checked deal: base 80,000, none late. 5% unknown gives 126,000; 5.1% is above the limit.
     #[test]
     fn unknown_rows_up_to_five_percent() {
         let pool = |unknown| {
             [
-                row(1000 - unknown, 100, Status::Paying),
-                row(unknown, 100, Status::Unknown),
+                row(1000 - unknown, 10_000, Status::Paying),
+                row(unknown, 10_000, Status::Unknown),
             ]
         };
         assert_eq!(base_charge(&pool(50)[..1]), 80_000);
@@ -180,7 +189,7 @@ mod tests {
     /// A pool of unknown rows only has no base charge and needs none.
     #[test]
     fn all_rows_unknown() {
-        let pool = [row(7, 100, Status::Unknown)];
+        let pool = [row(7, 10_000, Status::Unknown)];
         assert_eq!(
             pool_charge(&pool),
             PoolCharge {
@@ -220,7 +229,7 @@ mod tests {
     /// The charge of the known rows is rounded up: 1 millionth late gives (999,999 x 80,000 + 500,000) / 10^6 = 80,000.42.
     #[test]
     fn known_charge_is_rounded_up() {
-        let pool = [row(999_999, 100, Status::Paying), row(1, 100, Status::Delinquent)];
+        let pool = [row(999_999, 10_000, Status::Paying), row(1, 10_000, Status::Delinquent)];
         assert_eq!((late_share(&pool), base_charge(&pool)), (1, 80_000));
         assert_eq!(known_charge(&pool), 80_001);
     }
@@ -228,7 +237,7 @@ mod tests {
     /// A securitisation tranche in the pool counts as not delinquent.
     #[test]
     fn securitisation_tranche_is_not_late() {
-        let pool = [row(3, 100, Status::SecuritisationTranche)];
+        let pool = [row(3, 10_000, Status::SecuritisationTranche)];
         assert_eq!(
             pool_charge(&pool),
             PoolCharge {

@@ -160,7 +160,7 @@ mod tests {
             risk_weight,
             status,
         };
-        let pool = [row(2, 100, Status::Unknown), row(1, 50, Status::Delinquent)];
+        let pool = [row(2, 10_000, Status::Unknown), row(1, 5_000, Status::Delinquent)];
         let mixed = |share, charge| {
             let irb = Irb {
                 charge,

@@ -1,4 +1,4 @@
-//! Exact tranche weights: the crate follows document 01 (the scope paper), requests S-1 to S-3 and S-5 to S-8 of
+//! Exact tranche weights: the crate follows document 01 (the scope paper), requests S-1 to S-3 and S-5 to S-9 of
 //! document 02 (the paper of later requests) and the rating figures of source document 001 alone, and shares nothing
 //! with the proved code.
 //!
@@ -7,8 +7,9 @@
 //! fixed-point numbers, each rounded outward.
 //!
 //! [`answer`] has the types of the answers, [`date`] the dates of S-3. One module stands for each heading of document
-//! 01, and one each for S-7, S-8 and S-5; each uses only these two and modules above it in this list:
-//! - [`sheet`]: "The deal sheet" and "Refusals, by who can cause them", but for refusal 13;
+//! 01, and one each for S-9's converter, S-7, S-8 and S-5; each uses only these two and modules above it in this list:
+//! - [`sheet`]: "The deal sheet" and "Refusals, by who can cause them", but for refusals 13 and 19;
+//! - [`conversion`]: a sheet rewritten in the other unit of the risk weight word, and refusal 19;
 //! - [`charge`]: "Points and pool charge";
 //! - [`block`]: sums by blocks of rows;
 //! - [`inferred`]: the ratings that count for a tranche;
@@ -22,6 +23,7 @@ pub mod answer;
 pub mod approach;
 pub mod block;
 pub mod charge;
+pub mod conversion;
 pub mod date;
 pub mod formula;
 pub mod inferred;
@@ -38,7 +40,7 @@ pub use answer::{Amounts, BlockSums, Deal, Line, Refusal, Totals};
 /// of a tranche's line, 13 too, goes by the ratings that count for it.
 pub fn weigh(sheet: &[u64], room: u64) -> Result<Deal, Refusal> {
     let sheet = sheet::read(sheet)?;
-    sheet::refuse_short_results(&sheet, room)?;
+    sheet::refuse_short_room(sheet::LINE_WORDS * sheet.tranches.len(), room)?;
     let figures = approach::Figures::of(&sheet);
     let nominal = charge::nominal_sum(&sheet.pool);
     let lines = sheet.tranches.iter().map(|tranche| {
@@ -65,4 +67,16 @@ pub fn weigh_file(file: &[u8], room: u64) -> Result<Deal, Refusal> {
 pub fn block_sums(sheet: &[u64], block: u64) -> Result<BlockSums, Refusal> {
     let sheet = sheet::read(sheet)?;
     Ok(block::sums(&sheet.pool, block))
+}
+
+/// Rewrites a deal sheet from its unit of the risk weight word to the other. `room` is how many output words the caller
+/// lends. The answer is the words written, with which the output begins.
+///
+/// The order of judgment is that of S-9: the words from place 0 upward, then 3, then 19 at the first risk weight that
+/// has no word in the other unit, all at their places in the sheet as given, then 14 at place 0. 13 is not judged.
+pub fn convert(sheet: &[u64], room: u64) -> Result<Vec<u64>, Refusal> {
+    let read = sheet::read(sheet)?;
+    let rewritten = conversion::in_other_unit(sheet, &read)?;
+    sheet::refuse_short_room(rewritten.len(), room)?;
+    Ok(rewritten)
 }

@@ -1,5 +1,5 @@
 //! "The deal sheet" and "Refusals, by who can cause them" of document 01, with the fifth fact and refusal 16 of S-1,
-//! the sixth fact and refusal 17 of S-3, and the IRB section and refusal 18 of S-5.
+//! the sixth fact and refusal 17 of S-3, the IRB section and refusal 18 of S-5, and the seventh fact of S-9.
 //!
 //! The words are read from place 0 upward, each judged as it is read, so the first bad word decides at its own place.
 //! A missing word comes after all words that are there, so it is found only when none of those is bad.
@@ -17,7 +17,7 @@ const TOO_LONG: u64 = 3;
 const FACT: u64 = 4;
 /// A pool amount outside its limits.
 const POOL_AMOUNT: u64 = 5;
-/// A risk weight above its limit.
+/// A risk weight above the limit of its unit.
 const RISK_WEIGHT: u64 = 6;
 /// A status above 3; a 3 in an ordinary deal; any other in a re-securitisation.
 const STATUS: u64 = 7;
@@ -29,8 +29,8 @@ const CLASS: u64 = 9;
 const MATURITY: u64 = 10;
 /// A rating code not listed.
 const RATING: u64 = 11;
-/// Results shorter than the lines.
-const SHORT_RESULTS: u64 = 14;
+/// Results shorter than the lines, or an output shorter than the rewritten sheet.
+const SHORT_ROOM: u64 = 14;
 /// The file's length is not a multiple of a word's bytes or over the most.
 const FILE_LENGTH: u64 = 15;
 /// An STC mark on a re-securitisation.
@@ -40,12 +40,14 @@ const DATE: u64 = 17;
 /// A figure of the IRB section outside its limits.
 const IRB_FIGURE: u64 = 18;
 
-/// The fewest facts: all but the STC mark and the reporting date.
+/// The fewest facts: all but the STC mark, the reporting date and the unit of the risk weight word.
 pub const FACTS_FEWEST: usize = 4;
 /// The facts of a sheet that states all up to the STC mark.
 const FACTS_TO_STC: usize = 5;
-/// The most facts: all up to the reporting date.
-pub const FACTS_MOST: usize = 6;
+/// The facts of a sheet that states all up to the reporting date.
+const FACTS_TO_DATE: usize = 6;
+/// The most facts: all up to the unit of the risk weight word.
+pub const FACTS_MOST: usize = 7;
 /// The most pool rows.
 pub const ROWS_MOST: usize = 1_000;
 /// The words of a pool row.
@@ -69,8 +71,8 @@ pub const FILE_BYTES: usize =
 pub const LINE_WORDS: usize = 7;
 /// The largest amount of a pool row.
 const POOL_AMOUNT_MOST: u64 = 10_000_000_000;
-/// The highest risk weight.
-const RISK_WEIGHT_MOST: u64 = 1250;
+/// The highest risk weight, in hundredths of a percent: 1250%.
+const RISK_WEIGHT_MOST: u64 = 125_000;
 /// The largest tranche amount.
 const TRANCHE_AMOUNT_MOST: u64 = 10_000_000_000_000;
 /// The longest maturity, in months.
@@ -95,6 +97,26 @@ const ANSWERS: [bool; 2] = [false, true];
 /// The pool kinds by their codes, from 0.
 const POOL_KINDS: [PoolKind; 3] = [PoolKind::Sa, PoolKind::Irb, PoolKind::Mixed];
 
+/// The unit of the risk weight word, whole percent or hundredths of a percent, with its code.
+#[derive(Debug, Clone, Copy, PartialEq, Eq)]
+pub enum WeightUnit {
+    Percent = 0,
+    Hundredths = 1,
+}
+
+/// The units of the risk weight word by their codes, from 0.
+const WEIGHT_UNITS: [WeightUnit; 2] = [WeightUnit::Percent, WeightUnit::Hundredths];
+
+impl WeightUnit {
+    /// The hundredths of a percent in one of this unit.
+    pub fn hundredths(self) -> u64 {
+        match self {
+            WeightUnit::Percent => 100,
+            WeightUnit::Hundredths => 1,
+        }
+    }
+}
+
 /// The facts section. No re-securitisation is an STC deal.
 #[derive(Debug, Clone, Copy)]
 pub struct Facts {
@@ -104,6 +126,7 @@ pub struct Facts {
     pub composition_known: bool,
     pub stc: bool,
     pub reporting_date: Option<Date>,
+    pub weight_unit: WeightUnit,
 }
 
 /// The status of a pool row.
@@ -123,7 +146,7 @@ const STATUSES: [Status; 4] = [
     Status::SecuritisationTranche,
 ];
 
-/// A pool row. The risk weight is in whole percent.
+/// A pool row. The risk weight is in hundredths of a percent, whatever the unit of its word.
 #[derive(Debug, Clone, Copy)]
 pub struct Row {
     pub exposure: u64,
@@ -205,7 +228,7 @@ pub fn read(words: &[u64]) -> Result<Sheet, Refusal> {
     let facts = read_facts(&mut reader)?;
     let rows = reader.word(COUNT, |count| (1..=ROWS_MOST as u64).contains(&count))?;
     let pool = (0..rows)
-        .map(|_| read_row(&mut reader, facts.resecuritisation))
+        .map(|_| read_row(&mut reader, &facts))
         .collect::<Result<Vec<_>, _>>()?;
     let tranches = read_tranches(&mut reader, facts.reporting_date)?;
     let irb = read_irb(&mut reader, facts.pool_kind)?;
@@ -223,7 +246,8 @@ pub fn read(words: &[u64]) -> Result<Sheet, Refusal> {
     })
 }
 
-/// The facts: their count, pool kind, then answers of 0 or 1, then the reporting date.
+/// The facts: their count, pool kind, then answers of 0 or 1, then the reporting date, then the unit of the risk weight
+/// word. One that is not stated counts as 0.
 fn read_facts(reader: &mut Reader) -> Result<Facts, Refusal> {
     let count = reader.word(COUNT, |count| {
         (FACTS_FEWEST as u64..=FACTS_MOST as u64).contains(&count)
@@ -236,9 +260,13 @@ fn read_facts(reader: &mut Reader) -> Result<Facts, Refusal> {
         due_diligence_held: read_answer(reader)?,
         composition_known: read_answer(reader)?,
         stc: count >= FACTS_TO_STC as u64 && read_stc(reader, resecuritisation)?,
-        reporting_date: match count == FACTS_MOST as u64 {
+        reporting_date: match count >= FACTS_TO_DATE as u64 {
             true => read_reporting_date(reader)?,
             false => None,
+        },
+        weight_unit: match count == FACTS_MOST as u64 {
+            true => reader.code(FACT, &WEIGHT_UNITS, |_| true)?,
+            false => WeightUnit::Percent,
         },
     })
 }
@@ -269,14 +297,21 @@ fn read_reporting_date(reader: &mut Reader) -> Result<Option<Date>, Refusal> {
 }
 
 /// A pool row: exposure amount, nominal amount, risk weight, status.
-fn read_row(reader: &mut Reader, resecuritisation: bool) -> Result<Row, Refusal> {
+fn read_row(reader: &mut Reader, facts: &Facts) -> Result<Row, Refusal> {
     let amount_good = |amount| (1..=POOL_AMOUNT_MOST).contains(&amount);
     Ok(Row {
         exposure: reader.word(POOL_AMOUNT, amount_good)?,
         nominal: reader.word(POOL_AMOUNT, amount_good)?,
-        risk_weight: reader.word(RISK_WEIGHT, |weight| weight <= RISK_WEIGHT_MOST)?,
-        status: read_status(reader, resecuritisation)?,
+        risk_weight: read_risk_weight(reader, facts.weight_unit)?,
+        status: read_status(reader, facts.resecuritisation)?,
     })
+}
+
+/// A risk weight: at most 1250 in whole percent, at most 125,000 in hundredths, which are what is kept.
+fn read_risk_weight(reader: &mut Reader, unit: WeightUnit) -> Result<u64, Refusal> {
+    let most = RISK_WEIGHT_MOST / unit.hundredths();
+    let word = reader.word(RISK_WEIGHT, |weight| weight <= most)?;
+    Ok(word * unit.hundredths())
 }
 
 /// A row's status. That of a securitisation tranche stands in every row of a re-securitisation, and in no other.
@@ -354,11 +389,11 @@ fn read_irb(reader: &mut Reader, kind: PoolKind) -> Result<Option<Irb>, Refusal>
     }))
 }
 
-/// Refusal 14: results shorter than the lines; place 0.
-pub fn refuse_short_results(sheet: &Sheet, room: u64) -> Result<(), Refusal> {
-    if room < (LINE_WORDS * sheet.tranches.len()) as u64 {
+/// Refusal 14: room for fewer words than are to be written; place 0.
+pub fn refuse_short_room(words: usize, room: u64) -> Result<(), Refusal> {
+    if room < words as u64 {
         return Err(Refusal {
-            number: SHORT_RESULTS,
+            number: SHORT_ROOM,
             place: 0,
         });
     }

@@ -1,4 +1,5 @@
-//! The sums of S-7 as whole sheets: by status, past the last block, and with the refusals that come there.
+//! The sums of S-7 as whole sheets: by status, in either unit of the risk weight word, past the last block, and with
+//! the refusals that come there.
 
 mod common;
 
@@ -12,7 +13,7 @@ const PAST_ALL: [u64; 5] = [20, 1 << 32, 368_934_881_474_191_033, 1 << 63, u64::
 /// A tranche; nothing of it counts here.
 const TRANCHE: Tranche = [500_000, 1, 72, 0, 0, 0, 0];
 
-/// Sums over some rows, shorter to write.
+/// Sums over some rows, shorter to write. Weighted exposure is in hundredths of a percent.
 fn totals(exposure: u64, nominal: u64, weighted_exposure: u64) -> Totals {
     Totals {
         exposure,
@@ -21,7 +22,7 @@ fn totals(exposure: u64, nominal: u64, weighted_exposure: u64) -> Totals {
     }
 }
 
-/// Three rows of an ordinary deal, one of each status.
+/// Three rows of an ordinary deal in whole percent, one of each status.
 const ROWS: [Row; 3] = [[7, 11, 100, 0], [13, 17, 50, 1], [19, 23, 1_250, 2]];
 
 /// The rows with known status are those that pay and those that are delinquent; the latter are the late ones.
@@ -29,8 +30,8 @@ const ROWS: [Row; 3] = [[7, 11, 100, 0], [13, 17, 50, 1], [19, 23, 1_250, 2]];
 fn statuses_of_an_ordinary_deal() {
     let words = sheet(&[0, 0, 1, 1], &ROWS, &[TRANCHE]);
     let sums = BlockSums {
-        all: totals(39, 51, 700 + 650 + 23_750),
-        known: totals(20, 28, 700 + 650),
+        all: totals(39, 51, 70_000 + 65_000 + 2_375_000),
+        known: totals(20, 28, 70_000 + 65_000),
         late_nominal: 17,
     };
     assert_eq!(block_sums(&words, 0), Ok(sums));
@@ -40,13 +41,30 @@ fn statuses_of_an_ordinary_deal() {
 #[test]
 fn statuses_of_a_resecuritisation() {
     let words = sheet(&[0, 1, 1, 1], &[[7, 11, 100, 3], [13, 17, 50, 3]], &[TRANCHE]);
-    let all = totals(20, 28, 1_350);
+    let all = totals(20, 28, 135_000);
     let sums = BlockSums {
         all,
         known: all,
         late_nominal: 0,
     };
     assert_eq!(block_sums(&words, 0), Ok(sums));
+}
+
+/// Weighted exposure is in hundredths whatever the unit of the sheet: rows in hundredths have the sums of the same rows
+/// in whole percent. A weight of 37.5% and one of 0.01% count in full.
+#[test]
+fn sums_in_hundredths() {
+    let in_unit = |unit, rows: &[Row]| block_sums(&sheet(&[0, 0, 1, 1, 0, 0, unit], rows, &[TRANCHE]), 0);
+    let times_100 = ROWS.map(|[exposure, nominal, weight, status]| [exposure, nominal, 100 * weight, status]);
+    let four_facts = block_sums(&sheet(&[0, 0, 1, 1], &ROWS, &[TRANCHE]), 0);
+    assert_eq!([in_unit(0, &ROWS), in_unit(1, &times_100)], [four_facts; 2]);
+    let sums = BlockSums {
+        all: totals(39, 51, 26_250 + 13 + 2_375_000),
+        known: totals(20, 28, 26_250 + 13),
+        late_nominal: 17,
+    };
+    let finer = [[7, 11, 3_750, 0], [13, 17, 1, 1], [19, 23, 125_000, 2]];
+    assert_eq!(in_unit(1, &finer), Ok(sums));
 }
 
 /// Every status on the first row of a block after the first, and on the last row, of a full block and of one that is
@@ -61,7 +79,7 @@ fn statuses_at_the_ends_of_a_block() {
             let words = sheet(&[0, resecuritisation, 1, 1], &pool, &[TRANCHE]);
             for (block, others) in (0..).zip(others) {
                 let amount = if block == row as u64 / 50 { 1_000 } else { 0 };
-                let of = |amount| totals(others + amount, others + amount, others + amount);
+                let of = |amount| totals(others + amount, others + amount, 100 * (others + amount));
                 let sums = BlockSums {
                     all: of(amount),
                     known: of(known * amount),
@@ -166,6 +184,6 @@ fn deals_are_not_judged() {
     let number = |room| weigh_file(&file(&thin), room).map_err(|refusal| refusal.number);
     assert_eq!((number(0), number(room(2))), (Err(14), Err(13)));
     let sums = block_sums(&thin, 0).expect("good words");
-    assert_eq!(sums.all, totals(10_000_000_000, 10_000_000_000, 1_000_000_000_000));
+    assert_eq!(sums.all, totals(10_000_000_000, 10_000_000_000, 100_000_000_000_000));
     assert_eq!(block_sums(&thin, 1), Ok(BlockSums::default()));
 }

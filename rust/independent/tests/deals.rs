@@ -1,6 +1,6 @@
 //! The checked deals and the misreadings of document 01, the STC deals of S-1, several ratings by S-2, maturities as
-//! dates by S-3, and the largest deal, as whole sheets. The deals of S-5 stand apart, and so do floor and cap of S-6 and
-//! the inferred ratings of S-8.
+//! dates by S-3, risk weights in hundredths by S-9, and the largest deal, as whole sheets. The deals of S-5 stand apart,
+//! and so do floor and cap of S-6, the inferred ratings of S-8 and the converter of S-9.
 
 mod common;
 
@@ -458,17 +458,64 @@ fn dates_and_months_give_the_same_lines() {
     }
 }
 
+/// Facts of an ordinary deal with due diligence and known composition, in hundredths.
+const HUNDREDTHS: Facts = &[0, 0, 1, 1, 0, 0, 1];
+
+/// A deal in hundredths has the charge and the lines of the same deal in whole percent, where a seventh fact of 0 changes
+/// nothing.
+#[test]
+fn unit_of_risk_weights() {
+    let tranches = [tranche(800, 1, 72, 1), tranche(150, 2, 72, 0), tranche(50, 3, 72, 9)];
+    for (resecuritisation, stc, status) in [(0, 0, 0), (0, 1, 0), (1, 0, 3)] {
+        let in_unit = |unit, weight: u64| {
+            let pool = [[2, 700, 100 * weight, status], [1, 300, 50 * weight, status]];
+            weighed(&[0, resecuritisation, 1, 1, stc, 0, unit], &pool, &tranches)
+        };
+        let pool = [[2, 700, 100, status], [1, 300, 50, status]];
+        let six = weighed(&[0, resecuritisation, 1, 1, stc, 0], &pool, &tranches);
+        assert_eq!(six.charge, 66_667);
+        assert_eq!([in_unit(0, 1), in_unit(1, 100)], [six.clone(), six]);
+    }
+}
+
+/// Loans of 37.5% have charge 30,000 and cap 3,750, which lowers the 40% of a senior AA. Class 2 goes down to 0:
+/// 125,000 x (30,000 + 30,000 x (1 - e^(-47/3))) / 500,000 = 14,999.999.
+#[test]
+fn loans_of_37_and_a_half_percent() {
+    let tranches = [tranche(500, 1, 72, 3), tranche(500, 2, 72, 0)];
+    let deal = weighed(HUNDREDTHS, &pool_at(3_750), &tranches);
+    let lines = [
+        closed(1, 500_000, 1_000_000, 3_750),
+        (2, 0, 500_000, vec![15_000, 15_001], vec![14_999]),
+    ];
+    assert_eq!((deal.charge, summary(&deal)), (30_000, lines.to_vec()));
+}
+
+/// Charge and cap are rounded up from hundredths, once: rows (2, 37.5%) and (1, 0.01%) have 20,002.67 and 2,500.33.
+#[test]
+fn charge_and_cap_from_hundredths() {
+    let deal = weighed(HUNDREDTHS, &[[2, 2, 3_750, 0], [1, 1, 1, 0]], &[tranche(3, 1, 72, 18)]);
+    assert_eq!((deal.charge, weights(&deal.lines[0])), (20_003, vec![2_501]));
+}
+
 /// The largest deal: the most facts, rows and tranches and an IRB section, all amounts and weights at their most, fills
-/// the largest file. Each tranche holds the whole pool, so all but the first have A = D = 0.
+/// the largest file, in either unit. Each tranche holds the whole pool, so all but the first have A = D = 0.
 #[test]
 fn largest_amounts() {
+    for (unit, risk_weight) in [(0, 1_250), (1, 125_000)] {
+        largest_amounts_in(unit, risk_weight);
+    }
+}
+
+/// The same in one unit, with its highest risk weight.
+fn largest_amounts_in(unit: u64, risk_weight: u64) {
     let most = 10_000_000_000;
-    let pool = vec![[most, most, 1250, 0]; ROWS_MOST];
+    let pool = vec![[most, most, risk_weight, 0]; ROWS_MOST];
     let tranches: Vec<Tranche> = (1..=TRANCHES_MOST as u64)
         .map(|class| tranche(ROWS_MOST as u64 * most, class, 21_991_231, 0))
         .collect();
     let irb = [1_000_000, 1_000_000, 1_000_000, 1, 1_000_000, 125_000];
-    let words = sheet_with(irb, &[2, 0, 1, 1, 1, 20_991_231], &pool, &tranches);
+    let words = sheet_with(irb, &[2, 0, 1, 1, 1, 20_991_231, unit], &pool, &tranches);
     assert_eq!(file(&words).len(), FILE_BYTES);
     let deal = weigh_file(&file(&words), room(TRANCHES_MOST)).expect("an accepted file");
     assert_eq!((deal.charge, deal.lines.len()), (1_000_000, TRANCHES_MOST));

@@ -224,6 +224,28 @@ fn charge_of_a_mixed_pool() {
     }
 }
 
+/// The section's average is in hundredths whatever the unit of the risk weight word, and the base charge reads the
+/// weights in either: 52,000 of loans at 65%, and 52,400 at 65.5%, of which 0.04 are 2,096.
+#[test]
+fn section_in_either_unit() {
+    let capped = |facts: Facts, weight| {
+        let irb = [102_000, 500_000, 25, 0, 960_000, 1_499];
+        weighed(irb, facts, &[[1_000_000, 1_000_000, weight, 0]], &across(36))
+    };
+    let percent = capped(&[2, 0, 1, 1], 65);
+    assert_eq!(
+        (percent.charge, admitted(&percent.lines[0])),
+        (100_000, Admitted::both(1_499))
+    );
+    assert_eq!(capped(&[2, 0, 1, 1, 0, 0, 0], 65), percent);
+    assert_eq!(capped(&[2, 0, 1, 1, 0, 0, 1], 6_500), percent);
+    let finer = capped(&[2, 0, 1, 1, 0, 0, 1], 6_550);
+    assert_eq!(
+        (finer.charge, admitted(&finer.lines[0])),
+        (100_016, Admitted::both(1_499))
+    );
+}
+
 /// The answer to the sheet of an SA pool, without a section, that has the other facts.
 fn of_sa_pool(facts: Facts, pool: &[Row], tranches: &[Tranche]) -> Deal {
     let facts = [&[0], &facts[1..]].concat();

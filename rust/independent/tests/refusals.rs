@@ -30,6 +30,11 @@ fn plain_six(reporting_date: u64, maturity: u64) -> Vec<u64> {
     plain_with(&[0, 0, 0, 0, 0, reporting_date], 0, maturity)
 }
 
+/// The same with seven facts, so that all places after the facts are three higher: the risk weights stand at 11 and 15.
+fn plain_seven(unit: u64) -> Vec<u64> {
+    plain_with(&[0, 0, 0, 0, 0, 0, unit], 0, 72)
+}
+
 /// Such a sheet with these facts and this maturity of all tranches.
 fn plain_with(facts: Facts, status: u64, maturity: u64) -> Vec<u64> {
     let row = [500, 500, 100, status];
@@ -61,7 +66,7 @@ fn limits(words: &[u64], places: &[usize], good: &[u64], bad: &[u64], number: u6
 #[test]
 fn counts_and_facts() {
     let words = plain(0, 0);
-    limits(&words, &[0], &[4], &[0, 3, 7, MOST], 2);
+    limits(&words, &[0], &[4], &[0, 3, 8, MOST], 2);
     limits(&words, &[5], &[2], &[0, 1_001, MOST], 2);
     limits(&words, &[14], &[3], &[0, 33, MOST], 2);
     limits(&words, &[1], &[0], &[3, MOST], 4);
@@ -73,7 +78,7 @@ fn counts_and_facts() {
 #[test]
 fn five_facts() {
     let words = plain_five(0, 0);
-    limits(&words, &[0], &[5], &[0, 3, 7, MOST], 2);
+    limits(&words, &[0], &[5], &[0, 3, 8, MOST], 2);
     limits(&words, &[6], &[2], &[0, 1_001, MOST], 2);
     limits(&words, &[15], &[3], &[0, 33, MOST], 2);
     limits(&words, &[1], &[0], &[3, MOST], 4);
@@ -85,7 +90,7 @@ fn five_facts() {
 #[test]
 fn six_facts() {
     let words = plain_six(0, 72);
-    limits(&words, &[0], &[6], &[0, 3, 7, MOST], 2);
+    limits(&words, &[0], &[6], &[0, 3, 8, MOST], 2);
     limits(&words, &[7], &[2], &[0, 1_001, MOST], 2);
     limits(&words, &[16], &[3], &[0, 33, MOST], 2);
     limits(&words, &[1], &[0], &[3, MOST], 4);
@@ -94,6 +99,43 @@ fn six_facts() {
     limits(&words, &maturities, &[1, 1200], &[0, 1201, 20_300_101, MOST], 10);
     assert_eq!(weigh(&with(&words, 2, 1), 0), Err(refusal(7, 11)));
     assert_eq!(weigh(&with(&with(&words, 2, 1), 5, 1), 0), Err(refusal(16, 5)));
+}
+
+/// With seven facts: the counts and the facts at their places, in either unit. Refusal 4 at a unit that is neither.
+#[test]
+fn seven_facts() {
+    for unit in [0, 1] {
+        let words = plain_seven(unit);
+        limits(&words, &[0], &[7], &[0, 3, 8, MOST], 2);
+        limits(&words, &[8], &[2], &[0, 1_001, MOST], 2);
+        limits(&words, &[17], &[3], &[0, 33, MOST], 2);
+        limits(&words, &[1], &[0], &[3, MOST], 4);
+        limits(&words, &[3, 4, 5, 7], &[0, 1], &[2, MOST], 4);
+        limits(&words, &[6], &[0], &NO_DAYS, 17);
+    }
+}
+
+/// The unit is judged in its place: after the facts before it, and before all later words, whether bad or missing, and
+/// before words that follow and short results.
+#[test]
+fn unit_is_judged_in_its_place() {
+    let bad = plain_seven(2);
+    assert_eq!(weigh(&with(&bad, 5, 2), 0), Err(refusal(4, 5)));
+    assert_eq!(weigh(&with(&bad, 6, 36), 0), Err(refusal(17, 6)));
+    assert_eq!(weigh(&with(&bad, 8, 0), 0), Err(refusal(4, 7)));
+    assert_eq!(weigh(&with(&bad, 11, MOST), 0), Err(refusal(4, 7)));
+    assert_eq!(weigh(&bad[..8], 0), Err(refusal(4, 7)));
+    assert_eq!(weigh(&bad[..7], 0), Err(refusal(1, 7)));
+    assert_eq!(weigh(&[bad, vec![0]].concat(), 0), Err(refusal(4, 7)));
+}
+
+/// Refusal 6 by the unit: above 1250 in whole percent, above 125,000 in hundredths.
+#[test]
+fn risk_weights_by_their_unit() {
+    let weights = [11, 15];
+    limits(&plain_seven(0), &weights, &[0, 1, 1250], &[1251, 125_000, MOST], 6);
+    let hundredths = [0, 1, 1250, 1251, 3_750, 12_550, 125_000];
+    limits(&plain_seven(1), &weights, &hundredths, &[125_001, 12_500_000, MOST], 6);
 }
 
 /// Words other than 0 that name no day of the years 2000 to 2199.
@@ -232,8 +274,8 @@ fn mark_is_judged_in_its_place() {
 }
 
 /// A count of five asks for a fifth fact, whatever was meant: in a sheet with four it takes the count of rows for the
-/// mark, and a count of four takes the mark for the count of rows. A count of six asks for a sixth fact in the same
-/// way.
+/// mark, and a count of four takes the mark for the count of rows. Counts of six and seven ask for a sixth and a seventh
+/// fact in the same way: a unit of 1 taken for the count of rows leaves a risk weight to be taken for a status.
 #[test]
 fn count_of_facts_decides() {
     assert_eq!(weigh(&with(&plain(0, 0), 0, 5), room(3)), Err(refusal(4, 5)));
@@ -242,7 +284,12 @@ fn count_of_facts_decides() {
     assert_eq!(weigh(&with(&plain_five(0, 0), 0, 6), room(3)), Err(refusal(17, 6)));
     for words in [plain_six(0, 72), plain_six(20_240_131, 20_300_131)] {
         assert_eq!(weigh(&with(&words, 0, 5), room(3)), Err(refusal(2, 6)));
+        assert_eq!(weigh(&with(&words, 0, 7), room(3)), Err(refusal(4, 7)));
     }
+    assert_eq!(weigh(&with(&plain(0, 0), 0, 7), room(3)), Err(refusal(4, 5)));
+    assert_eq!(weigh(&with(&plain_five(0, 0), 0, 7), room(3)), Err(refusal(17, 6)));
+    assert_eq!(weigh(&with(&plain_seven(0), 0, 6), room(3)), Err(refusal(2, 7)));
+    assert_eq!(weigh(&with(&plain_seven(1), 0, 6), room(3)), Err(refusal(7, 11)));
 }
 
 /// A section at the least values of a mixed pool, and one at the most values of any.
@@ -288,6 +335,16 @@ fn irb_section() {
         };
         limits(&words, &[41], good, bad, 18);
         limits(&words, &[41], &[1_000_000], &[1_000_001, MOST], 18);
+    }
+}
+
+/// Refusal 18 at the section's average in either unit of the risk weight word: its limit is 125,000 in both.
+#[test]
+fn irb_average_in_either_unit() {
+    for unit in [0, 1] {
+        let words = plain_with(&[2, 0, 0, 0, 0, 0, unit], 0, 72);
+        let words = [words, vec![1], SECTIONS[0].to_vec()].concat();
+        limits(&words, &[45], &[0, 1_251, 125_000], &[125_001, MOST], 18);
     }
 }
 
@@ -394,6 +451,8 @@ fn missing_words() {
         plain_five(0, 0),
         plain_six(0, 72),
         plain_six(20_240_131, 20_300_131),
+        plain_seven(0),
+        plain_seven(1),
         plain_irb(1, 1, 1, SECTIONS[1]),
         plain_irb(2, 0, 0, SECTIONS[0]),
     ] {
@@ -472,8 +531,12 @@ fn no_thickness() {
     // In an STC deal too, at a place that is one higher.
     assert_eq!(weigh(&thin(&[0, 0, 1, 1, 1], 0, 0), room(3)), Err(refusal(13, 26)));
     assert!(weigh(&thin(&[0, 0, 1, 1, 1], 0, 18), room(3)).is_ok());
-    // With a sixth fact it is two higher.
+    // With a sixth fact it is two higher, and with a seventh three.
     assert_eq!(weigh(&thin(&[0, 0, 1, 1, 0, 0], 0, 0), room(3)), Err(refusal(13, 27)));
+    assert_eq!(
+        weigh(&thin(&[0, 0, 1, 1, 0, 0, 1], 0, 0), room(3)),
+        Err(refusal(13, 28))
+    );
 }
 
 /// Refusal 13 under SEC-IRBA, with and without a rating, by the charge of S-5: A equals D at 999,899 millionths, which
@@ -523,7 +586,7 @@ fn no_thickness_at_the_charge() {
     assert_eq!(deal(1_000_010_001), Err(refusal(13, 18)));
 }
 
-/// Refusal 15: a length that is not a multiple of 8 or over the most, which is 33,920 bytes, before all others, at
+/// Refusal 15: a length that is not a multiple of 8 or over the most, which is 33,928 bytes, before all others, at
 /// place 0.
 #[test]
 fn file_lengths() {
@@ -534,7 +597,7 @@ fn file_lengths() {
         assert_eq!(weigh_file(&bytes[..length], 0), Err(refusal(15, 0)));
     }
     assert_eq!(weigh_file(&bytes[..16], 0), Err(refusal(1, 2)));
-    assert_eq!(FILE_BYTES, 33_920);
+    assert_eq!(FILE_BYTES, 33_928);
     assert_eq!(weigh_file(&[255; FILE_BYTES], 0), Err(refusal(2, 0)));
     assert_eq!(weigh_file(&[255; FILE_BYTES + 8], 0), Err(refusal(15, 0)));
     assert_eq!(weigh_file(&[255; FILE_BYTES - 1], 0), Err(refusal(15, 0)));

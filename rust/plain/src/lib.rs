@@ -1,9 +1,9 @@
 //! A plain double-precision calculator of tranche weights.
 //!
-//! It reads the deal sheet of document 01 with the fifth fact of S-1, the sixth of S-3 and the IRB section of S-5 of
-//! document 02, rates by S-1 and S-2, takes SEC-IRBA by S-5, rounds each weight up and down by S-6, adds up the pool by
-//! the blocks of S-7, infers ratings by S-8, refuses what they refuse in the same order, and writes the same result words
-//! for each tranche.
+//! It reads the deal sheet of document 01 with the fifth fact of S-1, the sixth of S-3, the seventh of S-9 and the IRB
+//! section of S-5 of document 02, rates by S-1 and S-2, takes SEC-IRBA by S-5, rounds each weight up and down by S-6,
+//! adds up the pool by the blocks of S-7, infers ratings by S-8, refuses what they refuse in the same order, and writes
+//! the same result words for each tranche. It has no converter.
 //! Sums of whole amounts are kept in `u64`. Every figure with a division or an exponential in it is worked in `f64`,
 //! with `exp`, `ceil` and `floor`.
 //!

@@ -3,10 +3,12 @@
 
 use std::ops::RangeInclusive;
 
-/// The fewest facts of a sheet: all but the STC mark and the reporting date.
+/// The fewest facts of a sheet: all but the STC mark, the reporting date and the unit of the risk weights.
 pub const FEWEST_FACTS: u64 = 4;
+/// The facts of a sheet that has all up to the reporting date.
+pub const DATED_FACTS: u64 = 6;
 /// The most facts of a sheet.
-pub const MOST_FACTS: u64 = 6;
+pub const MOST_FACTS: u64 = 7;
 /// The most rows that a pool can hold.
 pub const MOST_ROWS: u64 = 1_000;
 /// The rows of a block, by which a pool is added up; the last one may have fewer.
@@ -27,8 +29,6 @@ pub const LINE_WORDS: usize = 7;
 
 /// The highest amount of a pool row.
 pub const MOST_POOL_AMOUNT: u64 = 10_000_000_000;
-/// The highest risk weight, in percent.
-pub const MOST_RISK_WEIGHT: u64 = 1_250;
 /// The highest amount of a tranche.
 pub const MOST_TRANCHE_AMOUNT: u64 = 10_000_000_000_000;
 /// The longest maturity, in months.
@@ -39,6 +39,8 @@ pub const MOST_SHARE: u64 = 1_000_000;
 pub const MOST_LOANS: u64 = 1_000_000;
 /// The highest weight, in hundredths of a percent.
 pub const MOST_WEIGHT: u64 = 125_000;
+/// One percent, in hundredths of a percent.
+pub const PERCENT: u64 = 100;
 /// The years of a date.
 pub const YEARS: RangeInclusive<u64> = 2000..=2199;
 
@@ -54,7 +56,7 @@ pub mod refusal {
     pub const FACT: u64 = 4;
     /// A pool amount outside its limits.
     pub const POOL_AMOUNT: u64 = 5;
-    /// A risk weight above its limit.
+    /// A risk weight above the limit of its unit.
     pub const RISK_WEIGHT: u64 = 6;
     /// A status that the deal can't have.
     pub const STATUS: u64 = 7;

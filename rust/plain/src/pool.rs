@@ -16,6 +16,7 @@ pub mod status {
 pub struct Row {
     pub exposure: u64,
     pub nominal: u64,
+    /// In the unit of the sheet.
     pub risk_weight: u64,
     pub status: u64,
 }
@@ -25,7 +26,7 @@ pub struct Row {
 struct Sums {
     exposure: u64,
     nominal: u64,
-    /// Exposure times risk weight.
+    /// Exposure times risk weight: in the unit of the sheet while rows are added, then in hundredths of a percent.
     weighted: u64,
 }
 
@@ -55,7 +56,7 @@ impl Sums {
 
     /// The base charge of the rows, in millionths.
     fn base(&self) -> f64 {
-        (800.0 * self.weighted as f64 / self.exposure as f64).ceil()
+        (8.0 * self.weighted as f64 / self.exposure as f64).ceil()
     }
 }
 
@@ -85,6 +86,12 @@ impl Pool {
         self.late += block.late;
     }
 
+    /// Brings the weighted sums to hundredths of a percent, of which the unit of the risk weights is so many.
+    pub fn scale_weighted(&mut self, unit: u64) {
+        self.all.weighted *= unit;
+        self.unknown.weighted *= unit;
+    }
+
     /// N, the sum of nominal amounts.
     pub fn nominal(&self) -> u64 {
         self.all.nominal
@@ -112,6 +119,6 @@ impl Pool {
 
     /// The senior cap: the mean risk weight of all rows, in hundredths of a percent.
     pub fn cap(&self) -> f64 {
-        (100.0 * self.all.weighted as f64 / self.all.exposure as f64).ceil()
+        (self.all.weighted as f64 / self.all.exposure as f64).ceil()
     }
 }

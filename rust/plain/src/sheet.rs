@@ -2,8 +2,9 @@
 
 use crate::date::Date;
 use crate::limits::{
-    refusal, BLOCK_ROWS, FEWEST_FACTS, IRB_SECTIONS, IRB_WORDS, MOST_FACTS, MOST_LOANS, MOST_MONTHS, MOST_POOL_AMOUNT,
-    MOST_RISK_WEIGHT, MOST_ROWS, MOST_SHARE, MOST_TRANCHES, MOST_TRANCHE_AMOUNT, MOST_WEIGHT, RATINGS, TRANCHE_WORDS,
+    refusal, BLOCK_ROWS, DATED_FACTS, FEWEST_FACTS, IRB_SECTIONS, IRB_WORDS, MOST_FACTS, MOST_LOANS, MOST_MONTHS,
+    MOST_POOL_AMOUNT, MOST_ROWS, MOST_SHARE, MOST_TRANCHES, MOST_TRANCHE_AMOUNT, MOST_WEIGHT, PERCENT, RATINGS,
+    TRANCHE_WORDS,
 };
 use crate::pool::{status, Pool, Row};
 use std::ops::RangeInclusive;
@@ -75,6 +76,8 @@ pub struct Facts {
     pub stc: bool,
     /// Where there is one, the maturities are dates.
     pub reporting_date: Option<Date>,
+    /// Whether the risk weights are in hundredths of a percent; else they are in whole percent.
+    in_hundredths: bool,
 }
 
 /// A tranche's row by its names. The amount is used in the points alone and is left out, and so are the ratings: those that
@@ -107,7 +110,7 @@ pub fn is_rated(ratings: &[u64; RATINGS]) -> bool {
 pub fn read(sheet: &[u64]) -> Result<Deal<'_>, Refusal> {
     let mut reader = Reader { sheet, place: 0 };
     let facts = reader.facts()?;
-    let pool = reader.pool(facts.resecuritisation)?;
+    let pool = reader.pool(facts.resecuritisation, facts.in_hundredths)?;
     let count = reader.within(1..=MOST_TRANCHES as u64, refusal::COUNT)?;
     let first_tranche = reader.place;
     reader.check_tranches(count, facts.reporting_date)?;
@@ -173,6 +176,7 @@ impl<'a> Reader<'a> {
             composition_known: self.flag()?,
             stc: false,
             reporting_date: None,
+            in_hundredths: false,
         };
         if count > FEWEST_FACTS {
             facts.stc = self.flag()?;
@@ -180,8 +184,11 @@ impl<'a> Reader<'a> {
         if facts.stc && facts.resecuritisation {
             return self.refuse(refusal::STC_RESECURITISATION);
         }
-        if count == MOST_FACTS {
+        if count >= DATED_FACTS {
             facts.reporting_date = self.reporting_date()?;
+        }
+        if count == MOST_FACTS {
+            facts.in_hundredths = self.flag()?;
         }
         Ok(facts)
     }
@@ -204,34 +211,41 @@ impl<'a> Reader<'a> {
         }
     }
 
-    /// The section of the pool, added up block by block. A re-securitisation holds securitisation tranches and nothing
-    /// else. The loop over the rows is kept out of `read`, with `block` inlined here; with `block` apart it is slower.
+    /// The section of the pool, added up block by block, and then brought to hundredths of a percent at once. A
+    /// re-securitisation holds securitisation tranches and nothing else. The loop over the rows is kept out of `read`,
+    /// with `block` inlined here; with `block` apart it is slower.
     #[inline(never)]
-    fn pool(&mut self, resecuritisation: bool) -> Result<Pool, Refusal> {
+    fn pool(&mut self, resecuritisation: bool, in_hundredths: bool) -> Result<Pool, Refusal> {
         let statuses = if resecuritisation {
             status::TRANCHE..=status::TRANCHE
         } else {
             status::PAYING..=status::NOT_KNOWN
         };
+        let (unit, most_weight) = if in_hundredths {
+            (1, MOST_WEIGHT)
+        } else {
+            (PERCENT, MOST_WEIGHT / PERCENT)
+        };
         let mut left = self.within(1..=MOST_ROWS, refusal::COUNT)?;
         let mut pool = Pool::default();
         while left > 0 {
             let rows = left.min(BLOCK_ROWS);
-            pool.add_block(&self.block(rows, &statuses)?);
+            pool.add_block(&self.block(rows, most_weight, &statuses)?);
             left -= rows;
         }
+        pool.scale_weighted(unit);
         Ok(pool)
     }
 
     /// A block of so many rows, added up row by row.
     #[inline(always)]
-    fn block(&mut self, rows: u64, statuses: &RangeInclusive<u64>) -> Result<Pool, Refusal> {
+    fn block(&mut self, rows: u64, most_weight: u64, statuses: &RangeInclusive<u64>) -> Result<Pool, Refusal> {
         let mut block = Pool::default();
         for _ in 0..rows {
             block.add(&Row {
                 exposure: self.within(1..=MOST_POOL_AMOUNT, refusal::POOL_AMOUNT)?,
                 nominal: self.within(1..=MOST_POOL_AMOUNT, refusal::POOL_AMOUNT)?,
-                risk_weight: self.within(0..=MOST_RISK_WEIGHT, refusal::RISK_WEIGHT)?,
+                risk_weight: self.within(0..=most_weight, refusal::RISK_WEIGHT)?,
                 status: self.within(statuses.clone(), refusal::STATUS)?,
             });
         }

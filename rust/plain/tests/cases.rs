@@ -1,6 +1,6 @@
 //! Document 01's checked deals and refusals, the STC deals of S-1, several ratings by S-2, the dates of S-3, the IRB
-//! section of S-5, the seventh word of S-6, the blocks of S-7 and the inferred ratings of S-8, through the one function
-//! that callers have.
+//! section of S-5, the seventh word of S-6, the blocks of S-7, the inferred ratings of S-8 and the unit of risk weights of
+//! S-9, through the one function that callers have.
 
 use plain::LINE_WORDS;
 
@@ -15,6 +15,9 @@ const FACTS: [u64; 5] = [4, 0, 0, 1, 1];
 
 /// The facts' section of an STC deal.
 const STC: [u64; 6] = [5, 0, 0, 1, 1, 1];
+
+/// The facts' section of an ordinary deal with risk weights in hundredths of a percent.
+const HUNDREDTHS: [u64; 8] = [7, 0, 0, 1, 1, 0, 0, 1];
 
 /// Where a line holds its approach.
 const APPROACH: usize = 0;
@@ -458,6 +461,77 @@ fn empty_tranche_under_irba_is_refused_by_its_charge() {
     assert_eq!(lines[1][..4], [3, 100_000, 100_000, 125_000]);
 }
 
+/// The rows with their risk weights, which are in percent, in hundredths.
+fn in_hundredths(rows: &[Row]) -> Vec<Row> {
+    let finer = |&[exposure, nominal, percent, status]: &Row| [exposure, nominal, 100 * percent, status];
+    rows.iter().map(finer).collect()
+}
+
+/// The same risk weights in hundredths give the same charge and lines, and so does a seventh fact of 0: late and unknown
+/// rows, rows of several blocks, and a re-securitisation.
+#[test]
+fn either_unit_gives_the_same_lines() {
+    let statuses = [[900, 800, 63, 0], [60, 150, 1_250, 1], [40, 50, 7, 2]];
+    let tranches_held = [[2, 700, 100, 3], [1, 300, 50, 3]];
+    for (rows, resecuritisation) in [(&statuses[..], 0), (&unit_rows(101), 0), (&tranches_held, 1)] {
+        let tranches = [tranche(60, 1, 0), tranche(20, 2, 0), tranche(10, 3, 0)];
+        let seven = |unit, rows: &[Row]| weighed(&sheet(&[7, 0, resecuritisation, 1, 1, 0, 0, unit], rows, &tranches));
+        let four = weighed(&sheet(&[4, 0, resecuritisation, 1, 1], rows, &tranches));
+        assert_eq!(seven(0, rows), four);
+        assert_eq!(seven(1, &in_hundredths(rows)), four);
+    }
+}
+
+/// Loans of 37.5% cap a senior AA of 40%; rows (2, 37.5%) and (1, 0.01%) have 20,002.67 and 2,500.33. A twentieth unknown
+/// over the 37.5%: 0.95 × 30,000 + 50,000.
+#[test]
+fn parts_of_a_percent_count() {
+    for (rows, charge, cap) in [
+        (&[[1_000, 1_000, 3_750, 0]][..], 30_000, 3_750),
+        (&[[2, 2, 3_750, 0], [1, 1, 1, 0]], 20_003, 2_501),
+        (&[[95, 95, 3_750, 0], [5, 5, 0, 2]], 78_500, 3_563),
+    ] {
+        let (found, lines) = weighed(&sheet(&HUNDREDTHS, rows, &[tranche(3, 1, 3)]));
+        assert_eq!((found, lines[0][WEIGHT]), (charge, cap));
+    }
+}
+
+/// The base charge of a mixed pool by hundredths: 70% × 0.05 over 0.95 × 60,000, and 70.5%. The IRB average is in hundredths
+/// in either unit.
+#[test]
+fn irb_section_is_the_same_in_either_unit() {
+    let of = |unit, weight| {
+        let capped = [1, 60_000, 450_000, 24, 1, 950_000, 900];
+        let (charge, weights) = weighed_by_irba(&[7, 2, 0, 1, 1, 0, 0, unit], &[[1_000, 1_000, weight, 0]], &capped);
+        (charge, weights[0])
+    };
+    assert_eq!([of(0, 70), of(1, 7_000)], [(59_800, 900); 2]);
+    assert_eq!(of(1, 7_050), (59_820, 900));
+}
+
+/// 4 at the seventh fact, after 17 at the sixth; 6 by the unit; 1 where the seventh fact is missing.
+#[test]
+fn unit_and_risk_weights_are_judged_in_place() {
+    let deal = |unit, weight| {
+        let facts = [7, 0, 0, 1, 1, 0, 0, unit];
+        sheet(&facts, &[[1_000, 1_000, weight, 0]], &[tranche(1_000, 1, 1)])
+    };
+    for (unit, weight, number, place) in [
+        (2, 0, 4, 7),
+        (u64::MAX, 1_251, 4, 7),
+        (0, 1_251, 6, 11),
+        (0, 125_000, 6, 11),
+        (1, 125_001, 6, 11),
+        (1, u64::MAX, 6, 11),
+    ] {
+        refused(&deal(unit, weight), LINE_WORDS, number, place);
+    }
+    assert_eq!(weighed(&deal(0, 1_250)), weighed(&deal(1, 125_000)));
+    assert_eq!(weighed(&deal(1, 1_251)).0, 10_008);
+    refused(&[7, 0, 0, 1, 1, 0, 36, 2], 0, 17, 6);
+    refused(&[7, 0, 0, 1, 1, 0, 0], 0, 1, 7);
+}
+
 /// The weights of an accepted sheet, each with the seventh word.
 fn ends(sheet: &[u64]) -> Vec<[u64; 2]> {
     let (_, lines) = weighed(sheet);
@@ -565,7 +639,7 @@ fn no_due_diligence_gives_the_fallback() {
 fn each_bad_word_is_refused_at_its_place() {
     let changes = [
         (0, 3, 2),
-        (0, 7, 2),
+        (0, 8, 2),
         (1, 3, 4),
         (2, 2, 4),
         (3, 2, 4),

@@ -1,10 +1,11 @@
-//! What can be asked of the library: the answer to any words, the answer to a file, a file's report, a block's sums.
+//! What can be asked of the library: the answer to any words, the answer to a file, a file's report, a block's sums, a
+//! sheet in the other unit.
 
 use crate::deal::{Deal, Line};
 use crate::library;
 use crate::limits::{LINE_WORDS, MOST_TRANCHES, TEXT_ROOM};
 use crate::refusal::Refusal;
-use crate::reply::{BlockReply, Reply, Weighed};
+use crate::reply::{BlockReply, ConversionReply, Reply, Weighed};
 use crate::sums::BlockSums;
 use crate::text_room_error::TextRoomError;
 
@@ -155,7 +156,7 @@ pub fn report_into(file: &[u8], text: &mut [u8]) -> Result<usize, TextRoomError>
 ///
 /// // One loan of 100 at 50%, nominal 120, one tranche of 80 that is held in full, five years, AAA.
 /// let sheet = [4, 0, 0, 1, 1, 1, 100, 120, 50, 0, 1, 80, 1, 60, 80, 1, 0, 0];
-/// let sums = [100, 120, 5_000, 100, 120, 5_000, 0];
+/// let sums = [100, 120, 500_000, 100, 120, 500_000, 0];
 /// assert_eq!(reply_to_block(&sheet, 0), BlockReply::summing(sums));
 ///
 /// assert_eq!(reply_to_block(&sheet[..7], 0), BlockReply::refusing(1, 7));
@@ -197,4 +198,66 @@ pub fn reply_to_block(sheet: &[u64], block: u64) -> BlockReply {
 /// ```
 pub fn block_sums(sheet: &[u64], block: u64) -> Result<BlockSums, Refusal> {
     reply_to_block(sheet, block).outcome()
+}
+
+/// Converts as [`convert_words`] does, and gives number, place and count as the C function gives them; number 0 where the
+/// sheet was converted.
+///
+/// ```
+/// use tranche_weights::{reply_to_conversion, ConversionReply, SHEET_WORDS};
+///
+/// // One loan of 100 at 85%, one tranche of 80 that is held in full, five years, AAA.
+/// let sheet = [4, 0, 0, 1, 1, 1, 100, 100, 85, 0, 1, 80, 1, 60, 80, 1, 0, 0];
+/// let mut output = [0; SHEET_WORDS];
+/// assert_eq!(reply_to_conversion(&sheet, &mut output), ConversionReply::writing(21));
+/// assert_eq!(reply_to_conversion(&sheet[..7], &mut output), ConversionReply::refusing(1, 7));
+/// ```
+pub fn reply_to_conversion(sheet: &[u64], output: &mut [u64]) -> ConversionReply {
+    library::convert(sheet, output)
+}
+
+/// Rewrites the sheet that any words state in the other unit of the risk weights, to the output, and answers the number
+/// of words written.
+///
+/// A sheet in whole percent is rewritten in hundredths of a percent, and one in hundredths in whole percent. The facts
+/// that the sheet leaves out are filled in as 0, the unit is changed, each row's risk weight is multiplied or divided by
+/// 100, and all else is as it stands. So the words are those of the sheet, and one more for each fact filled in. The
+/// rewritten sheet is weighed as the given one is, and rewritten once more it is the given one with all its facts.
+///
+/// Later words of the output are as they were. [`SHEET_WORDS`](crate::SHEET_WORDS) words are always enough.
+///
+/// # Errors
+///
+/// The [`Refusal`]; then all words of the output are as they were. Its place is that in the sheet as given. After the
+/// refusals of the sheet's words and of words that follow its last section, a risk weight that is no whole percent, where
+/// the sheet is in hundredths, is [`Reason::NotWholePercent`](crate::Reason::NotWholePercent); then an output that is too
+/// short is [`Reason::Room`](crate::Reason::Room) at place 0. No tranche is weighed here, so
+/// [`Reason::ThinTranche`](crate::Reason::ThinTranche) is not given.
+///
+/// ```
+/// use tranche_weights::{convert_words, Reason, SHEET_WORDS};
+///
+/// // Loans of 100 at 85% and at 20%, one tranche of 150 that is held in full, five years, AAA.
+/// let pool = [2, 100, 100, 85, 0, 100, 100, 20, 0];
+/// let tranches = [1, 150, 1, 60, 150, 1, 0, 0];
+/// let sheet = [&[4, 0, 0, 1, 1][..], &pool, &tranches].concat();
+///
+/// let mut output = [9; SHEET_WORDS];
+/// let count = convert_words(&sheet, &mut output)?;
+/// assert_eq!(count, sheet.len() + 3);
+/// let pool = [2, 100, 100, 8_500, 0, 100, 100, 2_000, 0];
+/// let mut in_hundredths = [&[7, 0, 0, 1, 1, 0, 0, 1][..], &pool, &tranches].concat();
+/// assert_eq!(output[..count], in_hundredths);
+/// assert_eq!(output[count..], [9; SHEET_WORDS][count..]);
+///
+/// // The second loan at 37.5%: that is no whole percent, and nothing is written.
+/// in_hundredths[15] = 3_750;
+/// let mut output = [9; SHEET_WORDS];
+/// let refusal = convert_words(&in_hundredths, &mut output).unwrap_err();
+/// assert_eq!((refusal.reason(), refusal.place()), (Reason::NotWholePercent, 15));
+/// assert_eq!(output, [9; SHEET_WORDS]);
+/// # Ok::<(), tranche_weights::Refusal>(())
+/// ```
+pub fn convert_words(sheet: &[u64], output: &mut [u64]) -> Result<usize, Refusal> {
+    reply_to_conversion(sheet, output).outcome()
 }

@@ -6,7 +6,7 @@ use crate::pool_kind::PoolKind;
 /// What is said of the deal as a whole: nothing at first, and then what each `with_…` says.
 ///
 /// That a deal is STC or a re-securitisation is said where its sheet is started, by
-/// [`SheetBuilder`](crate::SheetBuilder).
+/// [`SheetBuilder`](crate::SheetBuilder). The unit of the risk weights follows from the rows.
 ///
 /// ```
 /// use tranche_weights::Facts;

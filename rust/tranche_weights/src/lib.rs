@@ -11,7 +11,9 @@
 //!   and [`reply_to_file`] give the four numbers of the C functions.
 //!
 //! Both also give the pool's sums by portfolio: [`Sheet::block_sums`] and [`block_sums`] read those of a block of
-//! [`BLOCK_ROWS`] rows, and [`reply_to_block`] gives them as the C function does.
+//! [`BLOCK_ROWS`] rows, and [`reply_to_block`] gives them as the C function does. And both rewrite a sheet in the other
+//! unit of the risk weights, whole percent or hundredths of a percent: [`Sheet::in_other_unit`] and [`convert_words`],
+//! with [`reply_to_conversion`].
 //!
 //! # A deal from end to end
 //!
@@ -56,7 +58,8 @@
 //! ```
 //!
 //! In a deal with a reporting date the maturities are dates: [`Tranche::maturing_on`] has an example. [`PoolKind`] has
-//! one of a mixed pool, weighed by SEC-IRBA, and [`Tranche`] one of a tranche that takes the ratings of another.
+//! one of a mixed pool, weighed by SEC-IRBA, [`Tranche`] one of a tranche that takes the ratings of another, and
+//! [`RiskWeight`] one of a loan at 37.5%.
 //!
 //! # The words of a sheet
 //!
@@ -65,18 +68,20 @@
 //! - the number of facts, [`FEWEST_FACTS`] to [`MOST_FACTS`], then the facts: the pool kind (0, a pool under the
 //!   standardised approach; 1, one under the IRB approach; 2, a mixed one), then re-securitisation, due diligence held,
 //!   pool composition known, and the STC mark, that the deal is simple, transparent and comparable, which no
-//!   re-securitisation is; each 0 for no and 1 for yes; then the reporting date (0 for none, else [`Date::word`]). A
-//!   fact that is left out at the end counts as 0;
+//!   re-securitisation is; each 0 for no and 1 for yes; then the reporting date (0 for none, else [`Date::word`]) and
+//!   the unit of the risk weights (0 for whole percent, 1 for hundredths of a percent). A fact that is left out at the
+//!   end counts as 0;
 //! - the number of pool rows, 1 to [`MOST_ROWS`], then for each: exposure amount and nominal amount (1 to 10^10), risk
-//!   weight in percent (0 to 1250; under the standardised approach, whatever the pool kind), status (0 paying, 1
-//!   delinquent, 2 not known; 3, a securitisation tranche, in a re-securitisation and only there);
+//!   weight (0 to 1250 in whole percent, 0 to 125,000 in hundredths; under the standardised approach, whatever the pool
+//!   kind), status (0 paying, 1 delinquent, 2 not known; 3, a securitisation tranche, in a re-securitisation and only
+//!   there);
 //! - the number of tranches, 1 to [`MOST_TRANCHES`], then for each: amount (1 to 10^13), class, final legal maturity (1 to
 //!   1200 months; in a deal with a reporting date, a date that is so many months after it by [`Date::months_to`]), amount
 //!   held (0 to the amount), [`MOST_RATINGS`] rating codes (0 for none, else [`Rating::code`]), in any order;
 //! - with pool kind 1 or 2 the IRB section: 1, its count, then IRB charge and average loss given default (0 to 10^6
 //!   millionths), effective number of loans (1 to 10^6), retail (0 for no and 1 for yes), share of exposure with an IRB
 //!   charge (10^6 millionths with pool kind 1, 0 to 10^6 with 2), IRB average weight (0 to 125,000, always hundredths
-//!   of a percent).
+//!   of a percent, whatever the unit).
 //!
 //! The class is the rank: class 1 is the senior class, which bears losses last. Tranches stand from senior to junior:
 //! the first has class 1, each next the class of the one before it, with which it ranks pari passu, or one more.
@@ -88,8 +93,8 @@
 //! `TRANCHE_WEIGHTS_LIB` names another folder; a relative one counts from the crate's folder. Without the archive,
 //! checking and documenting work, with a warning; building does not.
 //!
-//! The crate calls version 8 of the library's interface. Every symbol of the archive carries its version, as in
-//! `tranche_weights_weigh_v8`, so that an archive of another version fails to link.
+//! The crate calls version 9 of the library's interface. Every symbol of the archive carries its version, as in
+//! `tranche_weights_weigh_v9`, so that an archive of another version fails to link.
 //!
 //! The library keeps no state, so threads can call it at the same time. Of the calling thread's stack 64 KB are enough.
 //!
@@ -97,10 +102,13 @@
 //!
 //! Types that are marked non-exhaustive get cases and fields in later versions, and lines get words. A program that
 //! makes facts and rows by `new` and `with_…`, has an arm for all other cases in each `match`, and counts the words
-//! that it lends by [`LINE_WORDS`] and [`RESULT_WORDS`], goes on with those too. A refusal's number, an approach's word
-//! and the place of a word in the line and of a sum keep their meaning in all versions, but for the unit of weighted
-//! exposure ([`Totals::weighted_exposure`]), which may become finer than percent. The name of a refusal that is no longer
-//! given goes with it; a program that has it must leave it out.
+//! that it lends by [`LINE_WORDS`], [`RESULT_WORDS`] and [`SHEET_WORDS`], goes on with those too. A refusal's number, an
+//! approach's word and the place of a word in the line and of a sum keep their meaning in all versions, and so do the
+//! units of lines and sums from this version on. The name of a refusal that is no longer given goes with it; a program
+//! that has it must leave it out.
+//!
+//! In this version weighted exposure ([`Totals::weighted_exposure`]) is in hundredths of a percent; up to version 8 of
+//! the interface it was in percent. A program that was written for one of those and reads it must see to that.
 
 #![deny(missing_docs)]
 #![deny(unsafe_code)]
@@ -117,6 +125,7 @@ mod pool_kind;
 mod rating;
 mod refusal;
 mod reply;
+mod risk_weight;
 mod sheet;
 mod sheet_error;
 mod sums;
@@ -124,7 +133,8 @@ mod text_room_error;
 mod tranche;
 
 pub use calls::{
-    block_sums, reply_to_block, reply_to_file, reply_to_words, report, report_into, weigh_file, weigh_words,
+    block_sums, convert_words, reply_to_block, reply_to_conversion, reply_to_file, reply_to_words, report, report_into,
+    weigh_file, weigh_words,
 };
 pub use date::Date;
 pub use deal::{Approach, Deal, Line};
@@ -133,12 +143,13 @@ pub use limits::{
     BLOCK_ROWS, BYTES_PER_WORD, FEWEST_FACTS, FILE_BYTES, IRB_WORDS, LINE_WORDS, MOST_BLOCKS, MOST_FACTS, MOST_RATINGS,
     MOST_ROWS, MOST_TRANCHES, NUMBER_DIGITS, RESULT_WORDS, ROW_WORDS, SHEET_WORDS, SUM_WORDS, TEXT_ROOM, TRANCHE_WORDS,
 };
-pub use numbers::{AverageWeight, Loans, Millionths, Months, PoolAmount, RiskWeight, TrancheAmount};
+pub use numbers::{AverageWeight, Loans, Millionths, Months, PoolAmount, TrancheAmount};
 pub use pool::{Row, Status};
 pub use pool_kind::{IrbFigures, PoolKind};
 pub use rating::{LongTerm, Rating, ShortTerm};
 pub use refusal::{Reason, Refusal};
-pub use reply::{BlockReply, Reply, Weighed};
+pub use reply::{BlockReply, ConversionReply, Reply, Weighed};
+pub use risk_weight::RiskWeight;
 pub use sheet::{Ordinary, Resecuritisation, Sheet, SheetBuilder};
 pub use sheet_error::SheetError;
 pub use sums::{BlockSums, Totals};

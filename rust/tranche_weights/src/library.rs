@@ -1,13 +1,13 @@
-//! The four C functions of the static library, version 8, and the crate's only unsafe code.
+//! The five C functions of the static library, version 9, and the crate's only unsafe code.
 
 #![allow(unsafe_code)]
 
 use crate::limits::SUM_WORDS;
-use crate::reply::{BlockReply, Reply};
+use crate::reply::{BlockReply, ConversionReply, Reply};
 
 extern "C" {
     /// Weighs the sheet; returns the refusal's number, 0 where weighed.
-    #[link_name = "tranche_weights_weigh_v8"]
+    #[link_name = "tranche_weights_weigh_v9"]
     fn tranche_weights_weigh(
         sheet: *const u64,
         words: usize,
@@ -19,7 +19,7 @@ extern "C" {
     ) -> u64;
 
     /// Weighs the sheet that the file's bytes state; returns the refusal's number, 0 where weighed.
-    #[link_name = "tranche_weights_weigh_file_v8"]
+    #[link_name = "tranche_weights_weigh_file_v9"]
     fn tranche_weights_weigh_file(
         file: *const u8,
         size: usize,
@@ -31,12 +31,23 @@ extern "C" {
     ) -> u64;
 
     /// Writes the report's text where it fits the room, else nothing; returns the text's length.
-    #[link_name = "tranche_weights_report_v8"]
+    #[link_name = "tranche_weights_report_v9"]
     fn tranche_weights_report(file: *const u8, size: usize, text: *mut u8, room: usize) -> u64;
 
     /// Writes the seven sums of a block of the sheet's rows; returns the refusal's number, 0 where there is none.
-    #[link_name = "tranche_weights_block_sums_v8"]
+    #[link_name = "tranche_weights_block_sums_v9"]
     fn tranche_weights_block_sums(sheet: *const u64, words: usize, block: u64, place: *mut u64, sums: *mut u64) -> u64;
+
+    /// Writes the sheet in the other unit to the output; returns the refusal's number, 0 where it was written.
+    #[link_name = "tranche_weights_convert_v9"]
+    fn tranche_weights_convert(
+        sheet: *const u64,
+        words: usize,
+        output: *mut u64,
+        room: usize,
+        place: *mut u64,
+        count: *mut u64,
+    ) -> u64;
 }
 
 /// What each lent word of an answer holds before the call. No place, count, charge or sum is as high, so a word that
@@ -99,4 +110,17 @@ pub(crate) fn block_sums(sheet: &[u64], block: u64) -> BlockReply {
         tranche_weights_block_sums(sheet, words, block, &mut place, sums.as_mut_ptr())
     };
     BlockReply { number, place, sums }
+}
+
+/// Lends the library a sheet and room for the same in the other unit, and hands back its answer as it is.
+pub(crate) fn convert(sheet: &[u64], output: &mut [u64]) -> ConversionReply {
+    let [mut place, mut count] = [UNWRITTEN; 2];
+    // SAFETY: as for `weigh`, with the output in place of the results and two pointers from mutable borrows of separate
+    // words.
+    let number = unsafe {
+        let (sheet, words) = (sheet.as_ptr(), sheet.len());
+        let (output, room) = (output.as_mut_ptr(), output.len());
+        tranche_weights_convert(sheet, words, output, room, &mut place, &mut count)
+    };
+    ConversionReply { number, place, count }
 }

@@ -1,5 +1,5 @@
 //! The parts of a sheet, of a line and of a report, with the sizes that follow from them, and the limits of a sheet's
-//! numbers (document 01, "The deal sheet" and "Checked deals"; document 02, S-1, S-3 and S-5 to S-7).
+//! numbers (document 01, "The deal sheet" and "Checked deals"; document 02, S-1, S-3, S-5 to S-7 and S-9).
 //!
 //! A size that has parts is worked out from them, so that each number stands here once.
 
@@ -7,7 +7,7 @@
 pub const FEWEST_FACTS: usize = 4;
 
 /// The most facts that a sheet states. A fact that it leaves out at the end of its list counts as 0.
-pub const MOST_FACTS: usize = 6;
+pub const MOST_FACTS: usize = 7;
 
 /// The most rows that a pool has; the fewest is 1.
 pub const MOST_ROWS: usize = 1000;
@@ -79,8 +79,17 @@ pub const TEXT_ROOM: usize = "charge ".len()
 /// The lowest and the highest exposure amount or nominal amount of a pool row.
 pub(crate) const POOL_AMOUNT: (u64, u64) = (1, 10_000_000_000);
 
-/// The lowest and the highest risk weight of a pool row, in percent.
-pub(crate) const RISK_WEIGHT: (u64, u64) = (0, 1250);
+/// The lowest and the highest risk weight of a pool row, in whole percent.
+pub(crate) const RISK_WEIGHT_PERCENT: (u64, u64) = (0, 1250);
+
+/// How many hundredths of a percent make a percent.
+pub(crate) const HUNDREDTHS_PER_PERCENT: u64 = 100;
+
+/// The lowest and the highest risk weight of a pool row, in hundredths of a percent.
+pub(crate) const RISK_WEIGHT_HUNDREDTHS: (u64, u64) = (
+    HUNDREDTHS_PER_PERCENT * RISK_WEIGHT_PERCENT.0,
+    HUNDREDTHS_PER_PERCENT * RISK_WEIGHT_PERCENT.1,
+);
 
 /// The lowest and the highest amount of a tranche.
 pub(crate) const TRANCHE_AMOUNT: (u64, u64) = (1, 10_000_000_000_000);

@@ -67,11 +67,6 @@ limited! {
 }
 
 limited! {
-    /// Risk weight of a pool row, in whole percent: 0 to 1250.
-    RiskWeight, limits::RISK_WEIGHT
-}
-
-limited! {
     /// Amount of a tranche, in whole currency units: 1 to 10^13.
     TrancheAmount, limits::TRANCHE_AMOUNT
 }

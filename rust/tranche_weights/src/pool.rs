@@ -1,7 +1,8 @@
-//! The pool's rows (document 01, "The deal sheet").
+//! The pool's rows (document 01, "The deal sheet"; document 02, S-9).
 
 use crate::limits::ROW_WORDS;
-use crate::numbers::{PoolAmount, RiskWeight};
+use crate::numbers::PoolAmount;
+use crate::risk_weight::{RiskWeight, Unit};
 
 /// A row of the pool, without its status.
 ///
@@ -14,7 +15,7 @@ pub struct Row {
     pub exposure: PoolAmount,
     /// Nominal amount, in whole currency units.
     pub nominal: PoolAmount,
-    /// Risk weight, in whole percent, under the standardised approach, whatever the pool kind.
+    /// Risk weight under the standardised approach, whatever the pool kind.
     pub risk_weight: RiskWeight,
 }
 
@@ -28,9 +29,14 @@ impl Row {
         }
     }
 
-    /// The words of the row in the sheet, with the status word given.
-    pub(crate) const fn words(&self, status: u64) -> [u64; ROW_WORDS] {
-        [self.exposure.get(), self.nominal.get(), self.risk_weight.get(), status]
+    /// The words of the row in a sheet of this unit, with the status word given.
+    pub(crate) const fn words(&self, unit: Unit, status: u64) -> [u64; ROW_WORDS] {
+        [
+            self.exposure.get(),
+            self.nominal.get(),
+            self.risk_weight.word(unit),
+            status,
+        ]
     }
 }
 

@@ -1,4 +1,4 @@
-//! Refusals (document 01, "Refusals, by who can cause them"; document 02, S-1, S-3, S-5 and S-8).
+//! Refusals (document 01, "Refusals, by who can cause them"; document 02, S-1, S-3, S-5, S-8 and S-9).
 
 use std::error::Error;
 use std::fmt;
@@ -17,7 +17,7 @@ pub enum Reason {
     Fact,
     /// 5: an exposure or nominal amount outside 1 to 10^10.
     PoolAmount,
-    /// 6: a risk weight above 1250 percent.
+    /// 6: a risk weight above 1250%, in the sheet's unit.
     RiskWeight,
     /// 7: a status that the deal can't have.
     Status,
@@ -33,7 +33,7 @@ pub enum Reason {
     /// re-securitisation; by SEC-IRBA any) whose attachment and detachment points are equal, above the pool charge; the
     /// place of its amount.
     ThinTranche,
-    /// 14: fewer result words lent than the tranches' lines take; place 0.
+    /// 14: fewer words lent than the tranches' lines, or the converted sheet, take; place 0.
     Room,
     /// 15: a file's length is no multiple of [`BYTES_PER_WORD`](crate::BYTES_PER_WORD), or above
     /// [`FILE_BYTES`](crate::FILE_BYTES); place 0.
@@ -45,6 +45,8 @@ pub enum Reason {
     Date,
     /// 18: a figure of the IRB section is outside its limits.
     IrbFigure,
+    /// 19: in a conversion to whole percent, a risk weight that is no multiple of 100 hundredths; the first such.
+    NotWholePercent,
     /// A number that is not listed. The library never gives one; one would mean that another archive was linked in its
     /// place. The number is kept here, so that nothing false is said of it.
     Unlisted(u64),
@@ -71,6 +73,7 @@ impl Reason {
             Reason::StcMark => 16,
             Reason::Date => 17,
             Reason::IrbFigure => 18,
+            Reason::NotWholePercent => 19,
             Reason::Unlisted(number) => number,
         }
     }
@@ -89,7 +92,7 @@ const LISTED: &[(Reason, &str)] = &[
     (Reason::MissingWord, "the sheet ends too early; the place is its length"),
     (
         Reason::Count,
-        "a count is outside its limits: 4 to 6 facts, 1 to 1,000 pool rows, 1 to 32 tranches, \
+        "a count is outside its limits: 4 to 7 facts, 1 to 1,000 pool rows, 1 to 32 tranches, \
          1 for the IRB section",
     ),
     (
@@ -98,7 +101,7 @@ const LISTED: &[(Reason, &str)] = &[
     ),
     (Reason::Fact, "a fact is none of its codes"),
     (Reason::PoolAmount, "an exposure or nominal amount is 0 or above 10^10"),
-    (Reason::RiskWeight, "a risk weight is above 1250"),
+    (Reason::RiskWeight, "a risk weight is above 1250%, in the sheet's unit"),
     (Reason::Status, "a status that the deal can't have"),
     (
         Reason::TrancheAmount,
@@ -113,10 +116,13 @@ const LISTED: &[(Reason, &str)] = &[
          re-securitisation; by SEC-IRBA any) whose class is so thin that its attachment and detachment points are \
          equal, above the pool charge; the place of its amount",
     ),
-    (Reason::Room, "the calling program lent too few result words; place 0"),
+    (
+        Reason::Room,
+        "the calling program lent too few words for the lines or for the converted sheet; place 0",
+    ),
     (
         Reason::FileLength,
-        "the file's length is no multiple of 8, or above 33,920 bytes; place 0",
+        "the file's length is no multiple of 8, or above 33,928 bytes; place 0",
     ),
     (Reason::StcMark, "an STC mark on a re-securitisation"),
     (
@@ -125,6 +131,10 @@ const LISTED: &[(Reason, &str)] = &[
          after the reporting date",
     ),
     (Reason::IrbFigure, "a figure of the IRB section is outside its limits"),
+    (
+        Reason::NotWholePercent,
+        "in a conversion to whole percent: a risk weight that is no multiple of 100 hundredths",
+    ),
 ];
 
 /// What is wrong where the number is not listed.
@@ -132,7 +142,8 @@ const UNLISTED: &str = "a number that is not listed; another archive is linked i
 
 /// A refusal: its number, its place in the sheet, counted in words from 0, and its reason.
 ///
-/// It prints as the report does, and then says what is wrong: `refused 6 at 8: a risk weight is above 1250`.
+/// It prints as the report does, and then says what is wrong:
+/// `refused 6 at 8: a risk weight is above 1250%, in the sheet's unit`.
 #[derive(Debug, Clone, Copy, PartialEq, Eq, Hash)]
 pub struct Refusal {
     number: u64,
@@ -176,8 +187,8 @@ impl Error for Refusal {}
 mod tests {
     use super::{Reason, Refusal, LISTED};
     use crate::limits::{
-        BYTES_PER_WORD, FEWEST_FACTS, FILE_BYTES, MONTHS, MOST_FACTS, MOST_ROWS, MOST_TRANCHES, POOL_AMOUNT,
-        RISK_WEIGHT, TRANCHE_AMOUNT, YEARS,
+        BYTES_PER_WORD, FEWEST_FACTS, FILE_BYTES, HUNDREDTHS_PER_PERCENT, MONTHS, MOST_FACTS, MOST_ROWS, MOST_TRANCHES,
+        POOL_AMOUNT, RISK_WEIGHT_PERCENT, TRANCHE_AMOUNT, YEARS,
     };
 
     /// The repository's README.
@@ -226,7 +237,7 @@ mod tests {
         let parts = [
             (Reason::Count, counts),
             (Reason::PoolAmount, format!("above {pool}")),
-            (Reason::RiskWeight, format!("above {}", RISK_WEIGHT.1)),
+            (Reason::RiskWeight, format!("above {}%", RISK_WEIGHT_PERCENT.1)),
             (Reason::TrancheAmount, format!("above {tranche}, ")),
             (Reason::Maturity, format!("outside {shortest} to {longest} months")),
             (
@@ -234,6 +245,10 @@ mod tests {
                 format!("multiple of {BYTES_PER_WORD}, or above {bytes} bytes; "),
             ),
             (Reason::Date, format!("outside the years {first} to {last}, ")),
+            (
+                Reason::NotWholePercent,
+                format!("multiple of {HUNDREDTHS_PER_PERCENT} hundredths"),
+            ),
         ];
         for (reason, part) in parts {
             assert!(reason.to_string().contains(&part), "{reason}: {part}");

@@ -108,3 +108,47 @@ impl BlockReply {
         }
     }
 }
+
+/// What the library answers to a sheet that is to be converted, as its C function gives it.
+#[derive(Debug, Clone, Copy, PartialEq, Eq, Hash)]
+#[non_exhaustive]
+pub struct ConversionReply {
+    /// The refusal's number; 0 where the sheet was converted.
+    pub number: u64,
+    /// The refusal's place in the sheet as given; 0 where the sheet was converted.
+    pub place: u64,
+    /// The words of the converted sheet, which now stand in the output; 0 on a refusal.
+    pub count: u64,
+}
+
+impl ConversionReply {
+    /// The reply that so many words were written: number and place are 0.
+    pub const fn writing(count: u64) -> ConversionReply {
+        ConversionReply {
+            number: 0,
+            place: 0,
+            count,
+        }
+    }
+
+    /// The reply that refuses a sheet: no word was written.
+    pub const fn refusing(number: u64, place: u64) -> ConversionReply {
+        ConversionReply {
+            number,
+            place,
+            count: 0,
+        }
+    }
+
+    /// The number of words written.
+    ///
+    /// # Errors
+    ///
+    /// The [`Refusal`] where the number is not 0.
+    pub const fn outcome(self) -> Result<usize, Refusal> {
+        match self.number {
+            0 => Ok(self.count as usize),
+            number => Err(Refusal::new(number, self.place)),
+        }
+    }
+}

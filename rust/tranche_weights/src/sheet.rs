@@ -1,14 +1,15 @@
-//! The sheet of a deal and its builder (document 01, "The deal sheet"; document 02, S-1, S-3, S-5 and S-7).
+//! The sheet of a deal and its builder (document 01, "The deal sheet"; document 02, S-1, S-3, S-5, S-7 and S-9).
 
 use std::marker::PhantomData;
 
-use crate::calls::{block_sums, weigh_sheet};
+use crate::calls::{block_sums, convert_words, weigh_sheet};
 use crate::date::Date;
 use crate::deal::Deal;
 use crate::facts::Facts;
 use crate::limits::{FEWEST_FACTS, IRB_WORDS, MOST_FACTS, MOST_ROWS, MOST_TRANCHES, ROW_WORDS, TRANCHE_WORDS};
 use crate::pool::{Row, Status};
 use crate::refusal::Refusal;
+use crate::risk_weight::Unit;
 use crate::sheet_error::SheetError;
 use crate::sums::BlockSums;
 use crate::tranche::Tranche;
@@ -38,6 +39,9 @@ const SECURITISATION_TRANCHE: u64 = 3;
 /// and after them the mark where the deal is STC, or mark and date where it has a reporting date. So a deal keeps its
 /// words, and each word its place, when later versions have further facts.
 ///
+/// Its risk weights are in whole percent where all of them are whole percents. Where one is not, it states all
+/// [`MOST_FACTS`] facts, the last of them the unit, and all its risk weights are in hundredths of a percent.
+///
 /// Where the pool kind has an IRB section, it follows the tranches.
 ///
 /// In a deal with a reporting date each tranche's maturity is a date, and in any other a number of months.
@@ -45,9 +49,10 @@ const SECURITISATION_TRANCHE: u64 = 3;
 /// A method that answers with an error leaves the builder as it was.
 #[derive(Debug, Clone, PartialEq, Eq)]
 pub struct SheetBuilder<Kind> {
-    /// All facts, also those that the sheet can leave out; rows of one word each.
-    facts: [[u64; 1]; MOST_FACTS],
-    rows: Vec<[u64; ROW_WORDS]>,
+    /// All facts but the unit, which the rows decide, also those that the sheet can leave out; rows of one word each.
+    facts: [[u64; 1]; MOST_FACTS - 1],
+    /// The rows, each with its status word.
+    rows: Vec<(Row, u64)>,
     tranches: Vec<[u64; TRANCHE_WORDS]>,
     /// The IRB section, where the pool kind has one.
     irb: Option<[u64; IRB_WORDS]>,
@@ -122,7 +127,7 @@ impl SheetBuilder<Resecuritisation> {
 }
 
 impl<Kind> SheetBuilder<Kind> {
-    /// Starts a deal of any kind, with the facts in the sheet's order.
+    /// Starts a deal of any kind, with the facts in the sheet's order, up to the unit.
     fn start(kind: DealKind, facts: Facts) -> Self {
         let words = [
             facts.pool_kind.word(),
@@ -148,8 +153,17 @@ impl<Kind> SheetBuilder<Kind> {
         if self.rows.len() == MOST_ROWS {
             return Err(SheetError::TooManyRows);
         }
-        self.rows.push(row.words(status));
+        self.rows.push((row, status));
         Ok(self)
+    }
+
+    /// The unit of the sheet: whole percent where every risk weight is a whole percent.
+    fn unit(&self) -> Unit {
+        if self.rows.iter().all(|(row, _)| row.risk_weight.is_whole_percent()) {
+            Unit::WholePercent
+        } else {
+            Unit::Hundredths
+        }
     }
 
     /// Places a tranche in the next class: class 1, the senior class, for the first tranche; for any other, the class
@@ -201,10 +215,14 @@ impl<Kind> SheetBuilder<Kind> {
         if self.tranches.is_empty() {
             return Err(SheetError::NoTranches);
         }
+        let unit = self.unit();
+        let facts = [&self.facts[..], &[[unit as u64]]].concat();
+        let rows = self.rows.iter().map(|(row, status)| row.words(unit, *status));
+        let rows: Vec<[u64; ROW_WORDS]> = rows.collect();
         Ok(Sheet {
             words: [
-                section(needed(&self.facts)),
-                section(&self.rows),
+                section(needed(&facts)),
+                section(&rows),
                 section(&self.tranches),
                 self.irb.map_or_else(Vec::new, |words| section(&[words])),
             ]
@@ -229,7 +247,7 @@ fn section<const WORDS: usize>(rows: &[[u64; WORDS]]) -> Vec<u64> {
     words
 }
 
-/// The sheet of a deal, as [`SheetBuilder`] makes it: every word is within its limits.
+/// The sheet of a deal, as [`SheetBuilder`] makes it, or the same in the other unit: every word is within its limits.
 #[derive(Debug, Clone, PartialEq, Eq, Hash)]
 pub struct Sheet {
     words: Vec<u64>,
@@ -309,11 +327,53 @@ impl Sheet {
     /// let [first, last, past] = [sheet.block_sums(0)?, sheet.block_sums(1)?, sheet.block_sums(2)?];
     /// assert_eq!((first.all.exposure, first.known.exposure, first.late_nominal), (5_000, 5_000, 0));
     /// assert_eq!((last.all.exposure, last.known.exposure, last.late_nominal), (200, 100, 100));
-    /// assert_eq!((last.all.weighted_exposure, past.all.exposure), (15_000, 0));
+    /// assert_eq!((last.all.weighted_exposure, past.all.exposure), (200 * 7_500, 0));
     /// # Ok(())
     /// # }
     /// ```
     pub fn block_sums(&self, block: u64) -> Result<BlockSums, Refusal> {
         block_sums(&self.words, block)
+    }
+
+    /// The sheet in the other unit of the risk weights, as [`convert_words`] writes it: with [`MOST_FACTS`] facts, in
+    /// hundredths of a percent where this one is in whole percent, and in whole percent where it is in hundredths. It is
+    /// weighed as this one is.
+    ///
+    /// # Errors
+    ///
+    /// The one refusal that such a sheet can get is 19, [`Reason::NotWholePercent`](crate::Reason::NotWholePercent), where
+    /// this one is in hundredths and has a risk weight that is no whole percent. Of the sheets that are built, each one in
+    /// hundredths has.
+    ///
+    /// ```
+    /// use tranche_weights::{
+    ///     Facts, Months, PoolAmount, Reason, RiskWeight, Row, SheetBuilder, Status, Tranche, TrancheAmount,
+    /// };
+    ///
+    /// # fn main() -> Result<(), Box<dyn std::error::Error>> {
+    /// let hundred = PoolAmount::new(100)?;
+    /// let senior = Tranche::new(TrancheAmount::new(80)?, Months::new(60)?, 80)?;
+    /// let mut deal = SheetBuilder::ordinary(Facts::new().with_due_diligence_held(true));
+    /// deal.row(Row::new(hundred, hundred, RiskWeight::new(85)?), Status::Paying)?
+    ///     .next_class(senior)?;
+    ///
+    /// let sheet = deal.build()?;
+    /// let in_hundredths = sheet.in_other_unit()?;
+    /// assert_eq!(sheet.words()[..10], [4, 0, 0, 1, 0, 1, 100, 100, 85, 0]);
+    /// assert_eq!(in_hundredths.words()[..13], [7, 0, 0, 1, 0, 0, 0, 1, 1, 100, 100, 8_500, 0]);
+    /// assert_eq!(in_hundredths.weigh(), sheet.weigh());
+    ///
+    /// // 37.5% can't be said in whole percent: the weight of the second row stands at 15.
+    /// deal.row(Row::new(hundred, hundred, RiskWeight::from_hundredths(3_750)?), Status::Paying)?;
+    /// let refusal = deal.build()?.in_other_unit().unwrap_err();
+    /// assert_eq!((refusal.reason(), refusal.place()), (Reason::NotWholePercent, 15));
+    /// # Ok(())
+    /// # }
+    /// ```
+    pub fn in_other_unit(&self) -> Result<Sheet, Refusal> {
+        let mut words = vec![0; self.words.len() + MOST_FACTS - FEWEST_FACTS];
+        let count = convert_words(&self.words, &mut words)?;
+        words.truncate(count);
+        Ok(Sheet { words })
     }
 }

@@ -15,8 +15,10 @@ use crate::numbers::Months;
 pub enum SheetError {
     /// A pool amount outside 1 to 10^10: the amount given (refusal 5).
     PoolAmount(u64),
-    /// A risk weight above 1250 percent: the weight given (refusal 6).
+    /// A risk weight above 1250 in whole percent: the weight given (refusal 6).
     RiskWeight(u64),
+    /// A risk weight above 125,000 in hundredths of a percent: the weight given (refusal 6).
+    RiskWeightInHundredths(u64),
     /// A tranche amount outside 1 to 10^13: the amount given (refusal 8).
     TrancheAmount(u64),
     /// More is held than the tranche's amount (refusal 8).
@@ -80,7 +82,13 @@ impl fmt::Display for SheetError {
     fn fmt(&self, f: &mut fmt::Formatter<'_>) -> fmt::Result {
         match *self {
             SheetError::PoolAmount(given) => outside(f, "a pool amount", given, limits::POOL_AMOUNT),
-            SheetError::RiskWeight(given) => outside(f, "a risk weight in percent", given, limits::RISK_WEIGHT),
+            SheetError::RiskWeight(given) => outside(f, "a risk weight in percent", given, limits::RISK_WEIGHT_PERCENT),
+            SheetError::RiskWeightInHundredths(given) => outside(
+                f,
+                "a risk weight in hundredths of a percent",
+                given,
+                limits::RISK_WEIGHT_HUNDREDTHS,
+            ),
             SheetError::TrancheAmount(given) => outside(f, "a tranche amount", given, limits::TRANCHE_AMOUNT),
             SheetError::HeldAboveAmount { held, amount } => outside(f, "an amount held", held, (0, amount)),
             SheetError::Months(given) => outside(f, "a maturity in months", given, limits::MONTHS),

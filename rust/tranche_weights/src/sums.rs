@@ -1,4 +1,4 @@
-//! The sums of a block of the pool's rows (document 02, S-7).
+//! The sums of a block of the pool's rows (document 02, S-7 and S-9).
 
 use crate::limits::SUM_WORDS;
 
@@ -10,8 +10,8 @@ pub struct Totals {
     pub exposure: u64,
     /// The sum of the nominal amounts, in whole currency units.
     pub nominal: u64,
-    /// The sum of exposure amount times risk weight in percent: an exposure of 200 at 50% adds 10,000. In later versions
-    /// the unit may become finer than percent.
+    /// The sum of exposure amount times risk weight in hundredths of a percent, whatever the unit of the sheet: an
+    /// exposure of 200 at 37.5% adds 750,000.
     pub weighted_exposure: u64,
 }
 
@@ -29,9 +29,9 @@ pub struct Totals {
 ///
 /// let sums = block_sums(&sheet, 0)?;
 /// assert_eq!((sums.all.exposure, sums.all.nominal), (200, 225));
-/// assert_eq!(sums.all.weighted_exposure, 100 * 100 + 60 * 50 + 40 * 20);
+/// assert_eq!(sums.all.weighted_exposure, 100 * 10_000 + 60 * 5_000 + 40 * 2_000);
 /// assert_eq!((sums.known.exposure, sums.known.nominal), (160, 180));
-/// assert_eq!(sums.known.weighted_exposure, 100 * 100 + 60 * 50);
+/// assert_eq!(sums.known.weighted_exposure, 100 * 10_000 + 60 * 5_000);
 /// assert_eq!(sums.late_nominal, 60);
 /// # Ok::<(), tranche_weights::Refusal>(())
 /// ```

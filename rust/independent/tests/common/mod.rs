@@ -2,7 +2,8 @@
 
 use independent::sheet::{IRB_WORDS, LINE_WORDS, ROW_WORDS, TRANCHE_WORDS};
 
-/// The words of the facts, without their count: four, five with the STC mark, or six with that and the reporting date.
+/// The words of the facts, without their count: four, five with the STC mark, six with that and the reporting date, or
+/// seven with both and the unit of the risk weight word.
 pub type Facts<'a> = &'a [u64];
 
 /// The words of a pool row.

@@ -1,7 +1,7 @@
-//! The sums of the blocks of a pool's rows (document 02, S-7).
+//! The sums of the blocks of a pool's rows (document 02, S-7 and S-9).
 
 use crate::checked_deal::{ordinary, resecuritised, tranche, with_rows_and_tranches, WORDS};
-use crate::places::{first_row, row_count, rows, tranche_count};
+use crate::places::{affirms, first_row, row_count, rows, tranche_count, with_facts, UNIT};
 use crate::refusals::{hold, refused};
 use std::error::Error;
 use tranche_weights::{block_sums, reply_to_block, BlockReply, BlockSums, Refusal, BLOCK_ROWS, MOST_BLOCKS, SUM_WORDS};
@@ -17,14 +17,14 @@ const PAST_ALL: [u64; 6] = [
     u64::MAX,
 ];
 
-/// The words of the sums over some rows.
-fn sums_of<'a>(rows: impl IntoIterator<Item = &'a [u64]>) -> [u64; SUM_WORDS] {
+/// The words of the sums over some rows, whose risk weights are in a unit of so many hundredths of a percent.
+fn sums_of<'a>(rows: impl IntoIterator<Item = &'a [u64]>, hundredths: u64) -> [u64; SUM_WORDS] {
     let mut sums = [0; SUM_WORDS];
     for row in rows {
         let &[exposure, nominal, risk_weight, status] = row else {
             panic!("a row has four words")
         };
-        let all = [exposure, nominal, exposure * risk_weight];
+        let all = [exposure, nominal, exposure * (risk_weight * hundredths)];
         let known = if status == 2 { [0; 3] } else { all };
         let late = if status == 1 { nominal } else { 0 };
         let words = [&all[..], &known, &[late]].concat();
@@ -51,8 +51,10 @@ fn words_of(sums: BlockSums) -> [u64; SUM_WORDS] {
 pub fn hold_blocks(words: &[u64], sums: impl Fn(u64) -> Result<BlockSums, Refusal>) {
     let read = |block: u64| words_of(sums(block).unwrap_or_else(|refusal| panic!("{refusal}: {words:?}")));
     let rows: Vec<&[u64]> = rows(words).collect();
+    let hundredths = if affirms(words, UNIT) { 1 } else { 100 };
     for (block, rows) in (0..).zip(rows.chunks(BLOCK_ROWS)) {
-        assert_eq!(read(block), sums_of(rows.iter().copied()), "block {block}: {words:?}");
+        let sums = sums_of(rows.iter().copied(), hundredths);
+        assert_eq!(read(block), sums, "block {block}: {words:?}");
     }
     let past = rows.len().div_ceil(BLOCK_ROWS) as u64;
     for block in (past..MOST_BLOCKS as u64).chain(PAST_ALL) {
@@ -60,23 +62,25 @@ pub fn hold_blocks(words: &[u64], sums: impl Fn(u64) -> Result<BlockSums, Refusa
     }
 }
 
-/// The checked deal with so many rows in place of its own, no two alike. The statuses take turns from this one on; with
-/// 3 it is a re-securitisation, and they are all 3.
-fn with_rows(count: u64, first_status: u64) -> Vec<u64> {
+/// The checked deal with this unit and with so many rows in place of its own, no two alike. The statuses take turns from
+/// this one on; with 3 it is a re-securitisation, and they are all 3.
+fn with_rows(unit: u64, count: u64, first_status: u64) -> Vec<u64> {
     let deal = if first_status == 3 { resecuritised() } else { WORDS };
+    let deal = with_facts(&deal, &[0, 0, unit]);
+    let past_highest = [1_251, 125_001][unit as usize];
     let status = |row| if first_status == 3 { 3 } else { (first_status + row) % 3 };
-    let row = |row| [1_000 + row, 2_000_000 + 3 * row, row * row % 1_251, status(row)];
+    let row = |row| [1_000 + row, 2_000_000 + 3 * row, row * row % past_highest, status(row)];
     let rows: Vec<u64> = (0..count).flat_map(row).collect();
     let (facts, tranches) = (&deal[..row_count(&deal)], &deal[tranche_count(&deal)..]);
     [facts, &[count], &rows, tranches].concat()
 }
 
-/// Each block of a pool has its sums, full or not, whatever status its first and its last row have.
+/// Each block of a pool has its sums, full or not, whatever status its first and its last row have, in either unit.
 #[test]
 fn each_block_has_its_sums() {
     for count in [1, 2, 49, 50, 51, 99, 100, 101, 949, 950, 951, 999, 1_000] {
-        for first_status in 0..4 {
-            let words = with_rows(count, first_status);
+        for (unit, first_status) in (0..8).map(|number| (number / 4, number % 4)) {
+            let words = with_rows(unit, count, first_status);
             hold_blocks(&words, |block| block_sums(&words, block));
         }
     }
@@ -85,13 +89,15 @@ fn each_block_has_its_sums() {
 /// The highest sums of a block: fifty rows, every amount and risk weight at its limit.
 #[test]
 fn a_block_has_its_highest_sums() {
-    let mut words = with_rows(1_000, 0);
-    let pool = first_row(&words)..tranche_count(&words);
-    words[pool].copy_from_slice(&[10_000_000_000, 10_000_000_000, 1_250, 1].repeat(1_000));
-    let highest = [500_000_000_000, 500_000_000_000, 625_000_000_000_000];
+    let highest = [500_000_000_000, 500_000_000_000, 62_500_000_000_000_000];
     let sums = [&highest[..], &highest, &[500_000_000_000]].concat();
-    for block in [0, 19] {
-        assert_eq!(reply_to_block(&words, block).sums[..], sums);
+    for (unit, risk_weight) in [(0, 1_250), (1, 125_000)] {
+        let mut words = with_rows(unit, 1_000, 0);
+        let pool = first_row(&words)..tranche_count(&words);
+        words[pool].copy_from_slice(&[10_000_000_000, 10_000_000_000, risk_weight, 1].repeat(1_000));
+        for block in [0, 19] {
+            assert_eq!(reply_to_block(&words, block).sums[..], sums);
+        }
     }
 }
 
@@ -109,7 +115,7 @@ fn fields_hold_their_words() -> Result<(), Refusal> {
 #[test]
 fn the_checked_deal_has_its_sums() -> Result<(), Box<dyn Error>> {
     let sheet = with_rows_and_tranches(ordinary(), tranche)?;
-    let sums = [1_000, 1_000, 100_000, 1_000, 1_000, 100_000, 50];
+    let sums = [1_000, 1_000, 10_000_000, 1_000, 1_000, 10_000_000, 50];
     assert_eq!(words_of(sheet.block_sums(0)?), sums);
     assert_eq!(reply_to_block(sheet.words(), 0), BlockReply::summing(sums));
     assert_eq!(sheet.block_sums(1)?, BlockSums::default());

@@ -153,8 +153,8 @@ fn a_maturity_lies_after_the_reporting_date() -> Result<(), SheetError> {
 fn a_row_keeps_the_order_of_its_figures() -> Result<(), SheetError> {
     let row = Row::new(PoolAmount::new(7)?, PoolAmount::new(8)?, RiskWeight::new(9)?);
     assert_eq!(
-        (row.exposure.get(), row.nominal.get(), row.risk_weight.get()),
-        (7, 8, 9)
+        (row.exposure.get(), row.nominal.get(), row.risk_weight.hundredths()),
+        (7, 8, 900)
     );
     let mut builder = ordinary();
     builder.row(row, Status::NotKnown)?.next_class(tranche(1, 1)?)?;
@@ -287,6 +287,10 @@ fn errors_say_what_is_admitted() {
         (
             SheetError::RiskWeight(1251),
             "a risk weight in percent is 0 to 1250, not 1251",
+        ),
+        (
+            SheetError::RiskWeightInHundredths(125_001),
+            "a risk weight in hundredths of a percent is 0 to 125000, not 125001",
         ),
         (
             SheetError::TrancheAmount(0),

@@ -1,12 +1,13 @@
 //! Sheets drawn by a seeded generator: each is built, and the library refuses none of them but by 13; the least weights
 //! of its lines lie near the weights (document 02, S-6); the sums of its blocks are those of their rows (S-7); ratings
-//! that a tranche takes of another one can be written on it (S-8).
+//! that a tranche takes of another one can be written on it (S-8); in the other unit it gets the same answer (S-9).
 
 use crate::block_sums::hold_blocks;
 use crate::checked_deal::file_of;
+use crate::conversion::hold_conversion;
 use crate::places::{
-    affirmed, affirmed_on, affirms, fact, first_row, first_tranche, irb_count, rows, tranche_count, COMPOSITION,
-    DUE_DILIGENCE, POOL_KIND, REPORTING_DATE, RESECURITISATION, STC,
+    affirmed, affirmed_on, affirms, fact, first_row, first_tranche, irb_count, risk_weights, rows, tranche_count,
+    COMPOSITION, DUE_DILIGENCE, POOL_KIND, REPORTING_DATE, RESECURITISATION, STC, UNIT,
 };
 use crate::texts::text_of;
 use tranche_weights::{
@@ -20,6 +21,9 @@ const STATUSES: [Status; 3] = [Status::Paying, Status::Delinquent, Status::NotKn
 
 /// The kinds of deals, each by the fact that makes it so: ordinary, STC, re-securitisation.
 const KINDS: [&[usize]; 3] = [&[], &[STC], &[RESECURITISATION]];
+
+/// The units, each by the fact that makes it so: whole percent, hundredths of a percent.
+const UNITS: [&[usize]; 2] = [&[], &[UNIT]];
 
 /// The number of pool kinds, whose words are those below it.
 const POOL_KINDS: u64 = 3;
@@ -54,11 +58,11 @@ impl Generator {
     }
 
     /// The words of a sheet that documents 01 and 02 admit and that states no fact it can leave out. Half of the sheets
-    /// have a reporting date.
+    /// have a reporting date, and half of them are in hundredths of a percent, with a weight that is no whole percent.
     fn words(&mut self) -> Vec<u64> {
-        let kind = KINDS[self.below(3) as usize];
+        let places = [KINDS[self.below(3) as usize], UNITS[self.below(2) as usize]].concat();
         let reporting_date = (self.below(2) == 0).then(|| self.reporting_date());
-        let mut words = reporting_date.map_or_else(|| affirmed(kind), |date| affirmed_on(date, kind));
+        let mut words = reporting_date.map_or_else(|| affirmed(&places), |date| affirmed_on(date, &places));
         words[POOL_KIND] = self.below(POOL_KINDS);
         words[DUE_DILIGENCE] = u64::from(self.below(8) > 0);
         words[COMPOSITION] = self.below(2);
@@ -102,17 +106,33 @@ impl Generator {
     /// third have delinquent ones too; a third have all three statuses.
     fn rows(&mut self, words: &mut Vec<u64>) {
         let resecuritisation = affirms(words, RESECURITISATION);
+        let in_hundredths = affirms(words, UNIT);
         let count = self.within(1, MOST_ROWS as u64);
         let statuses = 1 + self.below(3);
         words.push(count);
+        let first_row = words.len();
         for _ in 0..count {
             let status = if resecuritisation { 3 } else { self.below(statuses) };
             words.extend([
                 self.within(1, PoolAmount::HIGHEST),
                 self.within(1, PoolAmount::HIGHEST),
-                self.within(RiskWeight::LOWEST, RiskWeight::HIGHEST),
+                self.risk_weight(in_hundredths),
                 status,
             ]);
+        }
+        if in_hundredths {
+            let row = self.below(count) as usize;
+            words[first_row + ROW_WORDS * row + 2] = 100 * self.below(RiskWeight::HIGHEST_PERCENT) + 1 + self.below(99);
+        }
+    }
+
+    /// The risk weight of a row; in hundredths, too, a whole percent every other time.
+    fn risk_weight(&mut self, in_hundredths: bool) -> u64 {
+        let percent = self.within(0, RiskWeight::HIGHEST_PERCENT);
+        match (in_hundredths, self.below(2)) {
+            (false, _) => percent,
+            (true, 0) => 100 * percent,
+            (true, _) => self.within(0, RiskWeight::HIGHEST_HUNDREDTHS),
         }
     }
 
@@ -175,10 +195,15 @@ fn rating_of(word: u64) -> Result<Option<Rating>, SheetError> {
     }
 }
 
-/// The row that its words state, without its status.
-fn row_of(words: &[u64]) -> Result<Row, SheetError> {
+/// The row that its words state, in hundredths of a percent or in whole percent, without its status.
+fn row_of(words: &[u64], in_hundredths: bool) -> Result<Row, SheetError> {
     let (exposure, nominal) = (PoolAmount::new(words[0])?, PoolAmount::new(words[1])?);
-    Ok(Row::new(exposure, nominal, RiskWeight::new(words[2])?))
+    let risk_weight = if in_hundredths {
+        RiskWeight::from_hundredths(words[2])?
+    } else {
+        RiskWeight::new(words[2])?
+    };
+    Ok(Row::new(exposure, nominal, risk_weight))
 }
 
 /// The reporting date that a sheet states, if any.
@@ -217,12 +242,12 @@ fn built(words: &[u64]) -> Result<Sheet, SheetError> {
         .with_due_diligence_held(affirms(words, DUE_DILIGENCE))
         .with_pool_composition_known(affirms(words, COMPOSITION))
         .with_reporting_date(reporting_date);
-    let rows = rows(words);
+    let (rows, in_hundredths) = (rows(words), affirms(words, UNIT));
     let tranches = &words[first_tranche(words)..irb_count(words)];
     if affirms(words, RESECURITISATION) {
         let mut builder = SheetBuilder::resecuritisation(facts);
         for row in rows {
-            builder.row(row_of(row)?)?;
+            builder.row(row_of(row, in_hundredths)?)?;
         }
         with_tranches(builder, tranches, reporting_date.is_some())
     } else {
@@ -232,7 +257,7 @@ fn built(words: &[u64]) -> Result<Sheet, SheetError> {
             SheetBuilder::ordinary(facts)
         };
         for row in rows {
-            builder.row(row_of(row)?, STATUSES[row[3] as usize])?;
+            builder.row(row_of(row, in_hundredths)?, STATUSES[row[3] as usize])?;
         }
         with_tranches(builder, tranches, reporting_date.is_some())
     }
@@ -265,14 +290,15 @@ fn with_tranches<Kind>(mut builder: SheetBuilder<Kind>, words: &[u64], dated: bo
 }
 
 /// The sorts of sheets: each kind of deal with maturities in months, then each with maturities as dates; and so for each
-/// pool kind.
-const SORTS: usize = 2 * KINDS.len() * POOL_KINDS as usize;
+/// pool kind, and all of that for each unit.
+const SORTS: usize = 2 * KINDS.len() * POOL_KINDS as usize * UNITS.len();
 
 /// The sort of a sheet, its kind as `KINDS` lists them.
 fn sort_of(words: &[u64]) -> usize {
     let kind = usize::from(affirms(words, STC)) + 2 * usize::from(affirms(words, RESECURITISATION));
     let dated = usize::from(fact(words, REPORTING_DATE) != 0);
-    kind + KINDS.len() * (dated + 2 * words[POOL_KIND] as usize)
+    let unit = fact(words, UNIT);
+    kind + KINDS.len() * (dated + 2 * (words[POOL_KIND] + POOL_KINDS * unit) as usize)
 }
 
 /// Any admitted sheet that states no fact it can leave out can be built, to the word. It is weighed with a line per
@@ -282,7 +308,7 @@ fn sort_of(words: &[u64]) -> usize {
 fn a_built_sheet_is_refused_by_13_alone() -> Result<(), SheetError> {
     let mut generator = Generator(0x7261_6e63_6865_7301);
     let (mut weighed, mut refused) = ([0; SORTS], [0; SORTS]);
-    for _ in 0..7200 {
+    for _ in 0..14_400 {
         let words = generator.words();
         let sheet = built(&words)?;
         assert_eq!(sheet.words(), words);
@@ -402,12 +428,38 @@ fn with_ratings_written(words: &[u64]) -> Result<(Vec<u64>, usize), SheetError> 
 fn ratings_that_are_taken_can_be_written() -> Result<(), SheetError> {
     let mut generator = Generator(0x7461_6b65_6e00_0001);
     let mut seen = [0; SORTS];
-    for _ in 0..3600 {
+    for _ in 0..7_200 {
         let words = generator.words();
         let (written, count) = with_ratings_written(&words)?;
         let [taken, given] = [&words, &written].map(|words| weigh_file(&file_of(words)));
         assert_eq!(taken, given, "{words:?}");
         seen[sort_of(&words)] += usize::from(count > 0 && taken.is_ok());
+    }
+    assert!(seen.iter().all(|count| *count >= 20), "{seen:?}");
+    Ok(())
+}
+
+/// Every built sheet in whole percent is converted, and so is the one that is made of it. One in hundredths is refused by
+/// 19 at its first weight that is no whole percent; with those made whole it is converted.
+#[test]
+fn a_built_sheet_is_converted() -> Result<(), SheetError> {
+    let mut generator = Generator(0x636f_6e76_6572_7401);
+    let mut seen = [0; SORTS];
+    for _ in 0..1800 {
+        let mut words = generator.words();
+        let sheet = built(&words)?;
+        if affirms(&words, UNIT) {
+            let broken: Vec<usize> = risk_weights(&words).filter(|place| words[*place] % 100 != 0).collect();
+            let refusal = sheet.in_other_unit().unwrap_err();
+            let place = refusal.place() as usize;
+            assert_eq!(
+                (refusal.reason(), Some(&place)),
+                (Reason::NotWholePercent, broken.first())
+            );
+            broken.iter().for_each(|place| words[*place] -= words[*place] % 100);
+        }
+        hold_conversion(&words);
+        seen[sort_of(&words)] += 1;
     }
     assert!(seen.iter().all(|count| *count >= 20), "{seen:?}");
     Ok(())

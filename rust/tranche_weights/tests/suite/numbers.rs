@@ -1,6 +1,6 @@
 //! The limited numbers (document 01, "The deal sheet"; document 02, S-5).
 
-use tranche_weights::{AverageWeight, Loans, Millionths, Months, PoolAmount, RiskWeight, SheetError, TrancheAmount};
+use tranche_weights::{AverageWeight, Loans, Millionths, Months, PoolAmount, SheetError, TrancheAmount};
 
 /// Holds a limited number to its limits: both are taken and given back, what is beyond them is answered with the
 /// number's own error.
@@ -17,7 +17,6 @@ fn hold_limits<N: TryFrom<u64, Error = SheetError> + Into<u64>>(limits: [u64; 2]
 #[test]
 fn numbers_keep_their_limits() {
     hold_limits::<PoolAmount>([1, 10_000_000_000], SheetError::PoolAmount);
-    hold_limits::<RiskWeight>([0, 1250], SheetError::RiskWeight);
     hold_limits::<TrancheAmount>([1, 10_000_000_000_000], SheetError::TrancheAmount);
     hold_limits::<Months>([1, 1200], SheetError::Months);
     hold_limits::<Millionths>([0, 1_000_000], SheetError::Millionths);
@@ -29,7 +28,6 @@ fn numbers_keep_their_limits() {
 #[test]
 fn limits_can_be_read() {
     assert_eq!([PoolAmount::LOWEST, PoolAmount::HIGHEST], [1, 10_000_000_000]);
-    assert_eq!([RiskWeight::LOWEST, RiskWeight::HIGHEST], [0, 1250]);
     assert_eq!([TrancheAmount::LOWEST, TrancheAmount::HIGHEST], [1, 10_000_000_000_000]);
     assert_eq!([Months::LOWEST, Months::HIGHEST], [1, 1200]);
     assert_eq!([Millionths::LOWEST, Millionths::HIGHEST], [0, 1_000_000]);
@@ -43,7 +41,7 @@ fn limits_can_be_read() {
 #[test]
 fn numbers_print_their_value() -> Result<(), SheetError> {
     assert_eq!(PoolAmount::new(950)?.to_string(), "950");
-    assert_eq!(format!("{:>5}%", RiskWeight::new(100)?), "  100%");
+    assert_eq!(format!("{:>5}|", Loans::new(100)?), "  100|");
     assert_eq!(format!("{:03}", Months::new(72)?), "072");
     assert_eq!(format!("{:<4}|", TrancheAmount::new(80)?), "80  |");
     Ok(())

@@ -1,9 +1,9 @@
-//! The places of a sheet's words (document 01, "The deal sheet"; document 02, S-1, S-3 and S-5).
+//! The places of a sheet's words (document 01, "The deal sheet"; document 02, S-1, S-3, S-5 and S-9).
 
 use tranche_weights::{Date, FEWEST_FACTS, IRB_WORDS, ROW_WORDS, TRANCHE_WORDS};
 
 /// The place of the count of facts.
-const FACT_COUNT: usize = 0;
+pub const FACT_COUNT: usize = 0;
 
 /// The place of the pool kind.
 pub const POOL_KIND: usize = 1;
@@ -22,6 +22,12 @@ pub const STC: usize = 5;
 
 /// The place of the reporting date, where the sheet states it.
 pub const REPORTING_DATE: usize = 6;
+
+/// The place of the unit of the risk weights, where the sheet states it.
+pub const UNIT: usize = 7;
+
+/// The place of the risk weight among a row's words.
+const RISK_WEIGHT: usize = 2;
 
 /// The place of the status among a row's words.
 const STATUS: usize = 3;
@@ -116,6 +122,11 @@ pub fn first_figure(words: &[u64]) -> usize {
 /// The rows of a sheet.
 pub fn rows(words: &[u64]) -> impl Iterator<Item = &[u64]> {
     words[first_row(words)..tranche_count(words)].chunks(ROW_WORDS)
+}
+
+/// The places of the rows' risk weights.
+pub fn risk_weights(words: &[u64]) -> impl Iterator<Item = usize> {
+    (first_row(words) + RISK_WEIGHT..tranche_count(words)).step_by(ROW_WORDS)
 }
 
 /// The places of the rows' statuses.

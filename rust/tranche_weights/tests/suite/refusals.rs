@@ -1,5 +1,5 @@
 //! Each refusal, with its number, place and reason (document 01, "Refusals, by who can cause them"; document 02, S-1,
-//! S-3, S-5 and S-6).
+//! S-3, S-5, S-6 and S-9).
 
 use crate::checked_deal::{file_of, resecuritised, RESULTS, WORDS};
 use crate::dates::{dated, MATURITY, REPORTING_DATE};
@@ -21,7 +21,7 @@ fn with(place: usize, word: u64) -> Vec<u64> {
 }
 
 /// A sheet with a second tranche of one unit in 10^10: its points are equal, above the pool charge.
-fn thin() -> Vec<u64> {
+pub fn thin() -> Vec<u64> {
     let facts = [4, 0, 0, 1, 1];
     let pool = [1, 10_000_000_000, 10_000_000_000, 100, 0];
     let senior = [4_999_995_000, 1, 60, 0, 0, 0, 0];
@@ -42,7 +42,7 @@ fn refused_words() -> Vec<(Vec<u64>, u64, u64, Reason)> {
         (WORDS[..35].to_vec(), 1, 35, Reason::MissingWord),
         (with_facts(&WORDS, &[1])[..5].to_vec(), 1, 5, Reason::MissingWord),
         (with(0, 3), 2, 0, Reason::Count),
-        (with(0, 7), 2, 0, Reason::Count),
+        (with(0, 8), 2, 0, Reason::Count),
         (with(5, 1001), 2, 5, Reason::Count),
         (with(14, 33), 2, 14, Reason::Count),
         (longer, 3, 36, Reason::WordsFollow),
@@ -168,9 +168,41 @@ fn refused_dates() -> Vec<(Vec<u64>, u64, u64, Reason)> {
     all.collect()
 }
 
+/// Words refused by the library for the unit or for a risk weight in its unit, each with number, place and reason. The
+/// unit stands at 7 and the risk weights at 11 and 15.
+fn refused_units() -> Vec<(Vec<u64>, u64, u64, Reason)> {
+    let in_unit = |unit| with_facts(&WORDS, &[0, 0, unit]);
+    let weighing = |unit, place: usize, word| {
+        let mut words = in_unit(unit);
+        words[place] = word;
+        words
+    };
+    vec![
+        (in_unit(1)[..7].to_vec(), 1, 7, Reason::MissingWord),
+        (in_unit(2), 4, 7, Reason::Fact),
+        (in_unit(100), 4, 7, Reason::Fact),
+        (in_unit(u64::MAX), 4, 7, Reason::Fact),
+        (weighing(2, 8, 0), 4, 7, Reason::Fact),
+        (resecuritisation_with(&[1, 0, 2]), 16, 5, Reason::StcMark),
+        (with_facts(&WORDS, &[0, 72, 2]), 17, 6, Reason::Date),
+        (weighing(0, 11, 1251), 6, 11, Reason::RiskWeight),
+        (weighing(0, 15, 125_000), 6, 15, Reason::RiskWeight),
+        (weighing(1, 11, 125_001), 6, 11, Reason::RiskWeight),
+        (weighing(1, 15, u64::MAX), 6, 15, Reason::RiskWeight),
+        (with_facts(&thin(), &[0, 0, 1]), 13, 21, Reason::ThinTranche),
+    ]
+}
+
 /// Words refused by the library, each with number, place and reason: all of those above.
 pub fn refused() -> Vec<(Vec<u64>, u64, u64, Reason)> {
-    [refused_words(), refused_dates(), refused_sections(), refused_deals()].concat()
+    [
+        refused_words(),
+        refused_dates(),
+        refused_sections(),
+        refused_deals(),
+        refused_units(),
+    ]
+    .concat()
 }
 
 /// Holds a refusal to number, place and reason, and its print to the report's.
@@ -201,14 +233,14 @@ fn refused_words_leave_the_results() {
     }
 }
 
-/// A fact of 0 written after the fourth moves the place of a fault behind it by one, two of them by two, and they change
-/// no number.
+/// A fact of 0 written after the fourth moves the place of a fault behind it by one, two of them by two, three by three,
+/// and they change no number.
 #[test]
 fn facts_of_0_move_later_places() {
     let refused = [refused_words(), refused_sections(), refused_deals()].concat();
     let of_four_facts = refused.iter().filter(|(words, ..)| words.first() == Some(&4));
     for (words, number, place, _) in of_four_facts {
-        for further in [&[0][..], &[0, 0]] {
+        for further in [&[0][..], &[0, 0], &[0, 0, 0]] {
             let behind = *place as usize >= row_count(words);
             let moved = if behind { further.len() as u64 } else { 0 };
             let reply = reply_to_words(&with_facts(words, further), &mut [0; RESULT_WORDS]);

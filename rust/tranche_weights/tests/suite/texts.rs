@@ -1,7 +1,7 @@
 //! The report's text and the lent room for it (document 01, "Checked deals"; document 02, S-6).
 
 use crate::checked_deal::{file_of, TEXT, WORDS};
-use crate::places::{affirmed_on, with_irb, COMPOSITION, DUE_DILIGENCE, STC};
+use crate::places::{affirmed_on, with_irb, COMPOSITION, DUE_DILIGENCE, STC, UNIT};
 use std::error::Error;
 use tranche_weights::{
     report, report_into, weigh_file, Date, Deal, Refusal, FILE_BYTES, MOST_ROWS, MOST_TRANCHES, ROW_WORDS, TEXT_ROOM,
@@ -42,11 +42,11 @@ fn the_report_on_a_refused_file_names_number_and_place() {
 /// its limit and all of it held.
 pub fn largest_sheet() -> Vec<u64> {
     let [reporting_date, maturity] = [2000, 2100].map(|year| Date::new(year, 1, 1).expect("a day of these years"));
-    let rows: [[u64; ROW_WORDS]; MOST_ROWS] = [[10_000_000_000, 10_000_000_000, 1250, 0]; MOST_ROWS];
+    let rows: [[u64; ROW_WORDS]; MOST_ROWS] = [[10_000_000_000, 10_000_000_000, 125_000, 0]; MOST_ROWS];
     let tranche: [u64; TRANCHE_WORDS] = [10_000_000_000_000, 1, maturity.word(), 10_000_000_000_000, 0, 0, 0];
     let tranches = [tranche; MOST_TRANCHES];
     let counts = [rows.len() as u64, tranches.len() as u64];
-    let facts = affirmed_on(reporting_date, &[DUE_DILIGENCE, COMPOSITION, STC]);
+    let facts = affirmed_on(reporting_date, &[DUE_DILIGENCE, COMPOSITION, STC, UNIT]);
     let pool = [&facts[..], &counts[..1], rows.as_flattened()].concat();
     let sections = [&pool, &counts[1..], tranches.as_flattened()].concat();
     with_irb(&sections, 1, [1_000_000, 1_000_000, 1_000_000, 1, 1_000_000, 125_000])
