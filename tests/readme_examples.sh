@@ -1,7 +1,7 @@
 #!/bin/sh
 # The README's examples: the C program is taken out of it, built and run, the Rust program is the file that it names, and what they, the programs of the report and
-# of the totals and the C example print stands in it, line for line. The programs and the static library are built first: rt check sheet_words tranche_report
-# portfolio_totals, rt staticlib tranche_weights.
+# of the totals and the C example print stands in it, line for line; the report on the converted sheet is that on the sheet. The programs and the static library are built first:
+# rt check sheet_words tranche_report portfolio_totals convert_sheet, rt staticlib tranche_weights.
 set -eu
 cd "$(dirname "$0")/.."
 room=$(mktemp -d)
@@ -30,6 +30,9 @@ target/bin/tranche_report "$room/deal" > "$room/out"
 stands "report on examples/ordinary.txt" "$room/out"
 target/bin/portfolio_totals "$room/deal" > "$room/out"
 stands "totals of examples/ordinary.txt" "$room/out"
+target/bin/convert_sheet "$room/deal" > "$room/converted"
+target/bin/tranche_report "$room/converted" > "$room/out"
+stands "report on examples/ordinary.txt in hundredths" "$room/out"
 
 $build examples/print_lines.c "$archive" -o "$room/print_lines"
 "$room/print_lines" "$room/deal" > "$room/out"

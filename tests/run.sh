@@ -54,7 +54,7 @@ gate() {
 # The same with no wrong program, and without what is proved already. What rt has proved it takes for unchanged where only a file behind a link has changed, so
 # the programs with a link are proved anew.
 check() {
-    rm -f target/stamp/sheet_words target/stamp/portfolio_totals target/stamp/checked_examples
+    rm -f target/stamp/sheet_words target/stamp/portfolio_totals target/stamp/convert_sheet target/stamp/checked_examples
     rt check && echo "all parts passed; the wrong programs were not tried" > "$held/last"
 }
 

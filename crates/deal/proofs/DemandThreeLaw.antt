@@ -26,6 +26,7 @@ use Rattle.judgement.proofs.SheetLimits.{stc-ordinary}
 use Rattle.deal.specs.Refusals.{verdict}
 use Rattle.deal.specs.Results.{resultsAfter}
 use Rattle.judgement.specs.declared.Verdict.the-variants.{Sound}
+use Rattle.deal.proofs.InferredLaws.{keeps-its-own}
 use Rattle.deal.proofs.PointLaws.{attachment-at-most-detachment, detachment-at-most-million}
 use Rattle.deal.proofs.TermsLaws.{charge-at-most-million}
 use Rattle.deal.proofs.IrbaLaws.{irbaParameterOf, irba-parameter}
@@ -39,13 +40,13 @@ use Rattle.weights.proofs.WeightLaws.{formula-weight, thick-where, parameter-wi
 pub attachment-below-detachment :
     (s : List ℕ) (room i : ℕ) → verdict s room ≡ Sound → i < trancheCount s → byFormula (tranche s i) (terms s) ≡ true →
     terms s .charge < detachmentPoint s i → attachmentPoint s i < detachmentPoint s i
-unfolding tranche
 attachment-below-detachment s room i accepted row by above =
     ⊎-elim
     (λ e.
-    let same : attachmentPoint s i ≡ detachmentPoint s i = omega (arith, attachment-at-most-detachment s i) in
+    let own = keeps-its-own s i in
+    let same : tranche s i .attachment ≡ tranche s i .detachment = omega (arith, own, attachment-at-most-detachment s i) in
     let low = thick-where (tranche s i) (terms s) by same (accepted-means s room accepted .none-thin i row) in
-    absurd (omega arith))
+    absurd (omega (arith, own)))
     (λ pos. omega arith)
     (eq-zero-or-pos (detachmentPoint s i - attachmentPoint s i))
 

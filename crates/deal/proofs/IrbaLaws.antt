@@ -23,6 +23,7 @@ use Rattle.pool.specs.PoolSums.{poolSums}
 use Rattle.weights.specs.ApproachFloorCap.{approach, parameter}
 use Rattle.weights.proofs.WeightLaws.{irba-approach, irba-parameter-is}
 use Rattle.deal.specs.Lines.{terms, tranche}
+use Rattle.deal.proofs.InferredLaws.{keeps-its-own}
 use Rattle.deal.proofs.TermsLaws.{charge-at-most-million}
 
 -- ---- approach 3 does not apply to an SA pool, nor to a mixed one with a small share
@@ -96,8 +97,8 @@ irbaParameterOf s i = irbaParameter (eqb (class s i) 1) (stc s) (terms s .charge
 read-parameter :
     (s : List ℕ) (i : ℕ) →
     irbaParameter (tranche s i .senior) (terms s .stc) (terms s .charge) (maturityFifths (tranche s i .months)) (terms s .irb) ≡ irbaParameterOf s i
-unfolding tranche terms layout
-read-parameter s i = refl
+unfolding terms layout
+read-parameter s i = rw (keeps-its-own s i .own-class, keeps-its-own s i .own-months)
 
 pub irba-parameter : (s : List ℕ) (i : ℕ) → terms s .irba ≡ true → parameter (tranche s i) (terms s) ≡ irbaParameterOf s i
 irba-parameter s i by = irba-parameter-is (tranche s i) (terms s) (irba-ordinary s by .1) by ∙ read-parameter s i

@@ -21,9 +21,6 @@ use Rattle.judgement.specs.declared.Verdict.the-variants.{Sound, Faulty}
 use Rattle.judgement.proofs.FirstFault.{or-else-sound, or-else-faulty, FirstFault, first-of-sound, first-of-all, first-of-faulty, faulty-first-of}
 use Rattle.judgement.proofs.JudgedLaws.{states, faulty-when, sound-when, good-judged, words-refused, refused-words, words-accepted, accepted-words, words-number}
 
-thin-sound : (s : List ℕ) (i : ℕ) → thinVerdict s i ≡ Sound → thin (tranche s i) (terms s) ≡ false
-thin-sound s i = sound-when (thin (tranche s i) (terms s)) (record { number = 13; place = trancheAt s i })
-
 pub room-sound : (s : List ℕ) (room : ℕ) → roomVerdict s room ≡ Sound → lineSize * trancheCount s ≤ room
 room-sound s room e =
     ltb-false room (lineSize * trancheCount s) (sound-when (ltb room (lineSize * trancheCount s)) (record { number = 14; place = 0 }) e)
@@ -39,10 +36,13 @@ thin-tranche-of-fault s room r words enough first =
       i = first .at;
       among = first .below;
       is-thin = here .0;
-      none-before = λ j h. thin-sound s j (first .before j h);
+      none-before = λ j h. sound-when (thin (tranche s j) (terms s)) (record { number = 13; place = trancheAt s j }) (first .before j h);
       number-is = here .1 .0;
       place-is = here .1 .1;
     }
+
+thin-sound : (s : List ℕ) (i : ℕ) → thinVerdict s i ≡ Sound → thin (tranche s i) (terms s) ≡ false
+thin-sound s i = sound-when (thin (tranche s i) (terms s)) (record { number = 13; place = trancheAt s i })
 
 pub refused-when : (s : List ℕ) (room : ℕ) (r : Refusal) → Why s room r → verdict s room ≡ Faulty r
 unfolding verdict

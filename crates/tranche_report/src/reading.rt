@@ -1,6 +1,6 @@
 // Reads a file that an argument names into a buffer, and writes the start of one to standard output. What fails is said in one line on standard error. No contract can say which bytes are read: the promise is
 // that the buffer has as many as are counted. So reading is private to the programs, and written once: this file is a module of tranche_report, and
-// src/reading.rt of portfolio_totals, sheet_words and checked_examples is a link to it. (`rt check` sees no change behind a link; `rt dev`, `rt ci` and tests/run.sh do.)
+// src/reading.rt of portfolio_totals, convert_sheet, sheet_words and checked_examples is a link to it. (`rt check` sees no change behind a link; `rt dev`, `rt ci` and tests/run.sh do.)
 ghost use Rattle.io.specs.Counts.{Counts};
 use libc::STDERR_FILENO;
 use libc::STDIN_FILENO;
