@@ -82,7 +82,7 @@ fn different_sheet(rows: usize, resecuritisation: u64, unit: u64) -> [u64; WORD_
     sheet
 }
 
-// How many words a sheet of so many different rows has, with so many more at its end.
+// How many words a sheet of so many different rows has, with so many more at its end. Promised: the lent list has so many (`HasBytes`, here of words), so that a caller can cut it there.
 fn different_length(rows: usize, more: usize, sheet: &[u64]) -> usize
     requires { ⌜ (rows ≤ rowsMost) × (more ≤ 1) ⌝ }
     ensures { λ r. ⌜ HasBytes r (now (sheet .entry)) ⌝ }

@@ -75,7 +75,7 @@ fn checksum(words: &[u64]) -> u64 {
     sum
 }
 
-// A number of words at the start of a list: n where it has so many, else 0.
+// A number of words at the start of a list: n where it has so many, else 0. Promised: the list has so many (`HasBytes`, here of words).
 pub(crate) fn words_within(n: u64, words: &[u64]) -> usize
     ensures { λ r. ⌜ HasBytes r (now (words .entry)) ⌝ }
 {

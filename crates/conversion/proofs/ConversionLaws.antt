@@ -24,11 +24,13 @@ use Rattle.judgement.proofs.JudgeSteps.{needed-sound}
 use Rattle.judgement.proofs.JudgedLaws.{words-accepted, accepted-words}
 use Rattle.judgement.proofs.NeededLaws.{tranches-at-past-rows}
 use Rattle.judgement.proofs.SheetLimits.{fact-there, row-word-there}
-use Rattle.deal.specs.OtherUnit.{OtherUnit}
+use Rattle.deal.specs.EitherUnit.{EitherUnit}
 use Rattle.deal.specs.SameAnswer.{SameAnswer}
-use Rattle.deal.proofs.OtherUnit.{good-in-unit, either-unit}
+use Rattle.pool.specs.BlockSums.{blockSums}
+use Rattle.pool.proofs.SameSums.{same-weight, reweighed-blocks}
+use Rattle.deal.proofs.EitherUnit.{good-in-unit, same-blocks-in-unit, either-unit}
 use Rattle.deal.proofs.FilledFacts.{filled-facts}
-use Rattle.conversion.specs.RewrittenSheet.{allFacts, otherUnit, otherWeight, isWeight, rewrittenWord, inOtherUnit, rewritten}
+use Rattle.conversion.specs.RewrittenSheet.{allFacts, otherUnit, otherWeight, isWeightPlace, rewrittenWord, inOtherUnit, rewritten}
 use Rattle.conversion.specs.Conversion.{weightsVerdict, conversionVerdict}
 use Rattle.conversion.specs.ConvertedAnswer.{SameLines, ConvertsBack}
 use Rattle.conversion.specs.Judged.{rewrittenLength}
@@ -161,7 +163,7 @@ module _ (s : List ℕ) (words : wordsVerdict s ≡ Sound) (whole : weightsVerdi
       (at (weightAt f i) (weight-there i row) ∙
       simp (ne-eqb (weightAt f i) unitAt (λ e. omega (arith, unit-before-pool)), weight-place f i row, unit-same))
 
-  in-other-unit : OtherUnit f t
+  in-other-unit : EitherUnit f t
   in-other-unit = record {
     seven-facts = seven-facts;
     same-length = length-t;
@@ -181,6 +183,13 @@ module _ (s : List ℕ) (words : wordsVerdict s ≡ Sound) (whole : weightsVerdi
         same-results = λ old. either .same-results old ∙ filled .same-results old;
       }
 
+  totals-moved : (b : ℕ) → blockSums t b ≡ blockSums s b
+  totals-moved b =
+      let c = can-fill s good in
+      same-blocks-in-unit f t in-other-unit filled-words b ∙
+      reweighed-blocks s f (same-rows factsMost s c) (λ i k row other column. same-row-word factsMost s c i k)
+      (λ i row. same-weight s f i i unit-same (same-row-word factsMost s c i 2)) b
+
   -- ---- and back
 
   words-t : wordsVerdict t ≡ Sound
@@ -195,12 +204,12 @@ module _ (s : List ℕ) (words : wordsVerdict s ≡ Sound) (whole : weightsVerdi
   filled-t = rw (← first-rewritten s good) (filled-already t (omega (arith, rewritten-length s good, fact-there s 0 good (omega arith))))
 
   word-back : (p : ℕ) → p < length f → rewrittenWord t p (word t p) ≡ word f p
-  word-back p l = by-place (eqb p unitAt) refl (isWeight f p) refl
+  word-back p l = by-place (eqb p unitAt) refl (isWeightPlace f p) refl
     where
-      same-place : isWeight t p ≡ isWeight f p
+      same-place : isWeightPlace t p ≡ isWeightPlace f p
       same-place = rw (pool-t, tranches-t)
 
-      by-place : (unit : Bool) → eqb p unitAt ≡ unit → (weight : Bool) → isWeight f p ≡ weight → rewrittenWord t p (word t p) ≡ word f p
+      by-place : (unit : Bool) → eqb p unitAt ≡ unit → (weight : Bool) → isWeightPlace f p ≡ weight → rewrittenWord t p (word t p) ≡ word f p
       by-place true is weight _ =
           rw (eqb-true p unitAt is) (rw unit-t (unit-back h (word f unitAt) (unit-word .0) (unit-word .1)))
       by-place false other true is =
@@ -230,6 +239,10 @@ module _ (s : List ℕ) (room : ℕ) (e : conversionVerdict s room ≡ Sound) wh
   -- "gives the same lines for it"
   pub same-lines : SameLines s
   same-lines = answer-moved s words-of whole-of
+
+  -- and the same sums, of every block
+  pub same-totals : (b : ℕ) → blockSums (rewritten s) b ≡ blockSums s b
+  same-totals = totals-moved s words-of whole-of
 
   -- "its answer counts the words written"
   pub count-is : length (rewritten s) ≡ rewrittenLength s

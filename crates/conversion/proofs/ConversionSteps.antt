@@ -41,14 +41,6 @@ module _ (s : List ℕ) where
 
 -- ---- of any sheet
 
-pub judged-numbers : (s : List ℕ) (room : ℕ) → wordsVerdict s ≡ Sound → numbersJudged s room ≡ conversionNumbers s room
-unfolding conversionNumbers conversionVerdict numbersJudged
-judged-numbers s room e = rw e refl
-
-pub judged-output : (s old : List ℕ) → wordsVerdict s ≡ Sound → outputJudged s old ≡ outputAfter s old
-unfolding outputAfter conversionVerdict outputJudged
-judged-output s old e = rw e refl
-
 pub words-refused : (s : List ℕ) (r : Refusal) (room : ℕ) → wordsVerdict s ≡ Faulty r → refusedBy r ≡ conversionNumbers s room
 unfolding conversionNumbers conversionVerdict
 words-refused s r room e = rw e refl
@@ -56,3 +48,11 @@ words-refused s r room e = rw e refl
 pub words-leave : (s : List ℕ) (r : Refusal) (old : List ℕ) → wordsVerdict s ≡ Faulty r → old ≡ outputAfter s old
 unfolding outputAfter conversionVerdict
 words-leave s r old e = rw e refl
+
+pub judged-numbers : (s : List ℕ) (room : ℕ) → wordsVerdict s ≡ Sound → numbersJudged s room ≡ conversionNumbers s room
+unfolding conversionNumbers conversionVerdict numbersJudged
+judged-numbers s room e = rw e refl
+
+pub judged-output : (s old : List ℕ) → wordsVerdict s ≡ Sound → outputJudged s old ≡ outputAfter s old
+unfolding outputAfter conversionVerdict outputJudged
+judged-output s old e = rw e refl

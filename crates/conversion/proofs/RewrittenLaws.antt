@@ -18,7 +18,7 @@ use Rattle.judgement.proofs.FilledFacts.{filled-length, count-filled, pool-move
 use Rattle.judgement.proofs.Judgement.{in-section}
 use Rattle.judgement.proofs.NeededLaws.{pool-at-least, tranches-at-past-rows}
 use Rattle.judgement.proofs.SheetLimits.{facts-within, facts-counted, fact-there, risk-weight-most}
-use Rattle.conversion.specs.RewrittenSheet.{allFacts, otherUnit, otherWeight, isWeight, rewrittenWord, eachWord, inOtherUnit, rewritten}
+use Rattle.conversion.specs.RewrittenSheet.{allFacts, otherUnit, otherWeight, isWeightPlace, rewrittenWord, eachWord, inOtherUnit, rewritten}
 
 -- ---- every word by its place
 
@@ -40,7 +40,7 @@ other-unit-at t p l = each-at (rewrittenWord t) 0 t p l ∙ rw (let none : 0 + p
 
 -- ---- where a risk weight stands
 
-pub weight-place : (s : List ℕ) (i : ℕ) → i < rows s → isWeight s (weightAt s i) ≡ true
+pub weight-place : (s : List ℕ) (i : ℕ) → i < rows s → isWeightPlace s (weightAt s i) ≡ true
 weight-place s i row =
     let column : columnOf 4 (poolAt s) (weightAt s i) ≡ 2 = omega arith in
     simp (
@@ -55,7 +55,7 @@ pub record WeightOf (s : List ℕ) (p : ℕ) : Type 0 where
   pub among : row < rows s
   pub place : p ≡ weightAt s row
 
-pub weight-of : (s : List ℕ) (p : ℕ) → isWeight s p ≡ true → WeightOf s p
+pub weight-of : (s : List ℕ) (p : ℕ) → isWeightPlace s p ≡ true → WeightOf s p
 weight-of s p is =
     let both = both-true (ltb (poolAt s) p && ltb p (tranchesAt s)) (eqb (columnOf 4 (poolAt s) p) 2) is in
     let inside = both-true (ltb (poolAt s) p) (ltb p (tranchesAt s)) (both .0) in
@@ -70,15 +70,15 @@ unit-at-least-one : (hundredths : Bool) (w : ℕ) → weightUnit hundredths * w 
 unit-at-least-one true w most = omega arith
 unit-at-least-one false w most = omega arith
 
-pub weight-word-most : (s : List ℕ) (p : ℕ) → judged s (needed s) ≡ Sound → isWeight s p ≡ true → word s p ≤ 125000
+pub weight-word-most : (s : List ℕ) (p : ℕ) → judged s (needed s) ≡ Sound → isWeightPlace s p ≡ true → word s p ≤ 125000
 weight-word-most s p good is =
     let w = weight-of s p is in
     rw (w .place) (unit-at-least-one (inHundredths s) (weightWord s (w .row)) (risk-weight-most s (w .row) good (w .among)))
 
-pub not-weight : (s : List ℕ) (p : ℕ) → ((i : ℕ) → i < rows s → p ≡ weightAt s i → ⊥) → isWeight s p ≡ false
-not-weight s p other = by-test (isWeight s p) refl
+pub not-weight : (s : List ℕ) (p : ℕ) → ((i : ℕ) → i < rows s → p ≡ weightAt s i → ⊥) → isWeightPlace s p ≡ false
+not-weight s p other = by-test (isWeightPlace s p) refl
   where
-    by-test : (b : Bool) → isWeight s p ≡ b → isWeight s p ≡ false
+    by-test : (b : Bool) → isWeightPlace s p ≡ b → isWeightPlace s p ≡ false
     by-test true is = let w = weight-of s p is in absurd (other (w .row) (w .among) (w .place))
     by-test false is = is
 
@@ -117,7 +117,7 @@ module _ (s : List ℕ) (good : judged s (needed s) ≡ Sound) where
   rewritten-at p l = other-unit-at f p (omega (arith, filled-length factsMost s can-fill))
 
   -- no weight stands among the facts
-  before-pool : (p : ℕ) → p ≤ unitAt → isWeight f p ≡ false
+  before-pool : (p : ℕ) → p ≤ unitAt → isWeightPlace f p ≡ false
   before-pool p l = not-weight f p (λ i row e. omega (arith, pool-moved factsMost s can-fill, pool-at-eight))
 
   long-enough : 8 < length s + d
@@ -138,7 +138,7 @@ module _ (s : List ℕ) (good : judged s (needed s) ≡ Sound) where
   unit-rewritten = rewritten-at unitAt (omega (arith, long-enough)) ∙ simp (filled-same-unit factsMost s can-fill)
 
   -- a weight has moved with its section
-  weight-moved : (p : ℕ) → isWeight f (p + d) ≡ isWeight s p
+  weight-moved : (p : ℕ) → isWeightPlace f (p + d) ≡ isWeightPlace s p
   weight-moved p =
       rw (
         pool-moved factsMost s can-fill,
@@ -150,7 +150,7 @@ module _ (s : List ℕ) (good : judged s (needed s) ≡ Sound) where
 
   pub rest-rewritten :
       (p : ℕ) → poolAt s ≤ p → p < length s →
-      word (rewritten s) (p + d) ≡ cond (isWeight s p) (otherWeight (inHundredths s) (word s p)) (word s p)
+      word (rewritten s) (p + d) ≡ cond (isWeightPlace s p) (otherWeight (inHundredths s) (word s p)) (word s p)
   rest-rewritten p after before =
       rewritten-at (p + d) (omega arith) ∙
       simp (
@@ -169,7 +169,7 @@ module _ (s : List ℕ) (good : judged s (needed s) ≡ Sound) where
     from-within =
         (omega (arith, pool-at-eight), (omega (arith, pool-at-eight, rewritten-length, facts), omega (arith, facts)))
 
-    pub past-facts : word (rewritten s) p ≡ cond (isWeight s from) (otherWeight (inHundredths s) (word s from)) (word s from)
+    pub past-facts : word (rewritten s) p ≡ cond (isWeightPlace s from) (otherWeight (inHundredths s) (word s from)) (word s from)
     past-facts =
         let back : p ≡ from + d = omega (arith, from-within) in
         ap (word (rewritten s)) back ∙ rest-rewritten from (from-within .0) (from-within .1 .0)

@@ -46,10 +46,6 @@ numbersOf (Refused r) = refusedBy r
 unfoldable pub conversionNumbers : List ℕ → ℕ → Outcome ℕ
 conversionNumbers s room = outcome (length (rewritten s)) (conversionVerdict s room)
 
--- and where its words are good
-unfoldable pub numbersJudged : List ℕ → ℕ → Outcome ℕ
-numbersJudged s room = outcome (length (rewritten s)) (afterWords s room)
-
 -- ---- the output: the rewritten sheet, later words untouched; "a refusal writes nothing"
 
 abbrev pub outputFor : List ℕ → List ℕ → Verdict → List ℕ
@@ -59,6 +55,10 @@ outputFor s old (Faulty r) = old
 unfoldable pub outputAfter : List ℕ → List ℕ → List ℕ
 outputAfter s old = outputFor s old (conversionVerdict s (length old))
 
--- and where its words are good
+-- ---- for private contracts: the same of a sheet whose words are good
+
+unfoldable pub numbersJudged : List ℕ → ℕ → Outcome ℕ
+numbersJudged s room = outcome (length (rewritten s)) (afterWords s room)
+
 unfoldable pub outputJudged : List ℕ → List ℕ → List ℕ
 outputJudged s old = outputFor s old (afterWords s (length old))

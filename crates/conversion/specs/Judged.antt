@@ -47,7 +47,7 @@ pub data WhyNot (s : List ℕ) (room : ℕ) (r : Refusal) : Type 0 where
   by-weight : NotWholePercent s r → WhyNot s room r
   by-room : OutputShort s room r → WhyNot s room r
 
--- a sheet that is converted: every word good, none more, every weight in reach of the other unit, and room for all words
+-- a sheet that is converted: every word good, none more, every weight one that the other unit can write, and room for all words
 pub record Convertible (s : List ℕ) (room : ℕ) : Type 0 where
   pub words : WordsGood s
   pub all-whole : AllWhole s

@@ -22,12 +22,12 @@ abbrev pub otherWeight : Bool → ℕ → ℕ
 otherWeight hundredths w = cond hundredths (w / 100) (w * 100)
 
 -- whether the risk weight of a pool row stands at place p: in the pool, in the third column
-abbrev pub isWeight : List ℕ → ℕ → Bool
-isWeight s p = ltb (poolAt s) p && ltb p (tranchesAt s) && eqb (columnOf rowSize (poolAt s) p) 2
+abbrev pub isWeightPlace : List ℕ → ℕ → Bool
+isWeightPlace s p = ltb (poolAt s) p && ltb p (tranchesAt s) && eqb (columnOf rowSize (poolAt s) p) 2
 
 -- the word at place p of a sheet with all facts, rewritten: the unit and each risk weight, "from either unit to the other"; any other word stays
 abbrev pub rewrittenWord : List ℕ → ℕ → ℕ → ℕ
-rewrittenWord s p w = cond (eqb p unitAt) (otherUnit (inHundredths s)) (cond (isWeight s p) (otherWeight (inHundredths s) w) w)
+rewrittenWord s p w = cond (eqb p unitAt) (otherUnit (inHundredths s)) (cond (isWeightPlace s p) (otherWeight (inHundredths s) w) w)
 
 -- every word of a list rewritten by its place, where the first stands at place p
 unfoldable pub eachWord : (ℕ → ℕ → ℕ) → ℕ → List ℕ → List ℕ

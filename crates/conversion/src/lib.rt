@@ -5,7 +5,7 @@ ghost use Prim.Native.Nat.{_≤_, _<_};
 ghost use lib.ListN.{length, drop};
 ghost use Rattle.judgement.specs.DealSheet.{word, unitAt};
 ghost use Rattle.judgement.specs.LaidOut.{LaidOut};
-ghost use Rattle.conversion.specs.RewrittenSheet.{otherUnit, otherWeight, isWeight, rewritten};
+ghost use Rattle.conversion.specs.RewrittenSheet.{otherUnit, otherWeight, isWeightPlace, rewritten};
 ghost use Rattle.conversion.specs.Conversion.{weightsVerdict, numbersOf, conversionNumbers, outputAfter, numbersJudged, outputJudged};
 use judgement::Layout;
 use judgement::Refusal;
@@ -67,7 +67,7 @@ fn other_weight(hundredths: bool, w: u64) -> u64
 // Whether a risk weight stands at a place of the sheet.
 fn is_weight(s: &[u64], l: Layout, p: usize) -> bool
     requires { ⌜ LaidOut (now s) l ⌝ }
-    ensures { λ r. ⌜ r ≡ isWeight (now (s .entry)) p ⌝ }
+    ensures { λ r. ⌜ r ≡ isWeightPlace (now (s .entry)) p ⌝ }
 {
     let first = l.first_row;
     if p < first {

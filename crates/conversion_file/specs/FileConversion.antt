@@ -22,7 +22,7 @@ fileVerdict file room = cond (goodLength file) (conversionVerdict (fileWords fil
 unfoldable pub fileNumbers : List ℕ → ℕ → Outcome ℕ
 fileNumbers file room = outcome (length (rewritten (fileWords file))) (fileVerdict file room)
 
--- lent bytes after the rewritten sheet s is stored: its file, and the rest as it was; "a refusal writes nothing"
+-- lent bytes after the sheet s is converted: the file of the rewritten sheet, and the rest as it was; "a refusal writes nothing"
 abbrev pub bytesFor : List ℕ → List ℕ → Verdict → List ℕ
 bytesFor s old Sound = fileBytes (rewritten s) ++ drop (8 * length (rewritten s)) old
 bytesFor s old (Faulty r) = old

@@ -17,5 +17,5 @@ pub mod ReplyLaws
 pub mod FilledFacts
 pub mod SameAnswer
 pub mod InMonths
-pub mod OtherUnit
+pub mod EitherUnit
 pub mod SaPool

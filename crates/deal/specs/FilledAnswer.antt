@@ -10,11 +10,11 @@ use Rattle.deal.specs.Results.{Reply, replyTo, resultsAfter}
 abbrev pub movedReply : ℕ → List ℕ → Reply → Reply
 movedReply n s r = record { number = r .number; place = moved n s (r .place); count = r .count; charge = r .charge }
 
--- a sheet s′ of n facts has the answer of s, but for the place of a refusal, which has moved with the zeros, and leaves the same results
+-- a sheet s′ has the answer of s, but for the place of a refusal, which has moved as it does where the list of facts is filled to n, and leaves the same results
 pub record SameButMoved (n : ℕ) (s s′ : List ℕ) : Type 0 where
   pub same-reply : (room : ℕ) → replyTo s′ room ≡ movedReply n s (replyTo s room)
   pub same-results : (old : List ℕ) → resultsAfter s′ old ≡ resultsAfter s old
 
--- the sheet filled to n facts has
+-- so it is with the sheet filled to n facts
 abbrev pub SameWhenFilled : ℕ → List ℕ → Type 0
 SameWhenFilled n s = SameButMoved n s (filled n s)

@@ -11,5 +11,5 @@ pub mod OtherRatings
 pub mod FilledAnswer
 pub mod SameAnswer
 pub mod InMonths
-pub mod OtherUnit
+pub mod EitherUnit
 pub mod SaPool

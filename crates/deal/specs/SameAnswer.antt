@@ -1,4 +1,4 @@
--- What it is that two sheets get the same answer and lines: laws of sheets that say the same in other words cite it (InMonths.antt, SaPool.antt).
+-- What it is that two sheets get the same answer and lines: laws of sheets that say the same in other words cite it (InMonths.antt, EitherUnit.antt, SaPool.antt).
 use mathlib.Core.List.{List}
 use mathlib.Core.Path.{_≡_}
 use Prim.Native.Nat.{ℕ}

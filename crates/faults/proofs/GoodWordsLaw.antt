@@ -12,7 +12,7 @@ use Rattle.dates.specs.Calendar.{namesDay, Day}
 use Rattle.dates.specs.Maturity.{maturityMonths, maturityAllowed}
 use Rattle.dates.proofs.CalendarLaws.{day-named, named-day}
 use Rattle.dates.proofs.MaturityLaws.{later-day, day-later}
-use Rattle.faults.specs.WordFaults.{yesOrNo, codeFault, factFault, highestWeight, riskWeightInLimits, statusAllowed, rowFault, classInOrder, heldInLimits, trancheFault, shareAllowed, irbFault}
+use Rattle.faults.specs.WordFaults.{yesOrNo, codeFault, factFault, highestWeightWord, riskWeightInLimits, statusAllowed, rowFault, classInOrder, heldInLimits, trancheFault, shareAllowed, irbFault}
 use Rattle.faults.specs.GoodWords.{GoodFact, GoodRow, GoodTranche, NextClass, GoodClass, GoodIrb}
 use Rattle.faults.proofs.FaultLaws.{unless-zero, no-fault-within}
 
@@ -105,7 +105,7 @@ module _ (resecuritised hundredths : Bool) (e n w t : ℕ) where
   good-row first second third fourth =
       let exposures = no-fault-within 5 1 10000000000 e (omega arith) first in
       let nominals = no-fault-within 5 1 10000000000 n (omega arith) second in
-      let most : w ≤ highestWeight hundredths = leb-true w _ (unless-zero 6 (riskWeightInLimits hundredths w) (omega arith) third) in
+      let most : w ≤ highestWeightWord hundredths = leb-true w _ (unless-zero 6 (riskWeightInLimits hundredths w) (omega arith) third) in
       let allowed = unless-zero 7 (statusAllowed resecuritised t) (omega arith) fourth in
       record {
         exposure-least = exposures .0;
@@ -124,7 +124,7 @@ status-good :
 status-good true w ordinary tranches = eq-eqb w 3 (tranches refl)
 status-good false w ordinary tranches = le-leb w 2 (ordinary refl)
 
-weight-in-limits : (hundredths : Bool) (w : ℕ) → (hundredths ≡ false → w ≤ 1250) → (hundredths ≡ true → w ≤ 125000) → w ≤ highestWeight hundredths
+weight-in-limits : (hundredths : Bool) (w : ℕ) → (hundredths ≡ false → w ≤ 1250) → (hundredths ≡ true → w ≤ 125000) → w ≤ highestWeightWord hundredths
 weight-in-limits true w percent fine = fine refl
 weight-in-limits false w percent fine = percent refl
 
@@ -136,7 +136,7 @@ module _ (resecuritised hundredths : Bool) (e n w t : ℕ) (g : GoodRow resecuri
   nominal-good = simp (within-is 1 10000000000 n (g .nominal-least) (g .nominal-most))
 
   pub weight-good : rowFault resecuritised hundredths 2 w ≡ 0
-  weight-good = simp (le-leb w (highestWeight hundredths) (weight-in-limits hundredths w (g .weight-percent) (g .weight-hundredths)))
+  weight-good = simp (le-leb w (highestWeightWord hundredths) (weight-in-limits hundredths w (g .weight-percent) (g .weight-hundredths)))
 
   pub row-status-good : rowFault resecuritised hundredths 3 t ≡ 0
   row-status-good = simp (status-good resecuritised t (g .status-ordinary) (g .status-resecuritised))

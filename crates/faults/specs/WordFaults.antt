@@ -53,11 +53,11 @@ abbrev pub poolAmountInLimits : ℕ → Bool
 poolAmountInLimits w = within 1 10000000000 w
 
 -- "risk weight in whole percent, 0 to 1250"; 02, S-9: "0 whole percent, 1 hundredths up to 125,000": the highest word in the sheet's unit
-abbrev pub highestWeight : Bool → ℕ
-highestWeight hundredths = cond hundredths 125000 1250
+abbrev pub highestWeightWord : Bool → ℕ
+highestWeightWord hundredths = cond hundredths 125000 1250
 
 abbrev pub riskWeightInLimits : Bool → ℕ → Bool
-riskWeightInLimits hundredths w = leb w (highestWeight hundredths)
+riskWeightInLimits hundredths w = leb w (highestWeightWord hundredths)
 
 -- "a status above 3; a 3 in an ordinary deal; any other in a re-securitisation", turned round
 abbrev pub statusAllowed : Bool → ℕ → Bool

@@ -1,6 +1,6 @@
 // The fault of one word of a sheet, by its value and its column: the refusal's number in 01 or 02, or 0. Functions of numbers alone, open to all inputs.
 ghost use mathlib.Core.Path.{_≡_};
-ghost use Rattle.faults.specs.WordFaults.{unless, countFault, codeFault, poolKindFault, stcFault, reportingDateFault, factFault, highestWeight, statusAllowed, rowFault, rowIsGood, classInOrder, maturityFault, trancheFault, shareAllowed, irbInLimits, irbFault};
+ghost use Rattle.faults.specs.WordFaults.{unless, countFault, codeFault, poolKindFault, stcFault, reportingDateFault, factFault, highestWeightWord, statusAllowed, rowFault, rowIsGood, classInOrder, maturityFault, trancheFault, shareAllowed, irbInLimits, irbFault};
 use dates::maturity_allowed;
 use dates::maturity_months;
 use dates::names_day;
@@ -105,7 +105,7 @@ fn status_allowed(resecuritised: bool, w: u64) -> bool
 
 // The highest risk weight, as a word in the sheet's unit.
 fn highest_weight(hundredths: bool) -> u64
-    ensures { λ r. ⌜ r ≡ highestWeight hundredths ⌝ }
+    ensures { λ r. ⌜ r ≡ highestWeightWord hundredths ⌝ }
 {
     if hundredths {
         HIGHEST_HUNDREDTHS

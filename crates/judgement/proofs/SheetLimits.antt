@@ -143,6 +143,13 @@ good-row s i e row =
     (good-in-row s i 2 e row (omega arith))
     (good-in-row s i 3 e row (omega arith))
 
+-- 02, S-9: what a risk weight is in hundredths of a percent, by the unit of its word
+pub weight-in-percent : (s : List ℕ) (i : ℕ) → inHundredths s ≡ false → riskWeight s i ≡ 100 * weightWord s i
+weight-in-percent s i percent = rw percent (omega arith)
+
+pub weight-in-hundredths : (s : List ℕ) (i : ℕ) → inHundredths s ≡ true → riskWeight s i ≡ weightWord s i
+weight-in-hundredths s i fine = rw fine (omega arith)
+
 -- no risk weight is above 1250%, whatever the unit of its word
 weight-at-most :
     (hundredths : Bool) (w : ℕ) → (hundredths ≡ false → w ≤ 1250) → (hundredths ≡ true → w ≤ 125000) → weightUnit hundredths * w ≤ 125000

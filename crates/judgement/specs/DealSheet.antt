@@ -45,7 +45,7 @@ stc s = eqb (fact s 5) 1
 abbrev pub reportingDate : List ℕ → ℕ
 reportingDate s = fact s 6
 
--- 02, S-9: "A seventh fact is the unit of the risk weight word: 0 whole percent, 1 hundredths"; 0 where the list is shorter. It is at place 7
+-- 02, S-9: "A seventh fact is the unit of the risk weight word: 0 whole percent, 1 hundredths"; 0 where the list is shorter. Fact n stands at place n, so this is its number and its place
 abbrev pub unitAt : ℕ
 unitAt = 7
 
@@ -72,7 +72,7 @@ exposure s i = word s (rowAt s i)
 abbrev pub nominal : List ℕ → ℕ → ℕ
 nominal s i = word s (rowAt s i + 1)
 
--- the word of the risk weight, in the sheet's unit, and its place
+-- the place of the risk weight, and its word, in the sheet's unit
 abbrev pub weightAt : List ℕ → ℕ → ℕ
 weightAt s i = rowAt s i + 2
 

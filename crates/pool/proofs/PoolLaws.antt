@@ -1,20 +1,22 @@
--- Limits of a pool's sums. The sums of a sheet with good words are within the limits that its charge asks for, its nominal is 1 to 10^13, and what is divided by is
+-- Limits of a pool's sums, and what they are in percent. The sums of a sheet with good words are within the limits that its charge asks for, its nominal is 1 to 10^13, and what is divided by is
 -- never 0. No axioms.
 use mathlib.Core.Bool.{Bool, true, false, not}
 use mathlib.Core.List.{List}
 use mathlib.Core.Path.{_≡_, refl, ap}
-use Prim.Native.Nat.{ℕ, _*_, _-_, _≤_, _<_}
+use Prim.Native.Nat.{ℕ, zero, suc, _*_, _-_, _≤_, _<_}
 use native.Mathlib.Nat.{le-refl, mul-le-mul-left}
 use native.Mathlib.Omega.{arith}
 use borrow.Author.Tests.{leb-true, eqb-true, ne-eqb}
-use Rattle.numbers.specs.Sum.{whereCounted}
+use Rattle.numbers.specs.Sum.{sum, whereCounted}
 use Rattle.numbers.proofs.SumLaws.{sum-at-most, sum-from-at-most, sum-at-least, sum-ordered, sum-scaled}
-use Rattle.charge.specs.PoolCharge.{unknownExposure, mostlyKnown}
+use Rattle.charge.specs.PoolCharge.{baseCharge, unknownExposure, mostlyKnown, poolAverage}
+use Rattle.charge.proofs.PoolLaws.{same-base-charge, same-average}
+use Rattle.numbers.specs.Rounding.{roundedUp}
 use Rattle.charge.specs.SumLimits.{SumLimits}
-use Rattle.judgement.specs.DealSheet.{rows, exposure, nominal, status, needed}
+use Rattle.judgement.specs.DealSheet.{inHundredths, rows, exposure, nominal, weightWord, status, needed}
 use Rattle.judgement.specs.Refusals.{judged}
 use Rattle.judgement.specs.declared.Verdict.the-variants.{Sound}
-use Rattle.judgement.proofs.SheetLimits.{good-row, risk-weight-most, rows-within, pool-counted}
+use Rattle.judgement.proofs.SheetLimits.{good-row, weight-in-percent, risk-weight-most, rows-within, pool-counted}
 use Rattle.pool.specs.PoolSums.{known, delinquent, weightedExposure, poolSums}
 use Rattle.pool.specs.RowTotals.{amountMost, weightedMost, totalsFrom, unknown, markedFrom, TotalsOfRows, MarkedOfRows}
 
@@ -130,3 +132,31 @@ known-positive s accepted most =
             (omega (arith, good-row s i accepted l))),
       ),
     )
+
+-- ---- 02, S-9: "charge and cap come out as before.": in a sheet in percent the weighted sums are 100 times those of 01's exposure × risk weight, over whichever rows, and so base charge and average are those of 01's own figures
+
+module _ (s : List ℕ) (percent : inHundredths s ≡ false) where
+  -- 01's exposure × risk weight of a row, the risk weight in percent
+  abbrev inPercent : ℕ → ℕ
+  inPercent i = exposure s i * weightWord s i
+
+  counted-in-percent : (counts : Bool) (i : ℕ) → whereCounted counts (weightedExposure s i) ≡ 100 * whereCounted counts (inPercent i)
+  counted-in-percent true i = rw (weight-in-percent s i percent) (omega arith)
+  counted-in-percent false i = omega arith
+
+  -- `row` names the rows that are summed: of the pool each in turn, of a block those from its first on
+  pub weighted-in-percent :
+      (counts : ℕ → Bool) (row : ℕ → ℕ) (n : ℕ) →
+      sum (λ j. whereCounted (counts (row j)) (weightedExposure s (row j))) n ≡ 100 * sum (λ j. whereCounted (counts (row j)) (inPercent (row j))) n
+  unfolding sum
+  weighted-in-percent counts row zero = refl
+  weighted-in-percent counts row (suc n) = omega (arith, weighted-in-percent counts row n, counted-in-percent (counts (row n)) (row n))
+
+  pub base-charge-as-before :
+      baseCharge (poolSums s .known) ≡ roundedUp (800 * sum (λ i. whereCounted (known s i) (inPercent i)) (rows s)) (poolSums s .known .exposure)
+  unfolding poolSums
+  base-charge-as-before = same-base-charge (poolSums s .known) _ (weighted-in-percent (λ i. known s i) (λ i. i) (rows s))
+
+  pub average-as-before : poolAverage (poolSums s) ≡ roundedUp (100 * sum inPercent (rows s)) (poolSums s .all .exposure)
+  unfolding poolSums
+  average-as-before = same-average (poolSums s) _ (weighted-in-percent (λ i. true) (λ i. i) (rows s))

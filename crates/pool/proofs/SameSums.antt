@@ -2,16 +2,18 @@
 use mathlib.Core.Bool.{not}
 use mathlib.Core.List.{List}
 use mathlib.Core.Path.{_≡_, refl, ap, _∙_}
-use Prim.Native.Nat.{ℕ, _+_, _*_, _<_}
+use Prim.Native.Nat.{ℕ, _+_, _*_, _-_, _<_}
 use native.Mathlib.Nat.{add-zero}
 use native.Mathlib.Omega.{arith}
 use lib.Dec.{eqb}
-use Rattle.numbers.specs.Sum.{sum, whereCounted}
+use Rattle.limits.specs.SheetSize.{blockSize}
+use Rattle.numbers.specs.Sum.{sum, blockStart, blockEnd, blockSum, whereCounted}
 use Rattle.numbers.specs.Permutation.{Permutation}
 use Rattle.numbers.proofs.SumLaws.{sum-same}
 use Rattle.numbers.proofs.SumPermuted.{sum-permuted}
 use Rattle.judgement.specs.DealSheet.{word, inHundredths, rows, rowAt, exposure, nominal, riskWeight, status}
 use Rattle.pool.specs.PoolSums.{poolSums}
+use Rattle.pool.specs.BlockSums.{blockSums}
 
 module _ (s s′ : List ℕ) (π σ : ℕ → ℕ) (count : rows s′ ≡ rows s) (order : Permutation (rows s) π σ)
     (at-row : (i c : ℕ) → i < rows s → (c ≡ 2 → ⊥) → c < 4 → word s′ (rowAt s′ i + c) ≡ word s (rowAt s (π i) + c))
@@ -55,6 +57,45 @@ pub reweighed-sums :
 reweighed-sums s s′ count =
     same-sums s s′ (λ i. i) (λ i. i) count
     (record { forth = λ i l. l; back = λ i l. l; back-forth = λ i l. refl; forth-back = λ i l. refl })
+
+-- and so do their blocks
+module _ (s s′ : List ℕ) (count : rows s′ ≡ rows s)
+    (at-row : (i c : ℕ) → i < rows s → (c ≡ 2 → ⊥) → c < 4 → word s′ (rowAt s′ i + c) ≡ word s (rowAt s i + c))
+    (weighed : (i : ℕ) → i < rows s → riskWeight s′ i ≡ riskWeight s i) (b : ℕ) where
+  -- the sum over a block of any number f that a row's three other words and its risk weight decide
+  block-alike :
+      (f : ℕ → ℕ → ℕ → ℕ → ℕ) →
+      blockSum (λ i. f (exposure s′ i) (nominal s′ i) (riskWeight s′ i) (status s′ i)) blockSize (rows s) b ≡
+      blockSum (λ i. f (exposure s i) (nominal s i) (riskWeight s i) (status s i)) blockSize (rows s) b
+  block-alike f =
+      let first = blockStart blockSize b in
+      sum-same
+      (λ j. f (exposure s′ (first + j)) (nominal s′ (first + j)) (riskWeight s′ (first + j)) (status s′ (first + j)))
+      (λ j. f (exposure s (first + j)) (nominal s (first + j)) (riskWeight s (first + j)) (status s (first + j)))
+      (blockEnd blockSize (rows s) b - first)
+      (λ j l.
+      let row : first + j < rows s = omega arith in
+      let e : word s′ (rowAt s′ (first + j)) ≡ word s (rowAt s (first + j)) = simp add-zero at (at-row (first + j) 0 row (λ e. omega arith) (omega arith)) in
+      rw (
+        e,
+        at-row (first + j) 1 row (λ e. omega arith) (omega arith),
+        weighed (first + j) row,
+        at-row (first + j) 3 row (λ e. omega arith) (omega arith),
+      ))
+
+  pub reweighed-blocks : blockSums s′ b ≡ blockSums s b
+  unfolding blockSums
+  reweighed-blocks =
+      rw (
+        count,
+        block-alike (λ e n w t. e),
+        block-alike (λ e n w t. n),
+        block-alike (λ e n w t. e * w),
+        block-alike (λ e n w t. whereCounted (not (eqb t 2)) e),
+        block-alike (λ e n w t. whereCounted (not (eqb t 2)) n),
+        block-alike (λ e n w t. whereCounted (not (eqb t 2)) (e * w)),
+        block-alike (λ e n w t. whereCounted (eqb t 1) n),
+      )
 
 -- rows of the same four words have the same risk weights, where the unit is the same
 pub same-weight :

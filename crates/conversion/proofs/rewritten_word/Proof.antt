@@ -8,7 +8,7 @@ use Rattle.limits.specs.SheetSize.{factsMost, placeLimit}
 use Rattle.judgement.specs.DealSheet.{word, unitAt}
 use Rattle.judgement.proofs.LayoutLaws.{hundredths-is}
 use Rattle.judgement.proofs.SheetLimits.{facts-within, facts-counted, fact-there}
-use Rattle.conversion.specs.RewrittenSheet.{isWeight}
+use Rattle.conversion.specs.RewrittenSheet.{isWeightPlace}
 use Rattle.conversion.proofs.RewrittenLaws.{first-rewritten, from-within, past-facts, weight-word-most}
 use Rattle.conversion.proofs.rewritten_word.Statement.{statement}
 use Rattle.conversion.proofs.rewritten_word.Tie as tie

@@ -6,7 +6,7 @@ use lib.Dec.{eqb}
 use borrow.Author.Tests.{not-true, not-false, lt-leb, le-leb}
 use borrow.Author.Needs.{needs}
 use Rattle.numbers.specs.Limits.{within}
-use Rattle.faults.specs.WordFaults.{unless, highestWeight}
+use Rattle.faults.specs.WordFaults.{unless, highestWeightWord}
 use Rattle.faults.proofs.row_is_good.Statement.{statement}
 use Rattle.faults.proofs.row_is_good.Tie as tie
 
@@ -43,7 +43,7 @@ returns-3 c =
     simp (
       first-good (c .before .before .before .before),
       second-good (c .before .before),
-      lt-leb (start .args .weight) (highestWeight (start .args .hundredths)) (omega (arith, c .before .highest-weight .ensures)),
+      lt-leb (start .args .weight) (highestWeightWord (start .args .hundredths)) (omega (arith, c .before .highest-weight .ensures)),
     )
 
 status-allowed-requires : tie.Need-status-allowed-requires
@@ -58,7 +58,7 @@ returns-4 c =
       status-good,
       first-good (third .before .before .before .before),
       second-good (third .before .before),
-      le-leb (start .args .weight) (highestWeight (start .args .hundredths)) (omega (arith, third .before .highest-weight .ensures)),
+      le-leb (start .args .weight) (highestWeightWord (start .args .hundredths)) (omega (arith, third .before .highest-weight .ensures)),
     )
 
 pub row-is-good-spec : {M : Type 1} → statement M

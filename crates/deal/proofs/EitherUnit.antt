@@ -1,4 +1,4 @@
--- A sheet of seven facts, where its words are good, gets the answer and the lines of the same sheet in the other unit of risk weights: nothing of a deal depends on the unit. No axioms.
+-- A sheet of seven facts, where its words are good, gets the answer and the lines of the same sheet in either unit of risk weights: nothing of a deal depends on the unit. No axioms.
 use mathlib.Core.Bool.{Bool, true, false}
 use mathlib.Core.List.{List}
 use mathlib.Core.Path.{_≡_, refl, ap}
@@ -19,11 +19,12 @@ use Rattle.judgement.proofs.SheetLimits.{risk-weight-most}
 use Rattle.judgement.proofs.AlikeSheets.{same-irb-column, same-irb-count, same-irb-row, good-alike}
 use Rattle.judgement.proofs.SameLayout.{SameCounts, same-counts, same-needed, SameFacts, same-facts, same-reporting-date, same-irb-figures}
 use Rattle.pool.specs.PoolSums.{poolSums}
-use Rattle.pool.proofs.SameSums.{reweighed-sums}
+use Rattle.pool.specs.BlockSums.{blockSums}
+use Rattle.pool.proofs.SameSums.{reweighed-sums, reweighed-blocks}
 use Rattle.deal.specs.InferredRatings.{infersRatings}
 use Rattle.deal.specs.Lines.{terms, tranche}
 use Rattle.weights.specs.declared.Terms.{Terms}
-use Rattle.deal.specs.OtherUnit.{OtherUnit}
+use Rattle.deal.specs.EitherUnit.{EitherUnit}
 use Rattle.deal.specs.SameAnswer.{SameAnswer}
 use Rattle.deal.proofs.SameAnswer.{same-answer}
 use Rattle.deal.proofs.SameTerms.{same-terms, same-months, alike-tranche}
@@ -32,7 +33,7 @@ use Rattle.deal.proofs.SameTerms.{same-terms, same-months, alike-tranch
 within-unit : (hundredths : Bool) (w : ℕ) → weightUnit hundredths * w ≤ 125000 → (hundredths ≡ false → w ≤ 1250) × (hundredths ≡ true → w ≤ 125000)
 within-unit hundredths w most = (λ percent. omega (arith, rw percent at most), λ fine. omega (arith, rw fine at most))
 
-module _ (s s′ : List ℕ) (r : OtherUnit s s′) (words : wordsVerdict s ≡ Sound) where
+module _ (s s′ : List ℕ) (r : EitherUnit s s′) (words : wordsVerdict s ≡ Sound) where
   good : GoodSheet s
   good = good-sheet s (words-accepted s words)
 
@@ -79,7 +80,7 @@ module _ (s s′ : List ℕ) (r : OtherUnit s s′) (words : wordsVerdict s ≡ 
   section : (p : ℕ) → irbAt s ≤ p → word s′ p ≡ word s p
   section p after = same-after p (omega (arith, irb-at-past-tranches s))
 
-  -- ---- the words of the sheet in the other unit are good
+  -- ---- the words of the sheet in either unit are good
 
   fact-in-unit : (p : ℕ) → 1 ≤ p → p < poolAt s → GoodFact (resecuritisation s′) p (word s′ p)
   fact-in-unit p least before = by-place (eqb p unitAt) refl
@@ -139,18 +140,22 @@ module _ (s s′ : List ℕ) (r : OtherUnit s s′) (words : wordsVerdict s ≡ 
 
   -- ---- the terms, the tranches and the answer
 
-  sums : poolSums s′ ≡ poolSums s
-  sums = reweighed-sums s s′ (counts .row-count) same-row-word (r .same-weight)
+  pub same-sums-in-unit : poolSums s′ ≡ poolSums s
+  same-sums-in-unit = reweighed-sums s s′ (counts .row-count) same-row-word (r .same-weight)
 
-  shared : terms s′ ≡ terms s
-  shared =
+  pub same-blocks-in-unit : (b : ℕ) → blockSums s′ b ≡ blockSums s b
+  same-blocks-in-unit = reweighed-blocks s s′ (counts .row-count) same-row-word (r .same-weight)
+
+  -- "charge and cap": both are among them
+  pub same-terms-in-unit : terms s′ ≡ terms s
+  same-terms-in-unit =
       same-terms s s′ kind facts
       (same-irb-figures s s′ kind (λ c column. same-irb-column s s′ good first counts kind section c))
-      sums
+      same-sums-in-unit
 
   own : (i : ℕ) → i < trancheCount s → tranche s′ i ≡ tranche s i
   own =
-      alike-tranche s s′ (counts .tranche-count) sums (ap infersRatings shared)
+      alike-tranche s s′ (counts .tranche-count) same-sums-in-unit (ap infersRatings same-terms-in-unit)
       (λ j c row other column. same-column j c)
       (λ j row. same-months s s′ j date (same-column j 2))
 
@@ -162,7 +167,7 @@ module _ (s s′ : List ℕ) (r : OtherUnit s s′) (words : wordsVerdict s ≡ 
         words′ = accepted-words s′ (good-sheet-words s′ good-in-unit);
         place = counts .tranches-at;
         count = counts .tranche-count;
-        charge = ap (λ (d : Terms). d .charge) shared;
-        thin-alike = λ i l. rw (own i l, shared);
-        line-alike = λ i l. rw (own i l, shared);
+        charge = ap (λ (d : Terms). d .charge) same-terms-in-unit;
+        thin-alike = λ i l. rw (own i l, same-terms-in-unit);
+        line-alike = λ i l. rw (own i l, same-terms-in-unit);
       })
