@@ -137,7 +137,7 @@ enum {
     TRANCHE_WEIGHTS_BY_SEC_IRBA = 3  /* the formula, by the IRB section */
 };
 
-/* The numbers that a call returns; 12 is no longer given. The README says of each refusal what to do. */
+/* The numbers that a call returns, with the place where it is not that of the faulty word; 12 is no longer given. The README says of each refusal what to do. */
 enum {
     TRANCHE_WEIGHTS_ACCEPTED = 0,
     TRANCHE_WEIGHTS_REFUSED_MISSING_WORD = 1,      /* the sheet ends too early; the place is its length */
