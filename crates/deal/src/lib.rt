@@ -3,9 +3,9 @@ ghost use lib.ListN.{length};
 ghost use mathlib.Core.Bool.{cond};
 ghost use Rattle.charge.specs.Figures.{poolFigures, mixedFigures};
 ghost use Rattle.charge.specs.SumLimits.{SumLimits, IrbLimits};
-ghost use Rattle.pool.specs.SummedPool.{OpenPool};
+ghost use Rattle.pool.specs.SummedPool.{OpenPool, OpenedPool};
 ghost use Rattle.deal.specs.DemandThree.{KeepsDemandThree, KeepsSeventhWord};
-ghost use Rattle.deal.specs.Lines.{termsFor};
+ghost use Rattle.deal.specs.Lines.{termsFor, terms};
 ghost use Rattle.deal.specs.Results.{replyOf, replyTo, resultsAfter};
 
 mod inferred;
@@ -120,4 +120,26 @@ pub fn weigh(sheet: &[u64], results: &mut [u64]) -> Answer
         Pool::Summed(layout, sums) => weigh_pool(sheet, layout, sums, results),
         Pool::Refused(r) => Answer::Refused(r),
     }
+}
+
+// Weighs every tranche of an opened pool, of which neither words nor sums are worked out anew: what `weigh` gives for its sheet.
+pub fn weigh_opened(sheet: &[u64], sums: Sums, results: &mut [u64]) -> Answer
+    requires { ⌜ OpenedPool (now sheet) sums ⌝ }
+    ensures { λ r. ⌜ replyOf r ≡ replyTo (now (sheet .entry)) (length (now (results .entry))) ⌝ }
+    ensures { λ r. ⌜ now (results .exit) ≡ resultsAfter (now (sheet .entry)) (now (results .entry)) ⌝ }
+    ensures { λ r. ⌜ KeepsDemandThree (now (sheet .entry)) (length (now (results .entry))) (now (results .exit)) ⌝ }
+    ensures { λ r. ⌜ KeepsSeventhWord (now (sheet .entry)) (length (now (results .entry))) (now (results .exit)) ⌝ }
+{
+    let l = judgement::read_layout(sheet);
+    weigh_pool(sheet, l, sums, results)
+}
+
+// The charge of an opened pool, in millionths, SEC-IRBA included: that of the answer to its sheet.
+pub fn opened_charge(sheet: &[u64], sums: Sums) -> u64
+    requires { ⌜ OpenedPool (now sheet) sums ⌝ }
+    ensures { λ r. ⌜ r ≡ terms (now (sheet .entry)) .charge ⌝ }
+{
+    let l = judgement::read_layout(sheet);
+    let t = terms_of(l, sums);
+    t.charge
 }

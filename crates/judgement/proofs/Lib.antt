@@ -4,6 +4,7 @@ pub mod NeededLaws
 pub mod Judgement
 pub mod SheetLimits
 pub mod LayoutLaws
+pub mod ReadLayout
 pub mod SameLayout
 pub mod JudgeSteps
 pub mod JudgedLaws

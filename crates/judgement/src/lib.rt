@@ -3,7 +3,7 @@ ghost use mathlib.Core.Path.{_≡_};
 ghost use Prim.Native.Nat.{_+_, _-_, _<_};
 ghost use lib.ListN.{length};
 ghost use mathlib.Core.Bool.{true};
-ghost use Rattle.judgement.specs.DealSheet.{poolAt, rows, rowAt, tranchesAt, trancheCount, trancheAt, class, hasIrb, irbAt, needed};
+ghost use Rattle.judgement.specs.DealSheet.{poolAt, rows, rowAt, tranchesAt, trancheCount, trancheAt, class, hasIrb, irbAt, needed, layoutRead};
 ghost use Rattle.judgement.specs.Refusals.{judgeWith, judged, numbersOf, wordsNumbers};
 ghost use Rattle.judgement.specs.Judged.{NumbersMean};
 ghost use Rattle.judgement.specs.declared.Verdict.the-variants.{Sound};
@@ -14,7 +14,6 @@ use crate::sheet::end_of;
 use crate::sheet::fact_at;
 use crate::sheet::in_hundredths;
 use crate::sheet::irb_at;
-use crate::sheet::layout_of;
 use crate::sheet::pool_at;
 use crate::sheet::row_at;
 use crate::sheet::row_count;
@@ -75,7 +74,7 @@ pub enum Words {
 }
 
 // The verdict on the word at p, whose fault by its value is given: a missing word is refused at the sheet's length.
-fn judge_word(s: &[u64], p: u64, number: u64) -> Verdict
+pub fn judge_word(s: &[u64], p: u64, number: u64) -> Verdict
     ensures { λ r. ⌜ r ≡ judgeWith (length (now (s .entry))) p number ⌝ }
 {
     let size = s.len() as u64;
@@ -318,7 +317,7 @@ pub fn judge_words(s: &[u64]) -> Words
     if let Verdict::Faulty(r) = words {
         return Words::Bad(r);
     }
-    let layout = layout_of(s);
+    let layout = sheet::read_layout(s);
     let end = end_of(s);
     if end < s.len() as u64 {
         return Words::Bad(Refusal {
@@ -327,4 +326,11 @@ pub fn judge_words(s: &[u64]) -> Words
         });
     }
     Words::Good(layout)
+}
+
+// What is read of a sheet whose words are not judged, as that of an opened pool, whose words are good: nothing where a count is above its limit.
+pub fn read_layout(s: &[u64]) -> Layout
+    ensures { λ r. ⌜ r ≡ layoutRead (now (s .entry)) ⌝ }
+{
+    sheet::read_layout(s)
 }

@@ -2,6 +2,7 @@
 -- nominal): per block of 50 rows, then over the blocks."
 use mathlib.Core.List.{List, [], _∷_}
 use Prim.Native.Nat.{ℕ}
+use lib.ListN.{getD}
 use Rattle.limits.specs.SheetSize.{blockSize}
 use Rattle.numbers.specs.Rounding.{roundedUp}
 use Rattle.numbers.specs.Sum.{sum, blockSum}
@@ -47,3 +48,11 @@ sumWords q =
     q .all .exposure ∷ q .all .nominal ∷ q .all .weighted ∷
     q .known .exposure ∷ q .known .nominal ∷ q .known .weighted ∷
     q .late ∷ []
+
+-- the sums that seven words say, in the same order
+abbrev pub sumsOf : List ℕ → Sums
+sumsOf w = record {
+  all = record { exposure = getD w 0 0; nominal = getD w 1 0; weighted = getD w 2 0 };
+  known = record { exposure = getD w 3 0; nominal = getD w 4 0; weighted = getD w 5 0 };
+  late = getD w 6 0;
+}

@@ -19,6 +19,10 @@ pub record OpenPool (s : List ℕ) (l : Layout) (q : Sums) : Type 0 where
   pub is-layout : l ≡ layout s
   pub are-sums : q ≡ poolSums s
 
+-- 02, S-10: "a pool whose sheet would open and whose sums are those of its rows"
+abbrev pub OpenedPool : List ℕ → Sums → Type 0
+OpenedPool s q = OpenPool s (layout s) q
+
 -- ---- the answer, in 01's numbers
 
 -- the numbers of each case of the enum

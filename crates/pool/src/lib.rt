@@ -6,7 +6,7 @@ ghost use Rattle.limits.specs.SheetSize.{rowsMost, rowSize, blockSize, blocksMo
 ghost use Rattle.judgement.specs.DealSheet.{word, rows, rowAt, weightUnit, riskWeight};
 ghost use Rattle.judgement.specs.LaidOut.{LaidOut};
 ghost use Rattle.pool.specs.PoolSums.{poolSums};
-ghost use Rattle.pool.specs.BlockSums.{blockSums, sumWords};
+ghost use Rattle.pool.specs.BlockSums.{blockSums, sumWords, sumsOf};
 ghost use Rattle.pool.specs.SummedPool.{numbersOf, poolNumbers};
 ghost use Rattle.pool.specs.SummedBlock.{numbersOf as blockNumbersOf, blockNumbers, sumsRead};
 ghost use Rattle.pool.specs.RowTotals.{totalsFrom, sumsFrom, markedFrom, withRow, withMarked, totalsAdded, withBlock, TotalsOfRows, MarkedOfRows, SumsOfRows, Subtotals};
@@ -302,4 +302,25 @@ pub fn sum_words(q: Sums) -> [u64; SUM_WORDS]
         q.known.weighted,
         q.late,
     ]
+}
+
+// The sums that seven words say, in the same order.
+pub fn sums_of(words: &[u64; SUM_WORDS]) -> Sums
+    ensures { λ r. ⌜ r ≡ sumsOf (now (words .entry)) ⌝ }
+{
+    let all = Totals {
+        exposure: words[0],
+        nominal: words[1],
+        weighted: words[2],
+    };
+    let known = Totals {
+        exposure: words[3],
+        nominal: words[4],
+        weighted: words[5],
+    };
+    Sums {
+        all,
+        known,
+        late: words[6],
+    }
 }

@@ -1,2 +1,3 @@
 pub mod WrittenLength
 pub mod BlockReplyLaw
+pub mod OpenedReplyLaw

@@ -1,3 +1,4 @@
 pub mod FourNumbers
 pub mod BlockReply
 pub mod ConversionReply
+pub mod OpenedReply

@@ -12,6 +12,9 @@ ghost use Rattle.tranche_weights.specs.BlockReply.{blockReply, replyFor,
 ghost use Rattle.conversion.specs.Conversion.{numbersOf as numbersOfConversion, outputAfter};
 ghost use Rattle.tranche_weights.specs.ConversionReply.{conversionReply, replyFor as replyForConversion, conversionReplyTo};
 ghost use Rattle.tranche_weights.specs.FourNumbers.{fourNumbers};
+
+mod opened;
+
 use conversion::Converted;
 use deal::Answer;
 use pool::Block;
@@ -19,7 +22,7 @@ use pool::SUM_WORDS;
 use report::Written;
 
 // An answer as a program in C gets it: the refusal's number, 0 where there is none; place, count and charge are written through the lent numbers.
-fn put_answer(answer: Answer, place: &mut u64, count: &mut u64, charge: &mut u64) -> u64
+pub(crate) fn put_answer(answer: Answer, place: &mut u64, count: &mut u64, charge: &mut u64) -> u64
     ensures { λ r. ⌜ fourNumbers r (now (place .exit)) (now (count .exit)) (now (charge .exit)) ≡ replyOf answer ⌝ }
 {
     match answer {
@@ -43,7 +46,7 @@ fn put_answer(answer: Answer, place: &mut u64, count: &mut u64, charge: &mut u64
 
 // Weighs every tranche of a deal sheet, as deal::weigh does.
 #[no_mangle]
-pub extern "C" fn tranche_weights_weigh_v9(
+pub extern "C" fn tranche_weights_weigh_v10(
     sheet: &[u64],
     results: &mut [u64],
     place: &mut u64,
@@ -61,7 +64,7 @@ pub extern "C" fn tranche_weights_weigh_v9(
 
 // Weighs every tranche of the deal sheet that a file's bytes hold, as deal_file::weigh_file does.
 #[no_mangle]
-pub extern "C" fn tranche_weights_weigh_file_v9(
+pub extern "C" fn tranche_weights_weigh_file_v10(
     file: &[u8],
     results: &mut [u64],
     place: &mut u64,
@@ -80,7 +83,7 @@ pub extern "C" fn tranche_weights_weigh_file_v9(
 // Writes the report's text on a file, as report::report does. The answer is the text's length; it was written where that is at most the room lent, and
 // else nothing was.
 #[no_mangle]
-pub extern "C" fn tranche_weights_report_v9(file: &[u8], text: &mut [u8]) -> u64
+pub extern "C" fn tranche_weights_report_v10(file: &[u8], text: &mut [u8]) -> u64
     ensures { λ r. ⌜ r ≡ length (fileText (now (file .entry))) ⌝ }
     ensures { λ r. ⌜ now (text .exit) ≡ textAfter (fileText (now (file .entry))) (now (text .entry)) ⌝ }
     ensures { λ r. ⌜ r ≤ textRoom ⌝ }
@@ -111,7 +114,7 @@ fn put_block(block: Block, place: &mut u64, sums: &mut [u64; SUM_WORDS]) -> u64
 
 // Reads the sums of a block of a deal sheet's pool, as pool::sum_block does: seven words, in the order of pool::sum_words, which read 0 where the sheet is refused.
 #[no_mangle]
-pub extern "C" fn tranche_weights_block_sums_v9(
+pub extern "C" fn tranche_weights_block_sums_v10(
     sheet: &[u64],
     block: u64,
     place: &mut u64,
@@ -143,7 +146,7 @@ fn put_conversion(converted: Converted, place: &mut u64, count: &mut u64) -> u64
 
 // Rewrites a deal sheet in the other unit of risk weights into lent output words, as conversion::convert does.
 #[no_mangle]
-pub extern "C" fn tranche_weights_convert_v9(
+pub extern "C" fn tranche_weights_convert_v10(
     sheet: &[u64],
     output: &mut [u64],
     place: &mut u64,

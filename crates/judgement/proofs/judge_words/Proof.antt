@@ -14,6 +14,7 @@ use Rattle.judgement.specs.declared.Layout.{Layout}
 use Rattle.judgement.specs.declared.Refusal.{Refusal}
 use Rattle.judgement.specs.declared.Verdict.{Verdict}
 use Rattle.judgement.specs.declared.Verdict.the-variants.{Sound, Faulty}
+use Rattle.judgement.proofs.ReadLayout.{layout-read}
 use Rattle.judgement.proofs.SheetLimits.{tranches-counted}
 use Rattle.judgement.proofs.JudgeSteps.{fault-decides}
 use Rattle.judgement.proofs.WordsLaw.{numbers-mean}
@@ -54,8 +55,8 @@ sound : (c : tie.After-enum-told) →
     judged s (needed s) ≡ Sound
 sound c = sym (c .before .before .judge-needed .ensures) ∙ c .enum-told .given .1
 
-layout-of-requires : tie.Need-layout-of-requires
-layout-of-requires c κs = sound c
+read-layout-requires : tie.Need-read-layout-requires
+read-layout-requires c κs = search needs
 
 end-of-requires : tie.Need-end-of-requires
 end-of-requires c κs = tranches-counted _ (sound (c .before))
@@ -69,7 +70,7 @@ returns-3 : tie.Need-returns-3
 returns-3 c =
     let s = c .before .before .before .before .before .before .before .args .s .now in
     kept s _
-    (good-words s _ (sound (c .before .before .before)) (omega (arith, c .before .end-of .ensures)) (c .before .before .layout-of .ensures))
+    (good-words s _ (sound (c .before .before .before)) (omega (arith, c .before .end-of .ensures)) (c .before .before .read-layout .ensures ∙ layout-read s (sound (c .before .before .before))))
 
 pub judge-words-spec : {M : Type 1} → statement M
 judge-words-spec =
@@ -79,7 +80,7 @@ judge-words-spec =
     enum-known-words
     returns
     enum-told
-    layout-of-requires
+    read-layout-requires
     end-of-requires
     returns-2
     returns-3)

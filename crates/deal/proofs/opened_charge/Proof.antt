@@ -1,0 +1,21 @@
+-- `opened_charge`: the terms are those of the sheet. No axioms.
+use mathlib.Core.Path.{_∙_, ap}
+use Rattle.weights.specs.declared.Terms.{Terms}
+use Rattle.deal.proofs.WeighSteps.{open-read, open-limits, open-terms}
+use borrow.Author.Needs.{needs}
+use Rattle.deal.proofs.opened_charge.Statement.{statement}
+use Rattle.deal.proofs.opened_charge.Tie as tie
+
+read-layout-requires : tie.Need-read-layout-requires
+read-layout-requires c κs = search needs
+
+terms-of-requires : tie.Need-terms-of-requires
+terms-of-requires c κs = let start = c .before .before in open-limits _ _ _ (open-read _ _ _ (start .pre) (c .read-layout .ensures))
+
+returns : tie.Need-returns
+returns c =
+    let start = c .before .before .before in
+    ap (λ (t : Terms). t .charge) (c .terms-of .ensures ∙ open-terms _ _ _ (open-read _ _ _ (start .pre) (c .before .read-layout .ensures)))
+
+pub opened-charge-spec : {M : Type 1} → statement M
+opened-charge-spec = tie.close (tie.spec read-layout-requires terms-of-requires returns)
