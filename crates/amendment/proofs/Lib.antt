@@ -1,8 +1,10 @@
 pub mod SameSums
 pub mod StoredRow
 pub mod AmendmentSteps
+pub mod JudgedAmendment
 pub mod AmendedSheetLaws
 pub mod AmendedSums
 pub mod OpenedLaw
 pub mod AmendSteps
 pub mod AfterRun
+pub mod AnyOrder

@@ -15,7 +15,8 @@ use faults::row_fault;
 use judgement::Refusal;
 use judgement::Verdict;
 use judgement::judge_word;
-use judgement::read_layout;
+use judgement::sheet::read_layout;
+use judgement::sheet::word_at;
 use limits::ROW_SIZE;
 use pool::Pool;
 
@@ -39,13 +40,6 @@ const NO_TOTALS: Totals = Totals {
     nominal: 0,
     weighted: 0,
 };
-
-// The word at a place of an amendment; 0 past the end.
-fn word_at(m: &[u64], p: u64) -> u64
-    ensures { λ r. ⌜ r ≡ word (now (m .entry)) p ⌝ }
-{
-    if p < m.len() as u64 { m[p as usize] } else { 0 }
-}
 
 // The fault of a word of an amendment, by its place from 0: of the row's number, and of the row's words as on loading.
 fn amendment_fault(resecuritised: bool, hundredths: bool, rows: u64, p: u64, w: u64) -> u64

@@ -18,7 +18,8 @@ use Rattle.judgement.proofs.FirstFault.{or-else-sound, or-else-faulty, first-of
 use Rattle.judgement.proofs.Judgement.{sound-if}
 use Rattle.judgement.proofs.FilledFacts.{filled-length, words-moved}
 use Rattle.judgement.proofs.JudgeSteps.{needed-sound}
-use Rattle.judgement.proofs.JudgedLaws.{sound-not-faulty, states, faulty-unless, faulty-when, sound-when, words-refused, refused-words, words-accepted, accepted-words, sheet-within}
+use Rattle.judgement.proofs.JudgedWords.{sound-not-faulty, states, faulty-unless, faulty-when, sound-when}
+use Rattle.judgement.proofs.JudgedLaws.{words-refused, refused-words, words-accepted, accepted-words, sheet-within}
 use Rattle.conversion.specs.RewrittenSheet.{allFacts, rewritten}
 use Rattle.conversion.specs.Conversion.{percentVerdict, weightsVerdict, outputVerdict, conversionVerdict}
 use Rattle.conversion.specs.Judged.{rewrittenLength, WholePercent, NotWholePercent, AllWhole, OutputShort, WhyNot, by-words, by-weight, by-room, Convertible}

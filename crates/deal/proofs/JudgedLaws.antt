@@ -14,12 +14,14 @@ use Rattle.weights.specs.ApproachFloorCap.{thin}
 use Rattle.deal.specs.Lines.{terms, tranche}
 use Rattle.judgement.specs.Refusals.{orElse, firstOf, judged, wordsVerdict}
 use Rattle.deal.specs.Refusals.{roomVerdict, thinVerdict, verdict}
-use Rattle.judgement.specs.Judged.{BadHere, bad, missing, WordsGood, first-bad, words-follow}
+use Rattle.judgement.specs.JudgedWords.{bad, missing, first-bad, words-follow}
+use Rattle.judgement.specs.Judged.{BadHere, WordsGood}
 use Rattle.deal.specs.Judged.{RoomShort, TrancheThin, Why, by-words, by-room, by-thinness, Accepted}
 use Rattle.judgement.specs.declared.Refusal.{Refusal}
 use Rattle.judgement.specs.declared.Verdict.the-variants.{Sound, Faulty}
 use Rattle.judgement.proofs.FirstFault.{or-else-sound, or-else-faulty, FirstFault, first-of-sound, first-of-all, first-of-faulty, faulty-first-of}
-use Rattle.judgement.proofs.JudgedLaws.{states, faulty-when, sound-when, good-judged, words-refused, refused-words, words-accepted, accepted-words, words-number}
+use Rattle.judgement.proofs.JudgedWords.{states, faulty-when, sound-when}
+use Rattle.judgement.proofs.JudgedLaws.{good-judged, words-refused, refused-words, words-accepted, accepted-words, words-number}
 
 pub room-sound : (s : List ℕ) (room : ℕ) → roomVerdict s room ≡ Sound → lineSize * trancheCount s ≤ room
 room-sound s room e =

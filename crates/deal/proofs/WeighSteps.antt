@@ -7,7 +7,8 @@ use borrow.Author.Tests.{lt-ltb, le-ltb}
 use Rattle.limits.specs.SheetSize.{lineSize}
 use Rattle.charge.specs.SumLimits.{SumLimits, IrbLimits}
 use Rattle.charge.specs.declared.Sums.{Sums}
-use Rattle.judgement.specs.DealSheet.{trancheCount, layout, layoutRead}
+use Rattle.judgement.specs.DealSheet.{trancheCount, layout}
+use Rattle.judgement.specs.ReadLayout.{layoutRead}
 use Rattle.judgement.specs.LaidOut.{LaidOut}
 use Rattle.judgement.specs.Refusals.{refused, firstOf, wordsVerdict}
 use Rattle.judgement.specs.declared.Layout.{Layout}

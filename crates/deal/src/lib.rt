@@ -130,7 +130,7 @@ pub fn weigh_opened(sheet: &[u64], sums: Sums, results: &mut [u64]) -> Answer
     ensures { λ r. ⌜ KeepsDemandThree (now (sheet .entry)) (length (now (results .entry))) (now (results .exit)) ⌝ }
     ensures { λ r. ⌜ KeepsSeventhWord (now (sheet .entry)) (length (now (results .entry))) (now (results .exit)) ⌝ }
 {
-    let l = judgement::read_layout(sheet);
+    let l = judgement::sheet::read_layout(sheet);
     weigh_pool(sheet, l, sums, results)
 }
 
@@ -139,7 +139,7 @@ pub fn opened_charge(sheet: &[u64], sums: Sums) -> u64
     requires { ⌜ OpenedPool (now sheet) sums ⌝ }
     ensures { λ r. ⌜ r ≡ terms (now (sheet .entry)) .charge ⌝ }
 {
-    let l = judgement::read_layout(sheet);
+    let l = judgement::sheet::read_layout(sheet);
     let t = terms_of(l, sums);
     t.charge
 }

@@ -7,6 +7,7 @@ pub mod LayoutLaws
 pub mod ReadLayout
 pub mod SameLayout
 pub mod JudgeSteps
+pub mod JudgedWords
 pub mod JudgedLaws
 pub mod GoodSheetLaw
 pub mod AlikeSheets

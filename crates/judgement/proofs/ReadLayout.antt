@@ -6,7 +6,8 @@ use Prim.Native.Nat.{ℕ, _+_, _*_, _≤_, _<_}
 use native.Mathlib.Omega.{arith}
 use borrow.Author.Tests.{le-leb, lt-leb}
 use Rattle.limits.specs.SheetSize.{factsMost, rowsMost, tranchesMost, placeLimit}
-use Rattle.judgement.specs.DealSheet.{word, poolAt, rows, tranchesAt, trancheCount, irbAt, needed, layout, noLayout, layoutRead}
+use Rattle.judgement.specs.DealSheet.{word, poolAt, rows, tranchesAt, trancheCount, irbAt, needed, layout}
+use Rattle.judgement.specs.ReadLayout.{noLayout, layoutRead}
 use Rattle.judgement.specs.Refusals.{judged}
 use Rattle.judgement.specs.declared.Verdict.the-variants.{Sound}
 use Rattle.judgement.proofs.SheetLimits.{facts-within, facts-counted, rows-within, pool-counted, tranches-within, tranches-counted}

@@ -1,11 +1,11 @@
 -- 01, "The deal sheet", and 02, S-1, for the fifth fact, S-3, for the sixth and for maturities, S-9, for the seventh and for risk weights, and S-5, for the fourth section: where each word of a sheet stands. Places are counted from 0. A
 -- count is read as it stands, however wrong: a wrong count is itself the first fault of its sheet (Refusals.antt). The fourth section has one row, whatever its count says.
-use mathlib.Core.Bool.{Bool, false, cond, not, _&&_}
+use mathlib.Core.Bool.{Bool, cond, not}
 use mathlib.Core.List.{List}
 use Prim.Native.Nat.{ℕ, _+_, _*_}
 use lib.Dec.{leb, eqb}
 use lib.ListN.{getD}
-use Rattle.limits.specs.SheetSize.{factsMost, rowsMost, rowSize, tranchesMost, trancheSize, irbRows, irbSize}
+use Rattle.limits.specs.SheetSize.{rowSize, trancheSize, irbRows, irbSize}
 use Rattle.dates.specs.Maturity.{maturityMonths}
 use Rattle.irba.specs.declared.IrbFigures.{IrbFigures}
 use Rattle.judgement.specs.declared.Layout.{Layout}
@@ -187,27 +187,3 @@ layout s = record {
   tranches = trancheCount s;
   irb = irbFigures s;
 }
-
--- ---- what is read of a sheet whose words are not judged: its layout where no count is above its limit, as in every sheet with good words (`layout-read`, proofs/LayoutLaws.antt), and nothing else
-
-abbrev pub countsWithin : List ℕ → Bool
-countsWithin s = leb (word s 0) factsMost && (leb (rows s) rowsMost && leb (trancheCount s) tranchesMost)
-
-abbrev pub noLayout : Layout
-noLayout = record {
-  kind = 0;
-  resecuritisation = false;
-  stc = false;
-  diligence = false;
-  composition = false;
-  «reporting_date» = 0;
-  hundredths = false;
-  «first_row» = 0;
-  rows = 0;
-  «first_tranche» = 0;
-  tranches = 0;
-  irb = record { charge = 0; loss = 0; loans = 0; retail = false; share = 0; average = 0 };
-}
-
-unfoldable pub layoutRead : List ℕ → Layout
-layoutRead s = cond (countsWithin s) (layout s) noLayout

@@ -1,7 +1,9 @@
 pub mod DealSheet
 pub mod Outcome
 pub mod Refusals
+pub mod JudgedWords
 pub mod Judged
 pub mod GoodSheet
 pub mod LaidOut
 pub mod FilledFacts
+pub mod ReadLayout

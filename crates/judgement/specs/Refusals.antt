@@ -60,7 +60,11 @@ unfoldable pub firstOf : (ℕ → Verdict) → ℕ → Verdict
 firstOf f zero = Sound
 firstOf f (suc k) = orElse (firstOf f k) (f k)
 
--- the first fault among the first k words
+-- words judged upward by any rule, then 3: `fault p` is the fault of the word at place p, `size` how many words there are and `need` how many there must be
+abbrev pub judgedWords : (ℕ → ℕ) → ℕ → ℕ → Verdict
+judgedWords fault size need = orElse (firstOf (λ p. judgeWith size p (fault p)) need) (cond (ltb need size) (refused 3 need) Sound)
+
+-- the first fault among the first k words of a sheet
 abbrev pub judged : List ℕ → ℕ → Verdict
 judged s k = firstOf (judge s) k
 
@@ -70,7 +74,7 @@ judged s k = firstOf (judge s) k
 abbrev pub wordsFollow : List ℕ → Verdict
 wordsFollow s = cond (ltb (needed s) (length s)) (refused 3 (needed s)) Sound
 
--- the refusals that the words alone decide: the first bad or missing word, then 3
+-- the refusals that the words alone decide: the first bad or missing word, then 3 (`judgedWords`, of the sheet's words)
 unfoldable pub wordsVerdict : List ℕ → Verdict
 wordsVerdict s = orElse (judged s (needed s)) (wordsFollow s)
 

@@ -3,18 +3,19 @@ ghost use mathlib.Core.Path.{_≡_};
 ghost use Prim.Native.Nat.{_+_, _-_, _<_};
 ghost use lib.ListN.{length};
 ghost use mathlib.Core.Bool.{true};
-ghost use Rattle.judgement.specs.DealSheet.{poolAt, rows, rowAt, tranchesAt, trancheCount, trancheAt, class, hasIrb, irbAt, needed, layoutRead};
+ghost use Rattle.judgement.specs.DealSheet.{poolAt, rows, rowAt, tranchesAt, trancheCount, trancheAt, class, hasIrb, irbAt, needed};
 ghost use Rattle.judgement.specs.Refusals.{judgeWith, judged, numbersOf, wordsNumbers};
 ghost use Rattle.judgement.specs.Judged.{NumbersMean};
 ghost use Rattle.judgement.specs.declared.Verdict.the-variants.{Sound};
 
-mod sheet;
+pub mod sheet;
 
 use crate::sheet::end_of;
 use crate::sheet::fact_at;
 use crate::sheet::in_hundredths;
 use crate::sheet::irb_at;
 use crate::sheet::pool_at;
+use crate::sheet::read_layout;
 use crate::sheet::row_at;
 use crate::sheet::row_count;
 use crate::sheet::tranche_at;
@@ -317,7 +318,7 @@ pub fn judge_words(s: &[u64]) -> Words
     if let Verdict::Faulty(r) = words {
         return Words::Bad(r);
     }
-    let layout = sheet::read_layout(s);
+    let layout = read_layout(s);
     let end = end_of(s);
     if end < s.len() as u64 {
         return Words::Bad(Refusal {
@@ -326,11 +327,4 @@ pub fn judge_words(s: &[u64]) -> Words
         });
     }
     Words::Good(layout)
-}
-
-// What is read of a sheet whose words are not judged, as that of an opened pool, whose words are good: nothing where a count is above its limit.
-pub fn read_layout(s: &[u64]) -> Layout
-    ensures { λ r. ⌜ r ≡ layoutRead (now (s .entry)) ⌝ }
-{
-    sheet::read_layout(s)
 }

@@ -1,8 +1,10 @@
-// Where the words of a sheet stand. A place is worked out only once the counts before it are good.
+// Where the words of a sheet stand. A place is worked out only once the counts before it are good, or are at least within their limits. Open to other crates are the two functions that
+// take any words.
 ghost use mathlib.Core.Path.{_≡_};
 ghost use Prim.Native.Nat.{_+_, _≤_, _<_};
 ghost use Rattle.limits.specs.SheetSize.{irbSize, placeLimit};
-ghost use Rattle.judgement.specs.DealSheet.{word, fact, inHundredths, poolAt, rows, rowAt, tranchesAt, trancheCount, trancheAt, irbAt, irbPlace, irbFigures, needed, layoutRead};
+ghost use Rattle.judgement.specs.DealSheet.{word, fact, inHundredths, poolAt, rows, rowAt, tranchesAt, trancheCount, trancheAt, irbAt, irbPlace, irbFigures, needed};
+ghost use Rattle.judgement.specs.ReadLayout.{layoutRead};
 ghost use Rattle.judgement.specs.Refusals.{judged};
 ghost use Rattle.judgement.specs.declared.Verdict.the-variants.{Sound};
 use crate::Layout;
@@ -16,7 +18,7 @@ use limits::TRANCHE_SIZE;
 use limits::TRANCHES_MOST;
 
 // The word at a place; 0 past the end.
-pub(crate) fn word_at(s: &[u64], p: u64) -> u64
+pub fn word_at(s: &[u64], p: u64) -> u64
     ensures { λ r. ⌜ r ≡ word (now (s .entry)) p ⌝ }
 {
     if p < s.len() as u64 { s[p as usize] } else { 0 }
@@ -158,7 +160,7 @@ const NO_LAYOUT: Layout = Layout {
 
 // What is read of a sheet whose words are not judged: nothing where a count is above its limit, for then no place behind it is known. Of a sheet whose words are good it is
 // what `judge_words` reads.
-pub(crate) fn read_layout(s: &[u64]) -> Layout
+pub fn read_layout(s: &[u64]) -> Layout
     ensures { λ r. ⌜ r ≡ layoutRead (now (s .entry)) ⌝ }
 {
     let facts = word_at(s, 0);

@@ -7,18 +7,6 @@ use Rattle.amendment.proofs.OpenedLaw.{told-by-sums, refused-is-not-ope
 use Rattle.amendment.proofs.is_opened.Statement.{statement}
 use Rattle.amendment.proofs.is_opened.Tie as tie
 
-open-pool-requires : tie.Need-open-pool-requires
-open-pool-requires c κs = search needs
-
-enum-known-opening : tie.Need-enum-known-opening
-enum-known-opening c = search needs
-
-same-sums-requires : tie.Need-same-sums-requires
-same-sums-requires c κs = search needs
-
-enum-known-opening-2 : tie.Need-enum-known-opening-2
-enum-known-opening-2 c = search needs
-
 returns : tie.Need-returns
 returns c = told-by-sums _ _ _ (ap numbersOf (sym (c .before .before .opening .given .1)) ∙ c .before .before .before .before .open-pool .ensures) (c .same-sums .ensures)
 
@@ -29,9 +17,9 @@ pub is-opened-spec : {M : Type 1} → statement M
 is-opened-spec =
     tie.close
     (tie.spec
-    open-pool-requires
-    enum-known-opening
-    same-sums-requires
-    enum-known-opening-2
+    (λ c κs. search needs)
+    (λ c. search needs)
+    (λ c κs. search needs)
+    (λ c. search needs)
     returns
     returns-2)

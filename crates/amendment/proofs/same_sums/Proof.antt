@@ -7,14 +7,8 @@ use Rattle.amendment.proofs.SameSums.{same-sums, tells-no, tells-by-tes
 use Rattle.amendment.proofs.same_sums.Statement.{statement}
 use Rattle.amendment.proofs.same_sums.Tie as tie
 
-same-totals-requires : tie.Need-same-totals-requires
-same-totals-requires c κs = search needs
-
 returns : tie.Need-returns
 returns c = tells-no (λ e. c .before .same-totals .ensures .no (not-true _ (c .if1 .taken)) (ap (λ (q : Sums). q .all) e))
-
-same-totals-requires-2 : tie.Need-same-totals-requires-2
-same-totals-requires-2 c κs = search needs
 
 returns-2 : tie.Need-returns-2
 returns-2 c = tells-no (λ e. c .before .same-totals2 .ensures .no (not-true _ (c .if2 .taken)) (ap (λ (q : Sums). q .known) e))
@@ -29,4 +23,4 @@ returns-3 c =
 
 pub same-sums-spec : {M : Type 1} → statement M
 same-sums-spec =
-    tie.close (tie.spec same-totals-requires returns same-totals-requires-2 returns-2 returns-3)
+    tie.close (tie.spec (λ c κs. search needs) returns (λ c κs. search needs) returns-2 returns-3)

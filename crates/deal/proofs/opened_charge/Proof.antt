@@ -6,9 +6,6 @@ use borrow.Author.Needs.{needs}
 use Rattle.deal.proofs.opened_charge.Statement.{statement}
 use Rattle.deal.proofs.opened_charge.Tie as tie
 
-read-layout-requires : tie.Need-read-layout-requires
-read-layout-requires c κs = search needs
-
 terms-of-requires : tie.Need-terms-of-requires
 terms-of-requires c κs = let start = c .before .before in open-limits _ _ _ (open-read _ _ _ (start .pre) (c .read-layout .ensures))
 
@@ -18,4 +15,4 @@ returns c =
     ap (λ (t : Terms). t .charge) (c .terms-of .ensures ∙ open-terms _ _ _ (open-read _ _ _ (start .pre) (c .before .read-layout .ensures)))
 
 pub opened-charge-spec : {M : Type 1} → statement M
-opened-charge-spec = tie.close (tie.spec read-layout-requires terms-of-requires returns)
+opened-charge-spec = tie.close (tie.spec (λ c κs. search needs) terms-of-requires returns)

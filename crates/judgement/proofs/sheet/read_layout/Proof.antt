@@ -8,35 +8,14 @@ use borrow.Author.Needs.{needs}
 use Rattle.judgement.proofs.sheet.read_layout.Statement.{statement}
 use Rattle.judgement.proofs.sheet.read_layout.Tie as tie
 
-word-at-requires : tie.Need-word-at-requires
-word-at-requires c κs = search needs
-
 returns : tie.Need-returns
 returns c = facts-above _ (omega (arith, c .before .word-at .ensures))
-
-add-pool : tie.Need-add-pool
-add-pool c = search needs
-
-word-at-requires-2 : tie.Need-word-at-requires-2
-word-at-requires-2 c κs = search needs
 
 returns-2 : tie.Need-returns-2
 returns-2 c =
     let two = c .before in
     let one = two .before .before in
     rows-above _ (omega (arith, one .word-at .ensures)) (omega (arith, rows-read (one .before .before .args .s .now) (one .word-at .ensures) (two .word-at2 .ensures)))
-
-add-count : tie.Need-add-count
-add-count c = search needs
-
-mul-count : tie.Need-mul-count
-mul-count c = search needs
-
-add-count-2 : tie.Need-add-count-2
-add-count-2 c = search needs
-
-word-at-requires-3 : tie.Need-word-at-requires-3
-word-at-requires-3 c κs = search needs
 
 returns-3 : tie.Need-returns-3
 returns-3 c =
@@ -47,42 +26,6 @@ returns-3 c =
     let many = rows-read s (one .word-at .ensures) (two .word-at2 .ensures) in
     tranches-above s (omega (arith, one .word-at .ensures)) (omega (arith, many))
     (omega (arith, tranches-read s (one .word-at .ensures) (two .word-at2 .ensures) (three .word-at3 .ensures)))
-
-word-at-requires-4 : tie.Need-word-at-requires-4
-word-at-requires-4 c κs = search needs
-
-word-at-requires-5 : tie.Need-word-at-requires-5
-word-at-requires-5 c κs = search needs
-
-fact-at-requires : tie.Need-fact-at-requires
-fact-at-requires c κs = search needs
-
-word-at-requires-6 : tie.Need-word-at-requires-6
-word-at-requires-6 c κs = search needs
-
-word-at-requires-7 : tie.Need-word-at-requires-7
-word-at-requires-7 c κs = search needs
-
-fact-at-requires-2 : tie.Need-fact-at-requires-2
-fact-at-requires-2 c κs = search needs
-
-in-hundredths-requires : tie.Need-in-hundredths-requires
-in-hundredths-requires c κs = search needs
-
-add-t21 : tie.Need-add-t21
-add-t21 c = search needs
-
-add-t23 : tie.Need-add-t23
-add-t23 c = search needs
-
-add-irb-figures : tie.Need-add-irb-figures
-add-irb-figures c = search needs
-
-mul-irb-figures : tie.Need-mul-irb-figures
-mul-irb-figures c = search needs
-
-add-irb-figures-2 : tie.Need-add-irb-figures-2
-add-irb-figures-2 c = search needs
 
 irb-figures-requires : tie.Need-irb-figures-requires
 irb-figures-requires c κs =
@@ -128,27 +71,27 @@ pub read-layout-spec : {M : Type 1} → statement M
 read-layout-spec =
     tie.close
     (tie.spec
-    word-at-requires
+    (λ c κs. search needs)
     returns
-    add-pool
-    word-at-requires-2
+    (λ c. search needs)
+    (λ c κs. search needs)
     returns-2
-    add-count
-    mul-count
-    add-count-2
-    word-at-requires-3
+    (λ c. search needs)
+    (λ c. search needs)
+    (λ c. search needs)
+    (λ c κs. search needs)
     returns-3
-    word-at-requires-4
-    word-at-requires-5
-    fact-at-requires
-    word-at-requires-6
-    word-at-requires-7
-    fact-at-requires-2
-    in-hundredths-requires
-    add-t21
-    add-t23
-    add-irb-figures
-    mul-irb-figures
-    add-irb-figures-2
+    (λ c κs. search needs)
+    (λ c κs. search needs)
+    (λ c κs. search needs)
+    (λ c κs. search needs)
+    (λ c κs. search needs)
+    (λ c κs. search needs)
+    (λ c κs. search needs)
+    (λ c. search needs)
+    (λ c. search needs)
+    (λ c. search needs)
+    (λ c. search needs)
+    (λ c. search needs)
     irb-figures-requires
     returns-4)

@@ -8,12 +8,6 @@ use Rattle.tranche_weights.proofs.opened.tranche_weights_is_opened_v10.
 }
 use Rattle.tranche_weights.proofs.opened.tranche_weights_is_opened_v10.Tie as tie
 
-sums-of-requires : tie.Need-sums-of-requires
-sums-of-requires c κs = search needs
-
-is-opened-requires : tie.Need-is-opened-requires
-is-opened-requires c κs = search needs
-
 returns : tie.Need-returns
 returns c = yes refl (same-opened _ (c .before .before .sums-of .ensures) (c .before .is-opened .ensures .yes (c .if1 .taken)))
 
@@ -22,4 +16,4 @@ returns-2 c = no refl (λ pool. c .before .is-opened .ensures .no (c .if1 .left)
 
 pub tranche-weights-is-opened-v10-spec : {M : Type 1} → statement M
 tranche-weights-is-opened-v10-spec =
-    tie.close (tie.spec sums-of-requires is-opened-requires returns returns-2)
+    tie.close (tie.spec (λ c κs. search needs) (λ c κs. search needs) returns returns-2)

@@ -9,12 +9,6 @@ use Rattle.tranche_weights.proofs.opened.tranche_weights_open_pool_v10.
 }
 use Rattle.tranche_weights.proofs.opened.tranche_weights_open_pool_v10.Tie as tie
 
-open-pool-requires : tie.Need-open-pool-requires
-open-pool-requires c κs = search needs
-
-put-opening-requires : tie.Need-put-opening-requires
-put-opening-requires c κs = search needs
-
 returns : tie.Need-returns
 returns c =
     let opened = c .before .before .before .open-pool .ensures in
@@ -22,4 +16,4 @@ returns c =
 
 pub tranche-weights-open-pool-v10-spec : {M : Type 1} → statement M
 tranche-weights-open-pool-v10-spec =
-    tie.close (tie.spec open-pool-requires put-opening-requires returns)
+    tie.close (tie.spec (λ c κs. search needs) (λ c κs. search needs) returns)

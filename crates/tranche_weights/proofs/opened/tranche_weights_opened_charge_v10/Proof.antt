@@ -7,15 +7,9 @@ use Rattle.tranche_weights.proofs.opened.tranche_weights_opened_charge_
 }
 use Rattle.tranche_weights.proofs.opened.tranche_weights_opened_charge_v10.Tie as tie
 
-sums-of-requires : tie.Need-sums-of-requires
-sums-of-requires c κs = search needs
-
 opened-charge-requires : tie.Need-opened-charge-requires
 opened-charge-requires c κs = same-opened _ (sym (c .sums-of .ensures)) (c .before .before .pre)
 
-returns : tie.Need-returns
-returns c = search needs
-
 pub tranche-weights-opened-charge-v10-spec : {M : Type 1} → statement M
 tranche-weights-opened-charge-v10-spec =
-    tie.close (tie.spec sums-of-requires opened-charge-requires returns)
+    tie.close (tie.spec (λ c κs. search needs) opened-charge-requires (λ c. search needs))

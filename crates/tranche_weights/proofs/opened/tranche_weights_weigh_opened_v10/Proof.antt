@@ -7,17 +7,8 @@ use Rattle.tranche_weights.proofs.opened.tranche_weights_weigh_opened_v
 }
 use Rattle.tranche_weights.proofs.opened.tranche_weights_weigh_opened_v10.Tie as tie
 
-sums-of-requires : tie.Need-sums-of-requires
-sums-of-requires c κs = search needs
-
 weigh-opened-requires : tie.Need-weigh-opened-requires
 weigh-opened-requires c κs = same-opened _ (sym (c .before .sums-of .ensures)) (c .before .before .before .before .pre)
-
-put-answer-requires : tie.Need-put-answer-requires
-put-answer-requires c κs = search needs
-
-same-length : tie.Need-same-length
-same-length c = search needs
 
 returns : tie.Need-returns
 returns c =
@@ -27,4 +18,4 @@ returns c =
 pub tranche-weights-weigh-opened-v10-spec : {M : Type 1} → statement M
 tranche-weights-weigh-opened-v10-spec =
     tie.close
-    (tie.spec sums-of-requires weigh-opened-requires put-answer-requires same-length returns)
+    (tie.spec (λ c κs. search needs) weigh-opened-requires (λ c κs. search needs) (λ c. search needs) returns)
