@@ -1,3 +1,4 @@
+pub mod AmendCases
 pub mod SameSums
 pub mod StoredRow
 pub mod AmendmentSteps
