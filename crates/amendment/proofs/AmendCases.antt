@@ -20,11 +20,11 @@ resecuritised = amendmentJudged true false 3
 
 pub rows-from-1 : (inPercent (0 ∷ 5 ∷ 5 ∷ 5 ∷ 0 ∷ []) ≡ refused 2 0) × (inPercent (3 ∷ 5 ∷ 5 ∷ 5 ∷ 0 ∷ []) ≡ Sound) × (inPercent (4 ∷ 5 ∷ 5 ∷ 5 ∷ 0 ∷ []) ≡ refused 2 0)
 unfolding amendmentJudged firstOf
-rows-from-1 = (refl, (refl, refl))
+rows-from-1 = (refl, refl, refl)
 
 pub bad-word-before-a-missing-one : (inPercent (0 ∷ []) ≡ refused 2 0) × (inPercent (1 ∷ 0 ∷ []) ≡ refused 5 1) × (inPercent (1 ∷ 5 ∷ 0 ∷ 5 ∷ []) ≡ refused 5 2)
 unfolding amendmentJudged firstOf
-bad-word-before-a-missing-one = (refl, (refl, refl))
+bad-word-before-a-missing-one = (refl, refl, refl)
 
 pub missing-word-at-the-length : (inPercent [] ≡ refused 1 0) × (inPercent (1 ∷ 5 ∷ 5 ∷ 5 ∷ []) ≡ refused 1 4)
 unfolding amendmentJudged firstOf
@@ -36,8 +36,8 @@ bad-word-before-a-sixth = (refl, refl)
 
 pub weight-in-the-sheet's-unit : (inPercent (1 ∷ 5 ∷ 5 ∷ 1251 ∷ 0 ∷ []) ≡ refused 6 3) × (inHundredths (1 ∷ 5 ∷ 5 ∷ 1251 ∷ 0 ∷ []) ≡ Sound) × (inHundredths (1 ∷ 5 ∷ 5 ∷ 125001 ∷ 0 ∷ []) ≡ refused 6 3)
 unfolding amendmentJudged firstOf
-weight-in-the-sheet's-unit = (refl, (refl, refl))
+weight-in-the-sheet's-unit = (refl, refl, refl)
 
 pub status-of-the-deal : (inPercent (1 ∷ 5 ∷ 5 ∷ 5 ∷ 3 ∷ []) ≡ refused 7 4) × (resecuritised (1 ∷ 5 ∷ 5 ∷ 5 ∷ 3 ∷ []) ≡ Sound) × (resecuritised (1 ∷ 5 ∷ 5 ∷ 5 ∷ 4 ∷ []) ≡ refused 7 4)
 unfolding amendmentJudged firstOf
-status-of-the-deal = (refl, (refl, refl))
+status-of-the-deal = (refl, refl, refl)
