@@ -4,28 +4,29 @@
  * The archive is made from the repository's root by `rt staticlib tranche_weights`, which proves it first and writes
  * target/staticlib/libtranche_weights.a. Link it as it is; it needs nothing but memcpy and memset of the C library.
  *
- * What holds of all five functions
+ * What holds of all ten functions
  * - The caller owns all memory. Nothing is allocated, kept or freed, and no pointer outlives the call.
  * - There is no state: calls that write to different memory may run at the same time on different threads, also on the same sheet.
- * - Whatever the words or bytes are, the call ends and gives the answer described here; no input is undefined.
+ * - Whatever the words or bytes are, the call ends and gives the answer described here; no input is undefined. The three calls on an opened pool
+ *   (tranche_weights_amend, tranche_weights_opened_charge and tranche_weights_weigh_opened) alone ask something of the words that they are lent: "An opened pool",
+ *   below.
  * - A list of length 0 is nothing: its pointer is not looked at and may be null. What is lent to be written need not be initialised.
  * - What the caller owes: any other pointer is not null and is aligned for its type, as many words or bytes as its length says stay readable (or writable, where the
  *   pointer is not const) until the call returns, and what the function writes overlaps nothing else that is passed. place, count, charge and sums are never null, and
  *   have the words that are stated below.
- * - It also owes the stack: 16 KB are enough for tranche_weights_weigh, tranche_weights_block_sums and tranche_weights_convert, and 64 KB for the two that take a file
- *   (tests/calls.c runs them on threads with no more).
- * - What is proved is the archive's five functions, whose names end in the version; the functions here only hand on to them. That a caller keeps what it owes, no
+ * - It also owes the stack: 16 KB are enough for every function but the two that take a file, and 64 KB for these (tests/calls.c runs them on threads with no more).
+ * - What is proved is the archive's ten functions, whose names end in the version; the functions here only hand on to them. That a caller keeps what it owes, no
  *   proof can see.
  *
  * Versions
  * - Within a version of the interface no name or sentence here changes its meaning (names may be added), and every sheet keeps its answer.
  * - A later version may add facts, sections, refusals and approaches, and words at the end of a line, and so change the limits and lengths below; it may no longer
  *   give a refusal that is listed here, and it may give a sheet another weight where the rules have changed. A refusal's number, an approach's word and the place
- *   of a word in the line and of a sum keep their meaning in all versions, and so do the units of lines and sums from this version on; and a number that is no longer
+ *   of a word in the line and of a sum keep their meaning in all versions, and so do the units of lines and sums from version 9 on; and a number that is no longer
  *   given is not used again. So a program that goes by the names below, and takes a refusal or an approach that it does not know for what it is, need only be compiled
  *   anew. The name of a refusal that is no longer given goes with it; a program that has it must leave it out.
- * - In this version weighted exposure is in currency units times hundredths of a percent, whatever the unit of the sheet; up to version 8 it was in currency units times
- *   percent, a hundredth of what it is now. A program that was written for one of those and reads it must see to that.
+ * - Since version 9 weighted exposure is in currency units times hundredths of a percent, whatever the unit of the sheet; up to version 8 it was in currency units
+ *   times percent, a hundredth of what it is now. A program that was written for one of those and reads it must see to that.
  * - Each function's name in the archive ends in the version. A header and an archive of two versions do not link: the linker names the function that is missing.
  */
 #ifndef TRANCHE_WEIGHTS_H
@@ -39,7 +40,7 @@ extern "C" {
 #endif
 
 /* The version of the interface. */
-#define TRANCHE_WEIGHTS_INTERFACE 9
+#define TRANCHE_WEIGHTS_INTERFACE 10
 
 /*
  * The parts of a sheet: the fewest and the most facts, of one word each; the most pool rows and the words of one; the most tranches and the words of one; the words of
@@ -100,8 +101,9 @@ enum {
 #define TRANCHE_WEIGHTS_MOST_BLOCKS ((TRANCHE_WEIGHTS_MOST_ROWS + TRANCHE_WEIGHTS_BLOCK_ROWS - 1) / TRANCHE_WEIGHTS_BLOCK_ROWS)
 
 /*
- * The places of the words in a block's sums. Every status but 2 is known; a row of status 1 is delinquent. Weighted exposure is exposure times risk weight in hundredths
- * of a percent, whatever the unit of the sheet: an exposure of 200 at 37.5% adds 750000. Added up over all blocks, each sum is that of the pool.
+ * The places of the words in the sums of a block and of a pool. Every status but 2 is known; a row of status 1 is delinquent. Weighted exposure is exposure times
+ * risk weight in hundredths of a percent, whatever the unit of the sheet: an exposure of 200 at 37.5% adds 750000. Added up over all blocks, each sum is that of the
+ * pool.
  */
 enum {
     TRANCHE_WEIGHTS_SUM_EXPOSURE = 0,                /* exposure of all rows, in whole currency units */
@@ -113,8 +115,30 @@ enum {
     TRANCHE_WEIGHTS_SUM_LATE_NOMINAL = 6             /* nominal of the delinquent rows, in whole currency units */
 };
 
-/* How many words a block's sums have. */
+/* How many words the sums have. */
 #define TRANCHE_WEIGHTS_SUM_WORDS 7
+
+/*
+ * An opened pool is a sheet and the sums of its pool, TRANCHE_WEIGHTS_SUM_WORDS words that tranche_weights_open_pool writes. An amendment replaces one row of the
+ * sheet and corrects the sums, and charge and lines come from the sums: none of the three reads the other rows again, so that their time does not grow with the pool.
+ * - What the caller owes the three calls on an opened pool: the sheet and the sums are such that tranche_weights_is_opened says 1. It does so after
+ *   tranche_weights_open_pool has accepted the sheet, and after every tranche_weights_amend, whether that was accepted or refused, as long as nothing else writes to
+ *   either.
+ * - Where that is not kept, nothing is promised: a figure may be wrong with no sign of it, and words outside the lists may be read or written. Who can't be sure asks
+ *   tranche_weights_is_opened first, which takes any words, in the time that it takes to open the pool.
+ *
+ * The places of the words in an amendment: the number of the row, counted from 1, and the row as the sheet has it, its risk weight in the sheet's unit.
+ */
+enum {
+    TRANCHE_WEIGHTS_AMENDMENT_ROW = 0,         /* the row's number, 1 to the number of rows of the sheet */
+    TRANCHE_WEIGHTS_AMENDMENT_EXPOSURE = 1,    /* exposure amount, 1 to 10^10 */
+    TRANCHE_WEIGHTS_AMENDMENT_NOMINAL = 2,     /* nominal amount, 1 to 10^10 */
+    TRANCHE_WEIGHTS_AMENDMENT_RISK_WEIGHT = 3, /* risk weight, in the sheet's unit */
+    TRANCHE_WEIGHTS_AMENDMENT_STATUS = 4       /* status: 0, 1 or 2 in an ordinary deal, 3 in a re-securitisation */
+};
+
+/* How many words an amendment has. */
+#define TRANCHE_WEIGHTS_AMENDMENT_WORDS 5
 
 /*
  * The most digits of a number, and bytes that hold every report: the labels "charge ", "tranches " and "total " have 7, 9 and 6, and each number has one more byte
@@ -137,12 +161,15 @@ enum {
     TRANCHE_WEIGHTS_BY_SEC_IRBA = 3  /* the formula, by the IRB section */
 };
 
-/* The numbers that a call returns, with the place where it is not that of the faulty word; 12 is no longer given. The README says of each refusal what to do. */
+/*
+ * The numbers that a call returns, with the place where it is not that of the faulty word; 12 is no longer given. Of an amendment, where 1, 2 and 3 and 5 to 7 alone
+ * are given, the place is counted in the amendment. The README says of each refusal what to do.
+ */
 enum {
     TRANCHE_WEIGHTS_ACCEPTED = 0,
-    TRANCHE_WEIGHTS_REFUSED_MISSING_WORD = 1,      /* the sheet ends too early; the place is its length */
-    TRANCHE_WEIGHTS_REFUSED_COUNT = 2,             /* a count is outside its limits */
-    TRANCHE_WEIGHTS_REFUSED_WORDS_FOLLOW = 3,      /* words follow the last section */
+    TRANCHE_WEIGHTS_REFUSED_MISSING_WORD = 1,      /* the sheet or the amendment ends too early; the place is its length */
+    TRANCHE_WEIGHTS_REFUSED_COUNT = 2,             /* a count is outside its limits; of an amendment, the sheet has no row of that number */
+    TRANCHE_WEIGHTS_REFUSED_WORDS_FOLLOW = 3,      /* words follow the last section, or the five words of an amendment */
     TRANCHE_WEIGHTS_REFUSED_FACT = 4,              /* a fact is none of its codes */
     TRANCHE_WEIGHTS_REFUSED_POOL_AMOUNT = 5,       /* an exposure or nominal amount is 0 or above 10^10 */
     TRANCHE_WEIGHTS_REFUSED_RISK_WEIGHT = 6,       /* a risk weight is above 1250%, in the sheet's unit */
@@ -161,13 +188,20 @@ enum {
 };
 
 /* The functions as the archive names them. They take what the functions below take, and no null pointer. */
-uint64_t tranche_weights_weigh_v9(const uint64_t *sheet, size_t words, uint64_t *results, size_t room, uint64_t *place, uint64_t *count,
+uint64_t tranche_weights_weigh_v10(const uint64_t *sheet, size_t words, uint64_t *results, size_t room, uint64_t *place, uint64_t *count,
                                   uint64_t *charge);
-uint64_t tranche_weights_weigh_file_v9(const uint8_t *file, size_t size, uint64_t *results, size_t room, uint64_t *place, uint64_t *count,
+uint64_t tranche_weights_weigh_file_v10(const uint8_t *file, size_t size, uint64_t *results, size_t room, uint64_t *place, uint64_t *count,
                                        uint64_t *charge);
-uint64_t tranche_weights_report_v9(const uint8_t *file, size_t size, uint8_t *text, size_t room);
-uint64_t tranche_weights_block_sums_v9(const uint64_t *sheet, size_t words, uint64_t block, uint64_t *place, uint64_t *sums);
-uint64_t tranche_weights_convert_v9(const uint64_t *sheet, size_t words, uint64_t *output, size_t room, uint64_t *place, uint64_t *count);
+uint64_t tranche_weights_report_v10(const uint8_t *file, size_t size, uint8_t *text, size_t room);
+uint64_t tranche_weights_block_sums_v10(const uint64_t *sheet, size_t words, uint64_t block, uint64_t *place, uint64_t *sums);
+uint64_t tranche_weights_convert_v10(const uint64_t *sheet, size_t words, uint64_t *output, size_t room, uint64_t *place, uint64_t *count);
+uint64_t tranche_weights_open_pool_v10(const uint64_t *sheet, size_t words, uint64_t *place, uint64_t *sums);
+uint64_t tranche_weights_is_opened_v10(const uint64_t *sheet, size_t words, const uint64_t *sums);
+uint64_t tranche_weights_amend_v10(uint64_t *sheet, size_t words, uint64_t *sums, const uint64_t *amendment, size_t amendment_words,
+                                   uint64_t *place);
+uint64_t tranche_weights_opened_charge_v10(const uint64_t *sheet, size_t words, const uint64_t *sums);
+uint64_t tranche_weights_weigh_opened_v10(const uint64_t *sheet, size_t words, const uint64_t *sums, uint64_t *results, size_t room,
+                                          uint64_t *place, uint64_t *count, uint64_t *charge);
 
 /*
  * Weighs every tranche of a deal sheet.
@@ -185,7 +219,7 @@ static inline uint64_t tranche_weights_weigh(const uint64_t *sheet, size_t words
                                              uint64_t *count, uint64_t *charge)
 {
     uint64_t nothing = 0;
-    return tranche_weights_weigh_v9(words ? sheet : &nothing, words, room ? results : &nothing, room, place, count, charge);
+    return tranche_weights_weigh_v10(words ? sheet : &nothing, words, room ? results : &nothing, room, place, count, charge);
 }
 
 /*
@@ -201,7 +235,7 @@ static inline uint64_t tranche_weights_weigh_file(const uint8_t *file, size_t si
 {
     uint8_t no_byte = 0;
     uint64_t nothing = 0;
-    return tranche_weights_weigh_file_v9(size ? file : &no_byte, size, room ? results : &nothing, room, place, count, charge);
+    return tranche_weights_weigh_file_v10(size ? file : &no_byte, size, room ? results : &nothing, room, place, count, charge);
 }
 
 /*
@@ -216,7 +250,7 @@ static inline uint64_t tranche_weights_weigh_file(const uint8_t *file, size_t si
 static inline uint64_t tranche_weights_report(const uint8_t *file, size_t size, uint8_t *text, size_t room)
 {
     uint8_t nothing = 0;
-    return tranche_weights_report_v9(size ? file : &nothing, size, room ? text : &nothing, room);
+    return tranche_weights_report_v10(size ? file : &nothing, size, room ? text : &nothing, room);
 }
 
 /*
@@ -235,7 +269,7 @@ static inline uint64_t tranche_weights_report(const uint8_t *file, size_t size, 
 static inline uint64_t tranche_weights_block_sums(const uint64_t *sheet, size_t words, uint64_t block, uint64_t *place, uint64_t *sums)
 {
     uint64_t nothing = 0;
-    return tranche_weights_block_sums_v9(words ? sheet : &nothing, words, block, place, sums);
+    return tranche_weights_block_sums_v10(words ? sheet : &nothing, words, block, place, sums);
 }
 
 /*
@@ -257,7 +291,89 @@ static inline uint64_t tranche_weights_block_sums(const uint64_t *sheet, size_t 
 static inline uint64_t tranche_weights_convert(const uint64_t *sheet, size_t words, uint64_t *output, size_t room, uint64_t *place, uint64_t *count)
 {
     uint64_t nothing = 0;
-    return tranche_weights_convert_v9(words ? sheet : &nothing, words, room ? output : &nothing, room, place, count);
+    return tranche_weights_convert_v10(words ? sheet : &nothing, words, room ? output : &nothing, room, place, count);
+}
+
+/*
+ * Opens a deal sheet's pool: the sums of all its rows; no tranche is weighed.
+ *
+ * sheet, words     the sheet and how many words it has; any words are allowed
+ * place            one word, written in every case
+ * sums             TRANCHE_WEIGHTS_SUM_WORDS words, written where the sheet is accepted
+ *
+ * Returns TRANCHE_WEIGHTS_ACCEPTED where the sheet gets none of the refusals below: sheet and sums are now an opened pool, *place is 0. A sheet in which a tranche is
+ * too thin for the formula is opened all the same: tranche_weights_weigh_opened then refuses it, until an amendment mends that.
+ * Returns the refusal's number where it gets one: *place is the place of the faulty word, counted from 0, and sums are as they were. The refusals are those of
+ * tranche_weights_block_sums.
+ */
+static inline uint64_t tranche_weights_open_pool(const uint64_t *sheet, size_t words, uint64_t *place, uint64_t *sums)
+{
+    uint64_t nothing = 0;
+    return tranche_weights_open_pool_v10(words ? sheet : &nothing, words, place, sums);
+}
+
+/*
+ * Tells whether a sheet and sums are an opened pool: the sheet gets no refusal by tranche_weights_open_pool, and the sums are those that it would write.
+ *
+ * sheet, words     the sheet and how many words it has; any words are allowed
+ * sums             TRANCHE_WEIGHTS_SUM_WORDS words; any are allowed
+ *
+ * Returns 1 where they are, and 0 where they are not.
+ */
+static inline uint64_t tranche_weights_is_opened(const uint64_t *sheet, size_t words, const uint64_t *sums)
+{
+    uint64_t nothing = 0;
+    return tranche_weights_is_opened_v10(words ? sheet : &nothing, words, sums);
+}
+
+/*
+ * Amends an opened pool: replaces one row of the sheet, and corrects the sums.
+ *
+ * sheet, words, sums   an opened pool, as tranche_weights_is_opened tells; both are written
+ * amendment, amendment_words   the amendment and how many words it has; any words are allowed
+ * place            one word, written in every case
+ *
+ * Returns TRANCHE_WEIGHTS_ACCEPTED where the amendment gets none of the refusals below: the four words of that row are the amendment's last four and every other word
+ * of the sheet is as it was, the sums are those of the rows as they now stand, and *place is 0.
+ * Returns the refusal's number where it gets one: *place is the place of the faulty word in the amendment, counted from 0, and neither sheet nor sums have changed.
+ * The words are judged from the first one on: TRANCHE_WEIGHTS_REFUSED_COUNT where the sheet has no row of that number; then TRANCHE_WEIGHTS_REFUSED_POOL_AMOUNT,
+ * TRANCHE_WEIGHTS_REFUSED_RISK_WEIGHT and TRANCHE_WEIGHTS_REFUSED_STATUS as in a sheet, by the unit and the kind of deal of this one;
+ * TRANCHE_WEIGHTS_REFUSED_MISSING_WORD, with *place the amendment's length, where it ends before a bad word is met; and last TRANCHE_WEIGHTS_REFUSED_WORDS_FOLLOW,
+ * with *place TRANCHE_WEIGHTS_AMENDMENT_WORDS, where all five are good and more follow.
+ */
+static inline uint64_t tranche_weights_amend(uint64_t *sheet, size_t words, uint64_t *sums, const uint64_t *amendment, size_t amendment_words,
+                                             uint64_t *place)
+{
+    uint64_t nothing = 0;
+    return tranche_weights_amend_v10(sheet, words, sums, amendment_words ? amendment : &nothing, amendment_words, place);
+}
+
+/*
+ * Gives the pool charge of an opened pool.
+ *
+ * sheet, words, sums   an opened pool, as tranche_weights_is_opened tells
+ *
+ * Returns the charge in millionths, under SEC-IRBA the mixed one: that which tranche_weights_weigh gives for the sheet. A tranche that is too thin for the formula
+ * does not matter here.
+ */
+static inline uint64_t tranche_weights_opened_charge(const uint64_t *sheet, size_t words, const uint64_t *sums)
+{
+    return tranche_weights_opened_charge_v10(sheet, words, sums);
+}
+
+/*
+ * Weighs every tranche of an opened pool.
+ *
+ * sheet, words, sums   an opened pool, as tranche_weights_is_opened tells
+ *
+ * Returns and writes what tranche_weights_weigh returns and writes for the sheet. The only refusals are TRANCHE_WEIGHTS_REFUSED_ROOM and
+ * TRANCHE_WEIGHTS_REFUSED_THIN_TRANCHE. The other parameters are as there.
+ */
+static inline uint64_t tranche_weights_weigh_opened(const uint64_t *sheet, size_t words, const uint64_t *sums, uint64_t *results, size_t room,
+                                                    uint64_t *place, uint64_t *count, uint64_t *charge)
+{
+    uint64_t nothing = 0;
+    return tranche_weights_weigh_opened_v10(sheet, words, sums, room ? results : &nothing, room, place, count, charge);
 }
 
 #ifdef __cplusplus
