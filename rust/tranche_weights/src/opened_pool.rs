@@ -14,12 +14,12 @@ use crate::sums::BlockSums;
 
 /// A whole sheet with the sums of its pool, of which single rows can be replaced.
 ///
-/// An amendment corrects the sums by the one row, and charge and lines are worked out from the sums, so that none of them
-/// reads the other rows. They are always those of a fresh load: after any run of amendments sums and charge are those
-/// of the rows as they now stand, and the answer is that of [`weigh_words`](crate::weigh_words) to the words.
+/// An amendment corrects the sums by the one row, and charge and lines are worked out from the sums: the other rows are not
+/// read again. Nothing differs from a fresh load: after any run of amendments sums and charge are those of the rows as they
+/// now stand, and the deal is weighed as [`weigh_words`](crate::weigh_words) weighs its words.
 ///
-/// It is made by [`open`](Self::open) or [`Sheet::open`](crate::Sheet::open) and changed by amendments, and in no other
-/// way: so its sums are always those of its rows.
+/// It is made by opening a sheet ([`open`](Self::open), [`Sheet::open`](crate::Sheet::open)) and changed by amendments, and
+/// in no other way, so that its sums are always those of its rows.
 ///
 /// ```
 /// use tranche_weights::{

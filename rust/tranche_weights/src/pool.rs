@@ -1,4 +1,4 @@
-//! The pool's rows (document 01, "The deal sheet"; document 02, S-9).
+//! The pool's rows (document 01, "The deal sheet"; document 02, S-9 and S-10).
 
 use crate::limits::ROW_WORDS;
 use crate::numbers::PoolAmount;
