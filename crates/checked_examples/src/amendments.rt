@@ -40,10 +40,7 @@ fn print_pool(sheet: &[u64], sums: Sums)
     let mut results = [0u64; RESULT_ROOM];
     let answer = deal::weigh_opened(sheet, sums, &mut results);
     match answer {
-        Answer::Weighed {
-            count,
-            charge: _,
-        } => print_lines(count, &results),
+        Answer::Weighed { count, charge: _ } => print_lines(count, &results),
         Answer::Refused(r) => print_refusal(r),
     }
 }
@@ -109,7 +106,11 @@ fn print_opening(sheet: &mut [u64], list: &[u64]) {
 // Whether a file is an example of amendments.
 pub(crate) fn is_amended(file: &[u8]) -> bool {
     let words = words_of(file);
-    if file.len() == 0 { false } else { words[0] == 0 }
+    if file.len() == 0 {
+        false
+    } else {
+        words[0] == 0
+    }
 }
 
 // Writes what becomes of the opened pool of such a file.
