@@ -1,5 +1,5 @@
 #!/usr/bin/env python3
-"""The text that crates/checked_examples must print. What passes is worked out from the papers alone: 01, S-1 to S-3 and S-5 to S-9 of 02, and Tables 3 and 4 of source
+"""The text that crates/checked_examples must print. What passes is worked out from the papers alone: 01, S-1 to S-3 and S-5 to S-10 of 02, and Tables 3 and 4 of source
 document 001. Exact fractions, exponentials to a hundred digits, Python's own calendar.
 
     python3 tests/worked_examples.py > /tmp/worked_examples && cmp /tmp/worked_examples crates/checked_examples/stdout
@@ -9,10 +9,11 @@ would differ. Where two numbers pass as the seventh word, or as the low number o
 the two; where that has neither, it is the higher, the exact value rounded down. Nothing else is taken from the stored text.
 
 It fails where a figure of the rating tables is missing from the examples' weights, where a case of one, two or three ratings, of dates, of the IRB section, of
-SEC-IRBA, of the seventh word, of totals by portfolio (S-7), of inferred ratings (S-8), of the unit of risk weights or of the converter (S-9) is met by no example,
-where no line of the examples depends on a coefficient of SEC-IRBA, where a misreading of S-8 or S-9 gives every example the answers that it has, where a weight
-published in source document 004 is not enclosed, where a deal in dates or in hundredths has other lines than the same deal in months or in percent, where a
-conversion breaks a law of S-9, or where the totals by portfolio are not those of the pool. It needs Python's standard library and is no part of the gate.
+SEC-IRBA, of the seventh word, of totals by portfolio (S-7), of inferred ratings (S-8), of the unit of risk weights, of the converter (S-9) or of amendments (S-10)
+is met by no example, where no line of the examples depends on a coefficient of SEC-IRBA, where a misreading of S-8, S-9 or S-10 gives every example the answers that
+it has, where a weight published in source document 004 is not enclosed, where a deal in dates or in hundredths has other lines than the same deal in months or in
+percent, where a conversion breaks a law of S-9, where the totals by portfolio are not those of the pool, or where the sums after an amendment are not those before it
+with the old row's part taken away and the new row's added. It needs Python's standard library and is no part of the gate.
 """
 import os
 import sys
@@ -1906,6 +1907,16 @@ def check_conversions(sheets, texts, lent):
 # ---- the cases of amendments
 
 
+def refusal_in(step):
+    """Number and place where the answer of a step is a refusal, else None."""
+    return refusal_of(step.answer.split(": ")[-1])
+
+
+def meeting(step):
+    """Whether the opened pool of a step meets 13."""
+    return "met" if refusal_of(step.lines[0][0]) else "not met"
+
+
 def refused_amendment_cases(words, amendment, number, place):
     """What a refused amendment of a sheet is an example of."""
     case, length = "%d at %d" % (number, place), len(amendment)
@@ -1924,6 +1935,7 @@ def refused_amendment_cases(words, amendment, number, place):
 
 def unknown_cases(before, after, replaced_rows):
     """What an amendment is an example of, by the rows of unknown status: how they stand to 5% of all exposure before it and after it."""
+
     def side(rows):
         return "within" if pool_charge(rows)[1] else "above"
 
@@ -1960,7 +1972,7 @@ def row_cases(words, amendment, old, new):
     if old[::2] == new[::2] and old[3] == new[3] == 1 and old[1] != new[1]:
         yield "another nominal of a late row alone"
     if 1 < rows:
-        yield "the %s row" % ("first" if number == 1 else "last" if number == rows else "row between")
+        yield "the %s row" % ("first" if number == 1 else "last" if number == rows else "middle")
     if BLOCK_ROWS < number:
         yield "a row of the second block"
 
@@ -1972,8 +1984,8 @@ def replaced_cases(before, amendment, after):
     yield from row_cases(before.sheet, amendment, old, new)
     yield from unknown_cases(deals[0].rows, deals[1].rows, (old, new))
     yield from charges_cases(*deals)
-    yield "facts %d" % before.sheet[0]
-    yield "13 %s, then %s" % tuple("met" if refusal_of(step.lines[0][0]) else "not met" for step in (before, after))
+    yield "facts %d, unit %d" % (before.sheet[0], in_hundredths(before.sheet))
+    yield "13 %s, then %s" % (meeting(before), meeting(after))
     yield "re-securitisation" if deals[0].resecuritised else "STC deal" if deals[0].stc else "ordinary deal"
     if before.sheet[0] > 5 and before.sheet[REPORTING_AT]:
         yield "in dates"
@@ -1986,13 +1998,13 @@ def list_cases(steps, amendments):
     if steps[0].sheet is None:
         yield "not opened, %s" % steps[0].answer
         return
-    yield "opened, 13 %s" % ("met" if refusal_of(steps[0].lines[0][0]) else "not met")
-    good = [not refusal_of(step.answer.split(": ")[1]) for step in steps[1:]]
+    yield "opened, 13 %s" % meeting(steps[0])
+    good = [not refusal_in(step) for step in steps[1:]]
     for before, amendment, after, made in zip(steps, amendments, steps[1:], good):
-        yield from replaced_cases(before, amendment, after) if made else refused_amendment_cases(before.sheet, amendment, *refusal_of(after.answer.split(": ")[1]))
+        yield from replaced_cases(before, amendment, after) if made else refused_amendment_cases(before.sheet, amendment, *refusal_in(after))
     if not amendments:
         yield "no amendments"
-    if any(zip_made == (True, False, True) for zip_made in zip(good, good[1:], good[2:])):
+    if (True, False, True) in zip(good, good[1:], good[2:]):
         yield "a refused one between good ones"
     numbers = [amendment[0] for amendment, made in zip(amendments, good) if made]
     if len(set(numbers)) < len(numbers):
@@ -2153,11 +2165,9 @@ def cut_off(before, number, amendment):
 def written_up_to_the_bad_word(before, number, amendment):
     """The misreading that the words before a bad one are written."""
     after = amended(before, number, amendment)
-    number, place = refusal_of(after.answer.split(": ")[1]) or (0, 0)
-    if place < 2:
-        return after
-    written = with_words(lambda old, new: new[:place - 1] + old[place - 1:])(before.sheet, amendment[:1] + amendment[1:5])
-    return loaded(written)._replace(answer=after.answer)
+    place = (refusal_in(after) or (0, 0))[1]
+    writing = with_words(lambda old, new: new[:place - 1] + old[place - 1:])
+    return loaded(writing(before.sheet, amendment))._replace(answer=after.answer) if place > 1 else after
 
 
 def each_alone(words, amendments):
@@ -2170,7 +2180,7 @@ def up_to_a_refusal(words, amendments):
     """The misreading that a refused amendment ends the list."""
     steps = run(words, amendments)
     for i, step in enumerate(steps):
-        if refusal_of(step.answer.split(": ")[-1]):
+        if refusal_in(step):
             return steps[:i + 1]
     return steps
 
@@ -2221,8 +2231,8 @@ def check_amendments(lists, runs):
     due += ["SEC-IRBA, share %d, the charge %s" % case for case in ((SHARE_LEAST, "moves"), (SHARE_LEAST, "stays"), (MILLION, "stays"))]
     due += ["share %d, the charge moves" % (SHARE_LEAST - 1), "no due diligence, the charge moves", "charge 0"]
     due += ["13 %s, then %s" % case for case in product(("met", "not met"), repeat=2)] + ["opened, 13 met", "opened, 13 not met", "other lines"]
-    due += ["facts %d" % facts for facts in range(FACTS_LEAST, FACTS_MOST + 1)] + ["re-securitisation", "STC deal", "ordinary deal", "in dates"]
-    due += ["the %s row" % which for which in ("first", "last", "row between")] + ["a row of the second block"]
+    due += ["facts %d, unit %d" % case for case in ((4, 0), (5, 0), (6, 0), (7, 0), (7, 1))] + ["re-securitisation", "STC deal", "ordinary deal", "in dates"]
+    due += ["the %s row" % which for which in ("first", "middle", "last")] + ["a row of the second block"]
     due += ["no amendments", "a refused one between good ones", "a row that was replaced before", "the sheet as it was opened"]
     due += ["not opened, refused %d at %d" % case for case in ((1, 0), (1, 21), (3, 22), (6, 8))]
     for name, running in OTHER_LISTS.items():
