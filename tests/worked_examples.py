@@ -2170,6 +2170,27 @@ def written_up_to_the_bad_word(before, number, amendment):
     return loaded(writing(before.sheet, amendment))._replace(answer=after.answer) if place > 1 else after
 
 
+def by_the_opened_row(words, amendments):
+    """The misreading that the part taken away is that of the row as it was opened."""
+
+    def reading(before, after, amendment):
+        old, new = (sums([row_of(sheet, amendment[0])]) for sheet in (words, after.sheet))
+        return after._replace(sums=[s - o + n for s, o, n in zip(before.sums, old, new)])
+
+    return run(words, amendments, amending=partial(amended, reading=reading))
+
+
+def opened_with_further_words(words):
+    """The misreading that 3 is not judged at the opening."""
+    try:
+        return loaded(words)
+    except Refused as r:
+        number, place = r.args
+        if number != 3:
+            raise
+        return loaded(words[:place])
+
+
 def each_alone(words, amendments):
     """The misreading that each amendment is made to the sheet as it was opened."""
     steps = run(words, [])
@@ -2194,6 +2215,8 @@ OTHER_LISTS |= {
     "words after the five passed over": partial(run, amending=cut_off),
     "words written before a refusal": partial(run, amending=written_up_to_the_bad_word),
     "13 judged at the opening": partial(run, opening=lambda words: weighed(words) and loaded(words)),
+    "3 not judged at the opening": partial(run, opening=opened_with_further_words),
+    "the row of the opened sheet taken away": by_the_opened_row,
     "each amendment of the opened sheet": each_alone,
     "a refusal ends the list": up_to_a_refusal,
 }
