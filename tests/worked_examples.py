@@ -1,5 +1,5 @@
 #!/usr/bin/env python3
-"""The text that crates/checked_examples must print. What passes is worked out from the papers alone: 01, S-1 to S-3 and S-5 to S-9 of 02, and Tables 3 and 4 of source
+"""The text that crates/checked_examples must print. What passes is worked out from the papers alone: 01, S-1 to S-3 and S-5 to S-10 of 02, and Tables 3 and 4 of source
 document 001. Exact fractions, exponentials to a hundred digits, Python's own calendar.
 
     python3 tests/worked_examples.py > /tmp/worked_examples && cmp /tmp/worked_examples crates/checked_examples/stdout
@@ -9,10 +9,11 @@ would differ. Where two numbers pass as the seventh word, or as the low number o
 the two; where that has neither, it is the higher, the exact value rounded down. Nothing else is taken from the stored text.
 
 It fails where a figure of the rating tables is missing from the examples' weights, where a case of one, two or three ratings, of dates, of the IRB section, of
-SEC-IRBA, of the seventh word, of totals by portfolio (S-7), of inferred ratings (S-8), of the unit of risk weights or of the converter (S-9) is met by no example,
-where no line of the examples depends on a coefficient of SEC-IRBA, where a misreading of S-8 or S-9 gives every example the answers that it has, where a weight
-published in source document 004 is not enclosed, where a deal in dates or in hundredths has other lines than the same deal in months or in percent, where a
-conversion breaks a law of S-9, or where the totals by portfolio are not those of the pool. It needs Python's standard library and is no part of the gate.
+SEC-IRBA, of the seventh word, of totals by portfolio (S-7), of inferred ratings (S-8), of the unit of risk weights, of the converter (S-9) or of amendments (S-10)
+is met by no example, where no line of the examples depends on a coefficient of SEC-IRBA, where a misreading of S-8, S-9 or S-10 gives every example the answers that
+it has, where a weight published in source document 004 is not enclosed, where a deal in dates or in hundredths has other lines than the same deal in months or in
+percent, where a conversion breaks a law of S-9, where the totals by portfolio are not those of the pool, or where the sums after an amendment are not those before it
+with the old row's part taken away and the new row's added. It needs Python's standard library and is no part of the gate.
 """
 import os
 import sys
@@ -141,6 +142,17 @@ def maturity_fault(word, reporting):
 # ---- the sheet, judged word by word
 
 
+def within(least, most, number):
+    """The fault of a word by its limits: this number outside them, else 0."""
+    return lambda w: 0 if least <= w <= most else number
+
+
+def row_faults(resecuritised, unit):
+    """The faults of the four words of a pool row: exposure, nominal, risk weight in that unit, status."""
+    amount = within(1, 10**10, 5)
+    return amount, amount, within(0, unit.most, 6), within(3, 3, 7) if resecuritised else within(0, 2, 7)
+
+
 def irb_limits(kind):
     """The least and the most of each word of the IRB section of a pool of this kind."""
     return Irb((0, MILLION), (0, MILLION), (1, MILLION), (0, 1), (MILLION if kind == IRB_POOL else 0, MILLION), (0, TOP))
@@ -160,9 +172,6 @@ def judged(words, units=UNITS):
         place += 1
         return words[place - 1]
 
-    def within(least, most, number):
-        return lambda w: 0 if least <= w <= most else number
-
     facts = take(within(FACTS_LEAST, FACTS_MOST, 2))
     kind = take(within(SA_POOL, MIXED_POOL, 4))
     resecuritised, diligence, composition = (take(within(0, 1, 4)) for _ in range(3))
@@ -171,9 +180,8 @@ def judged(words, units=UNITS):
     unit = units[take(within(0, len(units) - 1, 4)) if facts > 6 else 0]
     rows, tranches, last = [], [], 0
     for _ in range(take(within(1, ROWS, 2))):
-        exposure, nominal = take(within(1, 10**10, 5)), take(within(1, 10**10, 5))
-        weight = unit.hundredths(take(within(0, unit.most, 6)))
-        rows.append((exposure, nominal, weight, take(within(3, 3, 7) if resecuritised else within(0, 2, 7))))
+        exposure, nominal, weight, status = map(take, row_faults(resecuritised, unit))
+        rows.append((exposure, nominal, unit.hundredths(weight), status))
     for _ in range(take(within(1, TRANCHES, 2))):
         at = place
         amount = take(within(1, 10**13, 8))
@@ -231,6 +239,11 @@ def by_irba(deal):
 def mixed_charge(deal):
     """The charge under SEC-IRBA: share × IRB charge + rest × base charge, rounded up, with the base charge over all rows."""
     return up(deal.irb.share * deal.irb.charge + (MILLION - deal.irb.share) * mean_weight(deal.rows, 8), MILLION)
+
+
+def charge_of(deal):
+    """The charge of a deal, and whether unknown rows leave SEC-SA."""
+    return (mixed_charge(deal), True) if by_irba(deal) else pool_charge(deal.rows)
 
 
 # ---- inferred ratings
@@ -377,10 +390,10 @@ def limited(deal, approach, senior, raw):
     """Both ends raised to the floor, then lowered to the cap."""
     lowest, cap = parameter_and_floor(deal.resecuritised, deal.stc, senior)[1], cap_of(deal, approach, senior)
 
-    def within(weight):
+    def kept(weight):
         return max(weight, lowest) if cap is None else min(max(weight, lowest), cap)
 
-    return Ends(within(raw.weight), tuple(dict.fromkeys(within(least) for least in raw.least)))
+    return Ends(kept(raw.weight), tuple(dict.fromkeys(kept(least) for least in raw.least)))
 
 
 def irba_ends(deal, tranche, a, d, charge, coefficients):
@@ -432,7 +445,7 @@ def weighed(words, room=LINE_SIZE * TRANCHES, counting=with_ratings_that_count, 
     deal = judging(words)
     if room < LINE_SIZE * len(deal.tranches):
         raise Refused(14, 0)
-    charge, known = (mixed_charge(deal), True) if by_irba(deal) else pool_charge(deal.rows)
+    charge, known = charge_of(deal)
     return charge, [line_of(deal, counting(deal, tranche), charge, known) for tranche in deal.tranches]
 
 
@@ -562,6 +575,88 @@ def conversion(words, output, **other):
 def written_text(answer, output):
     """The text of a conversion: its answer with the words that it wrote."""
     return answer if refusal_of(answer) else "%s: %s" % (answer, spaced(output[:int(answer.split()[1])]))
+
+
+# ---- amendments
+
+# The words of an amendment, "the row number counted from 1 and then the row".
+AMENDMENT_SIZE = 1 + ROW_SIZE
+
+# What is read of a pool that is opened, and again after each amendment: the answer, the sheet, its seven sums, its charge, and its lines in the forms that pass, or
+# 13. Of a sheet that is not opened there is the answer alone.
+Step = namedtuple("Step", "answer sheet sums charge lines", defaults=(None,) * 4)
+
+
+def row_at(words, number):
+    """The place of a pool row by its number."""
+    return words[0] + 2 + ROW_SIZE * (number - 1)
+
+
+def row_of(words, number):
+    """A pool row by its number, its risk weight in hundredths."""
+    return judged(words).rows[number - 1]
+
+
+def amendment_faults(words):
+    """The faults of an amendment's five words: "A row number that is not there gets 2, and a bad row gets 5, 6 or 7 as on loading"."""
+    return within(1, words[words[0] + 1], 2), *row_faults(words[2], UNITS[in_hundredths(words)])
+
+
+def first_bad_word(words, amendment):
+    """The refusal "at the first bad word of the five counted from 0". A word that is not there, or after the five, is none of these."""
+    for place, (word, fault) in enumerate(zip(amendment, amendment_faults(words))):
+        if fault(word):
+            raise Refused(fault(word), place)
+
+
+def missing_word(words, amendment):
+    """"Fewer words get 1 at the amendment's length"."""
+    if len(amendment) < AMENDMENT_SIZE:
+        raise Refused(1, len(amendment))
+
+
+def further_word(words, amendment):
+    """"More get 3 at 5"."""
+    if len(amendment) > AMENDMENT_SIZE:
+        raise Refused(3, AMENDMENT_SIZE)
+
+
+def replaced(words, amendment):
+    """"An amendment replaces one row in the opened pool"."""
+    at = row_at(words, amendment[0])
+    return words[:at] + amendment[1:] + words[at + ROW_SIZE:]
+
+
+def loaded(words):
+    """What is read of a sheet that is opened: all of it by a fresh load. "A sheet that gets a refusal before 14 returns it and is not opened; 13 and 14 are not judged
+    here"."""
+    deal = judged(words)
+    read = lines_read(words, judged)
+    lines = [[read]] if isinstance(read, str) else [[spaced((i, *line)) for line in forms] for i, forms in enumerate(read[1], 1)]
+    return Step("opened", words, sums(deal.rows), charge_of(deal)[0], lines)
+
+
+def amended(before, number, amendment, refusals=(first_bad_word, missing_word, further_word), replacing=replaced, reading=lambda before, after, amendment: after):
+    """What is read of an opened pool after an amendment with that number in its list: what a fresh load of the sheet with the row replaced gives; where it is refused
+    nothing changes."""
+    try:
+        for refusal in refusals:
+            refusal(before.sheet, amendment)
+        after = reading(before, loaded(replacing(before.sheet, amendment)), amendment)
+        return after._replace(answer="amendment %d: row replaced" % number)
+    except Refused as r:
+        return before._replace(answer="amendment %d: %s" % (number, r))
+
+
+def run(words, amendments, opening=loaded, amending=amended):
+    """What is read of a sheet that is opened, and after each of the amendments, one after another."""
+    try:
+        steps = [opening(words)]
+    except Refused as r:
+        return [Step(str(r))]
+    for number, amendment in enumerate(amendments, 1):
+        steps.append(amending(steps[-1], number, amendment))
+    return steps
 
 
 # ---- what the program prints, in its order
@@ -719,18 +814,42 @@ def print_outputs():
 
 
 def read_examples():
-    """The words of each example, by name."""
-    sheets = {}
+    """The words of each example, by name: of the sheets, and of the lists of amendments, which come last and whose first word is 0, no sheet's number of facts."""
+    examples = {}
     for name in open(os.path.join(FOLDER, "args")).read().split():
         text = open(os.path.join(FOLDER, "data", name)).read()
-        sheets[name] = [int(w) for l in text.splitlines() for w in l.split("#")[0].split()]
-    return sheets
+        examples[name] = [int(w) for l in text.splitlines() for w in l.split("#")[0].split()]
+    lists = {name: parts_of(words) for name, words in examples.items() if words[:1] == [0]}
+    return {name: words for name, words in examples.items() if name not in lists}, lists
+
+
+def parts_of(words):
+    """The sheet and the amendments of such an example: after the 0 each is the number of its words, then the words."""
+    parts, at = [], 1
+    while at < len(words):
+        parts.append(words[at + 1:at + 1 + words[at]])
+        at += 1 + words[at]
+    if at != len(words):
+        sys.exit("the last part is shorter than its number of words: %s" % spaced(words))
+    return parts[0], parts[1:]
 
 
 def print_examples(sheets):
     """Prints the report on each example and its totals by portfolio, and returns the reports by name. Leaves in LINES those of the examples alone."""
     LINES.clear()
     return {name: say_texts(name, words) for name, words in sheets.items()}
+
+
+def print_lists(lists):
+    """Prints what is read of each example's sheet that is opened and amended, and returns the steps by name."""
+    runs = {name: run(*parts) for name, parts in lists.items()}
+    for name, steps in runs.items():
+        say([name])
+        for step in steps:
+            say([step.answer])
+            for forms in [["sums " + spaced(step.sums)], ["charge %d" % step.charge], *step.lines] if step.sheet else []:
+                say(forms)
+    return runs
 
 
 def check_tables(texts):
@@ -1785,6 +1904,366 @@ def check_conversions(sheets, texts, lent):
     check_met(due, met)
 
 
+# ---- the cases of amendments
+
+
+def refusal_in(step):
+    """Number and place where the answer of a step is a refusal, else None."""
+    return refusal_of(step.answer.split(": ")[-1])
+
+
+def meeting(step):
+    """Whether the opened pool of a step meets 13."""
+    return "met" if refusal_of(step.lines[0][0]) else "not met"
+
+
+def refused_amendment_cases(words, amendment, number, place):
+    """What a refused amendment of a sheet is an example of."""
+    case, length = "%d at %d" % (number, place), len(amendment)
+    bad = [fault(word) for word, fault in zip(amendment, amendment_faults(words))]
+    if number in (2, 5):
+        yield "%s, %s" % (case, "one past the last row" if number == 2 and amendment[0] == words[words[0] + 1] + 1 else "word %d" % amendment[place])
+    elif number == 6:
+        yield "%s, unit %d, weight %d" % (case, in_hundredths(words), amendment[place])
+    elif number == 7:
+        yield "%s, %s, status %d" % (case, "re-securitisation" if words[2] else "ordinary deal", amendment[place])
+    if length != AMENDMENT_SIZE:
+        yield "%s, words %d" % (case, length)
+    if any(bad[place + 1:]):
+        yield "%s, and a bad word after it" % case
+
+
+def unknown_cases(before, after, replaced_rows):
+    """What an amendment is an example of, by the rows of unknown status: how they stand to 5% of all exposure before it and after it."""
+
+    def side(rows):
+        return "within" if pool_charge(rows)[1] else "above"
+
+    yield "unknown rows %s 5%% to %s" % (side(before), side(after))
+    if side(before) != side(after) and all(row[3] != 2 for row in replaced_rows):
+        yield "unknown rows %s 5%% to %s, by another row" % (side(before), side(after))
+    every, _, _, known, *_ = sums(after)
+    if 20 * (every - known) == every:
+        yield "unknown rows 5%"
+    if known == 0:
+        yield "no known row"
+
+
+def charges_cases(before, after):
+    """What the charges of a deal before and after an amendment are an example of."""
+    moves = "moves" if charge_of(before) != charge_of(after) else "stays"
+    if not before.diligence:
+        yield "no due diligence, the charge %s" % moves
+    elif by_irba(before):
+        yield "SEC-IRBA, share %d, the charge %s" % (before.irb.share, moves)
+    elif before.irb:
+        yield "share %d, the charge %s" % (before.irb.share, moves)
+    if charge_of(after)[0] == 0:
+        yield "charge 0"
+
+
+def row_cases(words, amendment, old, new):
+    """What the row that an amendment replaces in a sheet, and the new one, are an example of. Risk weights are in hundredths."""
+    number, rows, unit = amendment[0], words[words[0] + 1], in_hundredths(words)
+    yield "status %d to %d" % (old[3], new[3])
+    yield from ("exposure %d" % new[0], "nominal %d" % new[1], "unit %d, weight %d" % (unit, amendment[3]))
+    if old == new:
+        yield "the row that stands there"
+    if old[::2] == new[::2] and old[3] == new[3] == 1 and old[1] != new[1]:
+        yield "another nominal of a late row alone"
+    if 1 < rows:
+        yield "the %s row" % ("first" if number == 1 else "last" if number == rows else "middle")
+    if BLOCK_ROWS < number:
+        yield "a row of the second block"
+
+
+def replaced_cases(before, amendment, after):
+    """What an amendment that replaces a row is an example of."""
+    old, new = (row_of(step.sheet, amendment[0]) for step in (before, after))
+    deals = [judged(step.sheet) for step in (before, after)]
+    yield from row_cases(before.sheet, amendment, old, new)
+    yield from unknown_cases(deals[0].rows, deals[1].rows, (old, new))
+    yield from charges_cases(*deals)
+    yield "facts %d, unit %d" % (before.sheet[0], in_hundredths(before.sheet))
+    yield "13 %s, then %s" % (meeting(before), meeting(after))
+    yield "re-securitisation" if deals[0].resecuritised else "STC deal" if deals[0].stc else "ordinary deal"
+    if before.sheet[0] > 5 and before.sheet[REPORTING_AT]:
+        yield "in dates"
+    if len(before.lines) == len(after.lines) and before.lines != after.lines:
+        yield "other lines"
+
+
+def list_cases(steps, amendments):
+    """What the steps of a list of amendments are an example of: the opening, each amendment, and the list."""
+    if steps[0].sheet is None:
+        yield "not opened, %s" % steps[0].answer
+        return
+    yield "opened, 13 %s" % meeting(steps[0])
+    good = [not refusal_in(step) for step in steps[1:]]
+    for before, amendment, after, made in zip(steps, amendments, steps[1:], good):
+        yield from replaced_cases(before, amendment, after) if made else refused_amendment_cases(before.sheet, amendment, *refusal_in(after))
+    if not amendments:
+        yield "no amendments"
+    if (True, False, True) in zip(good, good[1:], good[2:]):
+        yield "a refused one between good ones"
+    numbers = [amendment[0] for amendment, made in zip(amendments, good) if made]
+    if len(set(numbers)) < len(numbers):
+        yield "a row that was replaced before"
+    if any(step.sheet == steps[0].sheet != before.sheet for before, step in zip(steps, steps[1:])):
+        yield "the sheet as it was opened"
+
+
+def check_sums(name, steps, amendments):
+    """Each sum is the one before less the old row's part and with the new row's."""
+    for before, amendment, after in zip(steps, amendments, steps[1:]):
+        if after.sheet != before.sheet:
+            old, new = (sums([row_of(step.sheet, amendment[0])]) for step in (before, after))
+            if after.sums != [s - o + n for s, o, n in zip(before.sums, old, new)]:
+                sys.exit("%s: %s: the sums are not the corrected ones" % (name, after.answer))
+
+
+# The misreadings of S-10: refusals, replacements, sums and lists otherwise.
+
+
+def bad_word(faults_of=amendment_faults, of=min, placed=lambda words, amendment, place: place):
+    """The refusal of a bad word by other faults, of another one of several, or at another place."""
+
+    def refusal(words, amendment):
+        faults = faults_of(words)
+        bad = [place for place, (word, fault) in enumerate(zip(amendment, faults)) if fault(word)]
+        if bad:
+            raise Refused(faults[of(bad)](amendment[of(bad)]), placed(words, amendment, of(bad)))
+
+    return refusal
+
+
+def numbers_within(least, more):
+    """The faults where a row number is at least so much, and so many more than the rows are there."""
+    return lambda words: (within(least, words[words[0] + 1] + more, 2), *amendment_faults(words)[1:])
+
+
+def rows_by(row_faults_of):
+    """The faults where a row is otherwise judged."""
+    return lambda words: (amendment_faults(words)[0], *row_faults_of(words))
+
+
+def at_length(number, place_of):
+    """1 or 3 at another place."""
+
+    def refusal(words, amendment):
+        if (len(amendment) > AMENDMENT_SIZE) if number == 3 else (len(amendment) < AMENDMENT_SIZE):
+            raise Refused(number, place_of(amendment))
+
+    return refusal
+
+
+OTHER_AMENDMENT_REFUSALS = {
+    "3 before a bad word": (further_word, first_bad_word, missing_word),
+    "1 before a bad word": (missing_word, first_bad_word, further_word),
+    "the last bad word decides": (bad_word(of=max), missing_word, further_word),
+    "places counted from 1": (bad_word(placed=lambda words, amendment, place: place + 1), missing_word, further_word),
+    "places of the row": (bad_word(placed=lambda words, amendment, place: max(place - 1, 0)), missing_word, further_word),
+    "places of the sheet": (bad_word(placed=lambda words, amendment, place: row_at(words, amendment[0]) + place - 1), missing_word, further_word),
+    "the last row not there": (bad_word(numbers_within(1, -1)), missing_word, further_word),
+    "1250 the limit in either unit": (bad_word(rows_by(lambda words: row_faults(words[2], PERCENT))), missing_word, further_word),
+    "125,000 the limit in either unit": (bad_word(rows_by(lambda words: row_faults(words[2], HUNDREDTHS))), missing_word, further_word),
+    "a re-securitisation's row as an ordinary deal's": (bad_word(rows_by(lambda words: row_faults(0, UNITS[in_hundredths(words)]))), missing_word, further_word),
+    "1 at 5": (first_bad_word, at_length(1, lambda amendment: AMENDMENT_SIZE), further_word),
+    "1 at the last word": (first_bad_word, at_length(1, lambda amendment: max(len(amendment) - 1, 0)), further_word),
+    "3 at the amendment's length": (first_bad_word, missing_word, at_length(3, len)),
+    "3 at the last word": (first_bad_word, missing_word, at_length(3, lambda amendment: len(amendment) - 1)),
+}
+
+
+def with_words(row_of_words):
+    """The misreading that the new row is another one: made of the words that stand there and of the amendment's."""
+
+    def replacing(words, amendment):
+        at = row_at(words, amendment[0])
+        return replaced(words, [amendment[0], *row_of_words(words[at:at + ROW_SIZE], amendment[1:])])
+
+    return replacing
+
+
+def thin_refused(words, amendment):
+    """The misreading that 13 refuses an amendment."""
+    weighed(replaced(words, amendment))
+    return replaced(words, amendment)
+
+
+OTHER_REPLACEMENTS = {
+    "exposure kept": with_words(lambda old, new: old[:1] + new[1:]),
+    "nominal kept": with_words(lambda old, new: new[:1] + old[1:2] + new[2:]),
+    "risk weight kept": with_words(lambda old, new: new[:2] + old[2:3] + new[3:]),
+    "status kept": with_words(lambda old, new: new[:3] + old[3:]),
+    "exposure and nominal exchanged": with_words(lambda old, new: [new[1], new[0], *new[2:]]),
+    "rows from the last on": lambda words, amendment: replaced(words, [words[words[0] + 1] + 1 - amendment[0], *amendment[1:]]),
+    "13 refuses": thin_refused,
+}
+
+
+def zeros(row, unit):
+    """No part of any sum."""
+    return [0] * 7
+
+
+def part(row, unit):
+    """A row's part of the seven sums."""
+    return sums([row])
+
+
+def corrected(taken, added):
+    """The misreading that the sums are corrected by other parts of the old row and of the new one."""
+
+    def reading(before, after, amendment):
+        unit = UNITS[in_hundredths(before.sheet)]
+        old, new = (row_of(step.sheet, amendment[0]) for step in (before, after))
+        return after._replace(sums=[s - o + n for s, o, n in zip(before.sums, taken(old, unit), added(new, unit))])
+
+    return reading
+
+
+def corrected_by(other):
+    """The same where the old row's part and the new row's are misread alike."""
+    return corrected(other, other)
+
+
+OTHER_READINGS = {
+    "the old row not taken away": corrected(zeros, part),
+    "the new row not added": corrected(part, zeros),
+    "late nominal not corrected": corrected_by(lambda row, unit: part(row, unit)[:6] + [0]),
+    "late nominal by exposure": corrected_by(lambda row, unit: part(row, unit)[:6] + [row[0] if row[3] == 1 else 0]),
+    "weighted exposure not corrected": corrected_by(lambda row, unit: part((*row[:2], 0, row[3]), unit)),
+    "weighted nominal": corrected_by(lambda row, unit: [s if i not in (2, 5) else s // row[0] * row[1] for i, s in enumerate(part(row, unit))]),
+    "known sums not corrected": corrected_by(lambda row, unit: part(row, unit)[:3] + [0] * 3 + part(row, unit)[6:]),
+    "known sums corrected for a row of unknown status": corrected_by(lambda row, unit: part((*row[:3], row[3] % 2), unit)),
+    "the old row's known sums by the new one's status": lambda before, after, amendment: corrected(
+        lambda row, unit: part((*row[:3], amendment[4]), unit), part)(before, after, amendment),
+    "percent taken for hundredths": corrected_by(lambda row, unit: part((*row[:2], row[2] // (100 if unit == PERCENT else 1), row[3]), unit)),
+    "hundredths taken for percent": corrected_by(lambda row, unit: part((*row[:2], row[2] * (1 if unit == PERCENT else 100), row[3]), unit)),
+    "the charge of before": lambda before, after, amendment: after._replace(charge=before.charge),
+    "the lines of before": lambda before, after, amendment: after._replace(lines=before.lines),
+    "the charge of 01 under SEC-IRBA": lambda before, after, amendment: after._replace(charge=pool_charge(judged(after.sheet).rows)[0]),
+}
+
+
+def counted_from_0(words, amendment):
+    """The misreading that rows are counted from 0."""
+    return replaced(words, [amendment[0] + 1, *amendment[1:]])
+
+
+def filled_up(before, number, amendment):
+    """The misreading that missing words are zeros."""
+    return amended(before, number, amendment + [0] * (AMENDMENT_SIZE - len(amendment)))
+
+
+def cut_off(before, number, amendment):
+    """The misreading that words after the five are passed over."""
+    return amended(before, number, amendment[:AMENDMENT_SIZE])
+
+
+def written_up_to_the_bad_word(before, number, amendment):
+    """The misreading that the words before a bad one are written."""
+    after = amended(before, number, amendment)
+    place = (refusal_in(after) or (0, 0))[1]
+    writing = with_words(lambda old, new: new[:place - 1] + old[place - 1:])
+    return loaded(writing(before.sheet, amendment))._replace(answer=after.answer) if place > 1 else after
+
+
+def by_the_opened_row(words, amendments):
+    """The misreading that the part taken away is that of the row as it was opened."""
+
+    def reading(before, after, amendment):
+        old, new = (sums([row_of(sheet, amendment[0])]) for sheet in (words, after.sheet))
+        return after._replace(sums=[s - o + n for s, o, n in zip(before.sums, old, new)])
+
+    return run(words, amendments, amending=partial(amended, reading=reading))
+
+
+def opened_with_further_words(words):
+    """The misreading that 3 is not judged at the opening."""
+    try:
+        return loaded(words)
+    except Refused as r:
+        number, place = r.args
+        if number != 3:
+            raise
+        return loaded(words[:place])
+
+
+def each_alone(words, amendments):
+    """The misreading that each amendment is made to the sheet as it was opened."""
+    steps = run(words, [])
+    return steps if steps[0].sheet is None else steps + [amended(steps[0], number, amendment) for number, amendment in enumerate(amendments, 1)]
+
+
+def up_to_a_refusal(words, amendments):
+    """The misreading that a refused amendment ends the list."""
+    steps = run(words, amendments)
+    for i, step in enumerate(steps):
+        if refusal_in(step):
+            return steps[:i + 1]
+    return steps
+
+
+OTHER_LISTS = {name: partial(run, amending=partial(amended, refusals=refusals)) for name, refusals in OTHER_AMENDMENT_REFUSALS.items()}
+OTHER_LISTS |= {name: partial(run, amending=partial(amended, replacing=replacing)) for name, replacing in OTHER_REPLACEMENTS.items()}
+OTHER_LISTS |= {name: partial(run, amending=partial(amended, reading=reading)) for name, reading in OTHER_READINGS.items()}
+OTHER_LISTS |= {
+    "rows counted from 0": partial(run, amending=partial(amended, refusals=(bad_word(numbers_within(0, -1)), missing_word, further_word), replacing=counted_from_0)),
+    "missing words as zeros": partial(run, amending=filled_up),
+    "words after the five passed over": partial(run, amending=cut_off),
+    "words written before a refusal": partial(run, amending=written_up_to_the_bad_word),
+    "13 judged at the opening": partial(run, opening=lambda words: weighed(words) and loaded(words)),
+    "3 not judged at the opening": partial(run, opening=opened_with_further_words),
+    "the row of the opened sheet taken away": by_the_opened_row,
+    "each amendment of the opened sheet": each_alone,
+    "a refusal ends the list": up_to_a_refusal,
+}
+
+
+def said_of_lists(lists, running):
+    """What is said of all lists of amendments, worked out so."""
+    return [[(step.answer, step.sums, step.charge, step.lines) for step in running(*parts)] for parts in lists.values()]
+
+
+def check_amendments(lists, runs):
+    """Every case of amendments is met, the sums are the corrected ones, a list in hundredths says what the same list in percent does, and every misreading of S-10
+    answers some list otherwise."""
+    met = set()
+    for name, steps in runs.items():
+        check_sums(name, steps, lists[name][1])
+        met.update(list_cases(steps, lists[name][1]))
+    said = dict(zip(lists, said_of_lists(lists, run)))
+    if said["amended_percent_hundredths.txt"] != said["amended_percent.txt"]:
+        sys.exit("amended_percent_hundredths.txt: not what is said of amended_percent.txt")
+    most, amounts = 2**64 - 1, (1, 10**10)
+    due = ["2 at 0, %s" % word for word in ("word 0", "one past the last row", "word %d" % (2**32 + 1), "word %d" % (2**62 + 1), "word %d" % most)]
+    due += ["5 at %d, word %d" % case for case in product((1, 2), (0, 10**10 + 1, most))]
+    due += ["6 at 3, unit %d, weight %d" % case for case in ((0, 1251), (0, most), (1, 125_001), (1, most))]
+    due += ["7 at 4, ordinary deal, status %d" % status for status in (3, 4, most)] + ["7 at 4, re-securitisation, status %d" % status for status in (0, 1, 2, 4)]
+    due += ["1 at %d, words %d" % (length, length) for length in range(AMENDMENT_SIZE)] + ["3 at 5, words %d" % length for length in (6, 10)]
+    due += ["%d at %d, words %d" % (number, place, place + 1) for number, place in ((2, 0), (5, 1), (5, 2), (6, 3))] + ["2 at 0, words 4"]
+    due += ["%d at %d, words 6" % case for case in ((2, 0), (5, 1), (5, 2), (6, 3), (7, 4))]
+    due += ["%d at %d, and a bad word after it" % case for case in ((2, 0), (5, 1), (5, 2), (6, 3))]
+    due += ["%s %d" % case for case in product(("exposure", "nominal"), amounts)]
+    due += ["unit %d, weight %d" % case for case in ((0, 0), (0, 1250), (1, 0), (1, 1251), (1, 12_550), (1, 125_000))]
+    due += ["status %d to %d" % case for case in (*product(range(3), range(3)), (3, 3))] + ["another nominal of a late row alone", "the row that stands there"]
+    due += ["unknown rows %s 5%% to %s" % case for case in product(("within", "above"), repeat=2)]
+    due += ["unknown rows within 5% to above, by another row", "unknown rows 5%", "no known row"]
+    due += ["SEC-IRBA, share %d, the charge %s" % case for case in ((SHARE_LEAST, "moves"), (SHARE_LEAST, "stays"), (MILLION, "stays"))]
+    due += ["share %d, the charge moves" % (SHARE_LEAST - 1), "no due diligence, the charge moves", "charge 0"]
+    due += ["13 %s, then %s" % case for case in product(("met", "not met"), repeat=2)] + ["opened, 13 met", "opened, 13 not met", "other lines"]
+    due += ["facts %d, unit %d" % case for case in ((4, 0), (5, 0), (6, 0), (7, 0), (7, 1))] + ["re-securitisation", "STC deal", "ordinary deal", "in dates"]
+    due += ["the %s row" % which for which in ("first", "middle", "last")] + ["a row of the second block"]
+    due += ["no amendments", "a refused one between good ones", "a row that was replaced before", "the sheet as it was opened"]
+    due += ["not opened, refused %d at %d" % case for case in ((1, 0), (1, 21), (3, 22), (6, 8))]
+    for name, running in OTHER_LISTS.items():
+        due.append("S-10 misread, %s" % name)
+        met.update(due[-1:] if said_of_lists(lists, running) != list(said.values()) else [])
+    check_met(due, met)
+
+
 # ---- published weights
 
 # Annex 1 of source document 004: the example, its row, the weight and the risk-weighted amount. Its maturity of 34.5 months lies between 34 and 35.
@@ -1809,8 +2288,9 @@ if __name__ == "__main__":
     print_pools()
     READ = print_blocks()
     LENT = print_outputs()
-    SHEETS = read_examples()
+    SHEETS, LISTS = read_examples()
     TEXTS = print_examples(SHEETS)
+    RUNS = print_lists(LISTS)
     check_tables(TEXTS)
     check_ratings()
     check_dates(SHEETS, TEXTS)
@@ -1821,4 +2301,5 @@ if __name__ == "__main__":
     check_inferred(SHEETS, TEXTS)
     check_units(SHEETS, TEXTS)
     check_conversions(SHEETS, TEXTS, LENT)
+    check_amendments(LISTS, RUNS)
     check_published(TEXTS)

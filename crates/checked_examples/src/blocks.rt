@@ -136,7 +136,7 @@ fn print_three(t: Totals) {
 }
 
 // Writes a line: the seven sums of a block.
-fn print_sums(q: Sums) {
+pub(crate) fn print_sums(q: Sums) {
     print_three(q.all);
     print_three(q.known);
     print_labelled(b" ", q.late);

@@ -59,7 +59,7 @@ const HUNDREDTHS: [u64; 21] = [
 const UNTOUCHED: u64 = 999;
 
 // Writes a line: words, with a space before each.
-fn print_words(words: &[u64]) {
+pub(crate) fn print_words(words: &[u64]) {
     for i in 0..words.len() {
         print_labelled(b" ", words[i]);
     }
@@ -110,7 +110,7 @@ pub(crate) fn print_converted(sheet: &[u64], many: bool) {
 }
 
 // The words of a sheet's file, and zeros after them.
-fn words_of(file: &[u8]) -> [u64; WORD_LIMIT] {
+pub(crate) fn words_of(file: &[u8]) -> [u64; WORD_LIMIT] {
     let mut words = [0u64; WORD_LIMIT];
     files::load(file, &mut words);
     words

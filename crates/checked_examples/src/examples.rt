@@ -1,4 +1,6 @@
-// The examples that are written as sheets: each argument names one.
+// The examples that are written as sheets, and as sheets with amendments: each argument names one.
+use crate::amendments::is_amended;
+use crate::amendments::print_amended;
 use crate::conversions::print_file_converted;
 use crate::reading;
 use libc::STDOUT_FILENO;
@@ -36,20 +38,29 @@ pub(crate) fn print_texts(file: &[u8]) {
     print_totals(file);
 }
 
-// Writes both texts of a sheet that is written as a text, and how it is converted.
+// Writes both texts of a sheet's file and how it is converted; of an example of amendments what becomes of its opened pool.
+fn print_file(file: &[u8]) {
+    if is_amended(file) {
+        print_amended(file);
+    } else {
+        print_texts(file);
+        print_file_converted(file);
+    }
+}
+
+// Writes what is said of a sheet, or of a sheet and its amendments, that is written as a text.
 fn print_sheet(text: &[u8]) {
     let mut file = [0u8; BYTE_LIMIT];
     let made = sheet_text::sheet_bytes(text, &mut file);
     if let Made::Bytes(n) = made {
         let length = buffers::within(n, &file);
-        print_texts(&file[..length]);
-        print_file_converted(&file[..length]);
+        print_file(&file[..length]);
     } else {
         io::write_all(STDOUT_FILENO, b"no sheet\n");
     }
 }
 
-// Writes the name of an example, both texts of it and how it is converted.
+// Writes the name of an example, and what is said of it.
 fn print_example(i: usize) {
     let mut name = io::buffer();
     let length = os::arg(i, &mut name);

@@ -1,6 +1,7 @@
 // Prints what the library gives for figures and deals whose numbers are known, to be held against the stored text: single figures, refusals that no
 // written sheet can get, the largest deals, pools of many rows and single blocks of them, and each example that an argument names. Of a file it prints the
-// report, then the totals by portfolio; of a sheet then its conversion to the other unit.
+// report, then the totals by portfolio; of a sheet then its conversion to the other unit; of a sheet with amendments what its opened pool is, at first and after each.
+mod amendments;
 mod blocks;
 mod conversions;
 mod edges;
