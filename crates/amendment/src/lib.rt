@@ -6,7 +6,7 @@ ghost use lib.Seq.{sets};
 ghost use Rattle.judgement.specs.DealSheet.{word, weightUnit};
 ghost use Rattle.pool.specs.SummedPool.{OpenedPool};
 ghost use Rattle.amendment.specs.Amendment.{AmendedPool, amendmentFault, amendmentJudged, amendedSheet};
-ghost use Rattle.amendment.specs.OpenedPool.{numbersOf, openedNumbers, Tells};
+ghost use Rattle.amendment.specs.OpenedPool.{Tells};
 ghost use Rattle.amendment.specs.RowPart.{rowPart, partAt, RowLimits, totalsExchanged, exchanged, TotalsExchange, Exchange, Replaceable};
 use charge::Sums;
 use charge::Totals;
@@ -18,13 +18,7 @@ use judgement::judge_word;
 use judgement::sheet::read_layout;
 use judgement::sheet::word_at;
 use limits::ROW_SIZE;
-use pool::Pool;
-
-// What a sheet is opened to: its pool's seven sums; or the refusal that its words get, and it is not opened.
-pub enum Opening {
-    Opened(Sums),
-    Refused(Refusal),
-}
+use pool::Opening;
 
 // What became of an amendment: the verdict on it, and the pool's sums after it.
 pub struct Amended {
@@ -169,17 +163,6 @@ fn replace_row(sheet: &mut [u64], sums: Sums, hundredths: bool, at: usize, m: &[
     sums_exchanged(sums, old, new)
 }
 
-// Opens a sheet's pool: 13 and 14 are not judged here.
-pub fn open_pool(sheet: &[u64]) -> Opening
-    ensures { λ r. ⌜ numbersOf r ≡ openedNumbers (now (sheet .entry)) ⌝ }
-{
-    let pool = pool::sum_pool(sheet);
-    match pool {
-        Pool::Summed(_layout, sums) => Opening::Opened(sums),
-        Pool::Refused(r) => Opening::Refused(r),
-    }
-}
-
 // Whether two totals are the same.
 fn same_totals(t: Totals, u: Totals) -> bool
     ensures { λ r. ⌜ Tells r (t ≡ u) ⌝ }
@@ -210,7 +193,7 @@ fn same_sums(p: Sums, q: Sums) -> bool
 pub fn is_opened(sheet: &[u64], sums: Sums) -> bool
     ensures { λ r. ⌜ Tells r (OpenedPool (now (sheet .entry)) sums) ⌝ }
 {
-    let opening = open_pool(sheet);
+    let opening = pool::open_pool(sheet);
     match opening {
         Opening::Opened(afresh) => same_sums(sums, afresh),
         Opening::Refused(_r) => false,

@@ -9,13 +9,13 @@ use crate::conversions::words_of;
 use crate::conversions::words_within;
 use crate::edges::print_refusal;
 use crate::figures::print_labelled;
-use amendment::Opening;
 use charge::Sums;
 use deal::Answer;
 use judgement::Verdict;
 use libc::STDOUT_FILENO;
 use limits::LINE_SIZE;
 use limits::RESULT_ROOM;
+use pool::Opening;
 
 // Writes a line for each of so many tranches: its number, from 1, and its words.
 fn print_lines(count: u64, results: &[u64]) {
@@ -92,7 +92,7 @@ fn print_run(sheet: &mut [u64], opened: Sums, list: &[u64])
 
 // Opens a sheet, and writes what its pool is and what becomes of it by each amendment of a list; or the refusal.
 fn print_opening(sheet: &mut [u64], list: &[u64]) {
-    let opening = amendment::open_pool(sheet);
+    let opening = pool::open_pool(sheet);
     match opening {
         Opening::Opened(sums) => {
             io::write_all(STDOUT_FILENO, b"opened\n");

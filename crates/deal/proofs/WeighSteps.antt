@@ -1,6 +1,6 @@
 -- The verdict on a sheet in the order in which it is found, and what answer and results it makes. No axioms.
 use mathlib.Core.List.{List, _++_}
-use mathlib.Core.Path.{_≡_, sym, _∙_}
+use mathlib.Core.Path.{_≡_, sym}
 use Prim.Native.Nat.{ℕ, _*_, _≤_, _<_}
 use lib.ListN.{length, drop}
 use borrow.Author.Tests.{lt-ltb, le-ltb}
@@ -8,7 +8,6 @@ use Rattle.limits.specs.SheetSize.{lineSize}
 use Rattle.charge.specs.SumLimits.{SumLimits, IrbLimits}
 use Rattle.charge.specs.declared.Sums.{Sums}
 use Rattle.judgement.specs.DealSheet.{trancheCount, layout}
-use Rattle.judgement.specs.ReadLayout.{layoutRead}
 use Rattle.judgement.specs.LaidOut.{LaidOut}
 use Rattle.judgement.specs.Refusals.{refused, firstOf, wordsVerdict}
 use Rattle.judgement.specs.declared.Layout.{Layout}
@@ -16,7 +15,6 @@ use Rattle.judgement.specs.declared.Refusal.{Refusal}
 use Rattle.judgement.specs.declared.Verdict.{Verdict}
 use Rattle.judgement.specs.declared.Verdict.the-variants.{Sound, Faulty}
 use Rattle.judgement.proofs.JudgeSteps.{needed-sound}
-use Rattle.judgement.proofs.ReadLayout.{layout-read}
 use Rattle.judgement.proofs.WordsLaw.{laid-out}
 use Rattle.pool.specs.SummedPool.{OpenPool}
 use Rattle.pool.proofs.PoolLaws.{sum-limits}
@@ -42,11 +40,6 @@ unfolding layout
 open-limits s l q pool =
     let good = needed-sound s (pool .sound) in
     (rw (pool .are-sums) (sum-limits s good), rw (pool .is-layout) (irb-limits s good))
-
--- the layout that is read of an opened pool's sheet is its own
-pub open-read : (s : List ℕ) (l : Layout) (q : Sums) → OpenPool s (layout s) q → l ≡ layoutRead s → OpenPool s l q
-open-read s l q pool read =
-    record { sound = pool .sound; is-layout = read ∙ layout-read s (needed-sound s (pool .sound)); are-sums = pool .are-sums }
 
 -- ---- words and 3, then the room for results, then thickness
 

@@ -22,7 +22,7 @@ use judgement::Refusal;
 use judgement::Verdict;
 use limits::LINE_SIZE;
 use limits::TRANCHES_MOST;
-use pool::Pool;
+use pool::Opening;
 use weights::Terms;
 
 // What a sheet gets: all its lines, with their count and the pool charge in millionths; or one refusal.
@@ -106,22 +106,6 @@ fn weigh_pool(sheet: &[u64], l: Layout, sums: Sums, results: &mut [u64]) -> Answ
     }
 }
 
-// Weighs every tranche of a deal sheet: seven words per tranche into the results, later words untouched; or one refusal, with the results as they
-// were. The first two promises settle the answer and the results; the other two say how the formula's raw weight and the number from which the seventh word starts are limited
-// where 01 and 02 leave them open.
-pub fn weigh(sheet: &[u64], results: &mut [u64]) -> Answer
-    ensures { λ r. ⌜ replyOf r ≡ replyTo (now (sheet .entry)) (length (now (results .entry))) ⌝ }
-    ensures { λ r. ⌜ now (results .exit) ≡ resultsAfter (now (sheet .entry)) (now (results .entry)) ⌝ }
-    ensures { λ r. ⌜ KeepsDemandThree (now (sheet .entry)) (length (now (results .entry))) (now (results .exit)) ⌝ }
-    ensures { λ r. ⌜ KeepsSeventhWord (now (sheet .entry)) (length (now (results .entry))) (now (results .exit)) ⌝ }
-{
-    let pool = pool::sum_pool(sheet);
-    match pool {
-        Pool::Summed(layout, sums) => weigh_pool(sheet, layout, sums, results),
-        Pool::Refused(r) => Answer::Refused(r),
-    }
-}
-
 // Weighs every tranche of an opened pool, of which neither words nor sums are worked out anew: what `weigh` gives for its sheet.
 pub fn weigh_opened(sheet: &[u64], sums: Sums, results: &mut [u64]) -> Answer
     requires { ⌜ OpenedPool (now sheet) sums ⌝ }
@@ -132,6 +116,22 @@ pub fn weigh_opened(sheet: &[u64], sums: Sums, results: &mut [u64]) -> Answer
 {
     let l = judgement::sheet::read_layout(sheet);
     weigh_pool(sheet, l, sums, results)
+}
+
+// Weighs every tranche of a deal sheet: seven words per tranche into the results, later words untouched; or one refusal, with the results as they
+// were. The first two promises settle the answer and the results; the other two say how the formula's raw weight and the number from which the seventh word starts are limited
+// where 01 and 02 leave them open.
+pub fn weigh(sheet: &[u64], results: &mut [u64]) -> Answer
+    ensures { λ r. ⌜ replyOf r ≡ replyTo (now (sheet .entry)) (length (now (results .entry))) ⌝ }
+    ensures { λ r. ⌜ now (results .exit) ≡ resultsAfter (now (sheet .entry)) (now (results .entry)) ⌝ }
+    ensures { λ r. ⌜ KeepsDemandThree (now (sheet .entry)) (length (now (results .entry))) (now (results .exit)) ⌝ }
+    ensures { λ r. ⌜ KeepsSeventhWord (now (sheet .entry)) (length (now (results .entry))) (now (results .exit)) ⌝ }
+{
+    let opening = pool::open_pool(sheet);
+    match opening {
+        Opening::Opened(sums) => weigh_opened(sheet, sums, results),
+        Opening::Refused(r) => Answer::Refused(r),
+    }
 }
 
 // The charge of an opened pool, in millionths, SEC-IRBA included: that of the answer to its sheet.

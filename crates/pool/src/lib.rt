@@ -7,7 +7,7 @@ ghost use Rattle.judgement.specs.DealSheet.{word, rows, rowAt, weightUnit, risk
 ghost use Rattle.judgement.specs.LaidOut.{LaidOut};
 ghost use Rattle.pool.specs.PoolSums.{poolSums};
 ghost use Rattle.pool.specs.BlockSums.{blockSums, sumWords, sumsOf};
-ghost use Rattle.pool.specs.SummedPool.{numbersOf, poolNumbers};
+ghost use Rattle.pool.specs.SummedPool.{numbersOf, openedNumbers};
 ghost use Rattle.pool.specs.SummedBlock.{numbersOf as blockNumbersOf, blockNumbers, sumsRead};
 ghost use Rattle.pool.specs.RowTotals.{totalsFrom, sumsFrom, markedFrom, withRow, withMarked, totalsAdded, withBlock, TotalsOfRows, MarkedOfRows, SumsOfRows, Subtotals};
 use charge::Sums;
@@ -21,9 +21,9 @@ use limits::ROW_SIZE;
 use numbers::rounded_up;
 use numbers::smaller;
 
-// What a sheet's pool comes to: its sums, with what is read of the sheet; or the refusal that the words get.
-pub enum Pool {
-    Summed(Layout, Sums),
+// What a sheet's pool is opened to: its seven sums; or the refusal that the words get, and it is not opened.
+pub enum Opening {
+    Opened(Sums),
     Refused(Refusal),
 }
 
@@ -255,15 +255,15 @@ fn pool_sums(s: &[u64], l: Layout) -> Sums
     over_blocks(s, l)
 }
 
-// The sums of a sheet's pool; or the refusal that its words get. Neither the room for results nor the tranches' thickness is judged here. `numbersOf` gives 01's
-// number and place of a refusal, and where there is none the sums with what is read of the sheet.
-pub fn sum_pool(s: &[u64]) -> Pool
-    ensures { λ r. ⌜ numbersOf r ≡ poolNumbers (now (s .entry)) ⌝ }
+// Opens a sheet's pool: its seven sums; or the refusal that its words get. Neither the room for results nor the tranches' thickness is judged here. `numbersOf` gives 01's
+// number and place of a refusal, and where there is none the sums.
+pub fn open_pool(s: &[u64]) -> Opening
+    ensures { λ r. ⌜ numbersOf r ≡ openedNumbers (now (s .entry)) ⌝ }
 {
     let words = judgement::judge_words(s);
     match words {
-        Words::Good(layout) => Pool::Summed(layout, pool_sums(s, layout)),
-        Words::Bad(r) => Pool::Refused(r),
+        Words::Good(layout) => Opening::Opened(pool_sums(s, layout)),
+        Words::Bad(r) => Opening::Refused(r),
     }
 }
 

@@ -17,11 +17,12 @@ use crate::text::put_labelled;
 use crate::text::put_number;
 use charge::Sums;
 use judgement::Layout;
+use judgement::sheet::read_layout;
 use limits::BLOCK_SIZE;
 use limits::WORD_LIMIT;
 use numbers::rounded_up;
 use numbers::smaller;
-use pool::Pool;
+use pool::Opening;
 
 // Writes a line of seven sums.
 fn put_sums(q: Sums, at: usize, out: &mut [u8]) -> usize
@@ -90,10 +91,10 @@ fn put_sheet(sheet: &[u64], out: &mut [u8]) -> usize
     ensures { λ r. ⌜ r ≡ length (totalsFor (now (sheet .entry)) (wordsVerdict (now (sheet .entry)))) ⌝ }
     ensures { λ r. ⌜ now (out .exit) ≡ sets (now (out .entry)) 0 (totalsFor (now (sheet .entry)) (wordsVerdict (now (sheet .entry)))) ⌝ }
 {
-    let pool = pool::sum_pool(sheet);
-    match pool {
-        Pool::Summed(layout, sums) => put_totals(sheet, layout, sums, out),
-        Pool::Refused(r) => put_labelled(b"refused ", r.number, b" at ", r.place, 0, out),
+    let opening = pool::open_pool(sheet);
+    match opening {
+        Opening::Opened(sums) => put_totals(sheet, read_layout(sheet), sums, out),
+        Opening::Refused(r) => put_labelled(b"refused ", r.number, b" at ", r.place, 0, out),
     }
 }
 

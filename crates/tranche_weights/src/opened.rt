@@ -3,17 +3,16 @@
 ghost use mathlib.Core.Path.{_≡_};
 ghost use lib.ListN.{length};
 ghost use Rattle.pool.specs.BlockSums.{sumsOf};
-ghost use Rattle.pool.specs.SummedPool.{OpenedPool};
+ghost use Rattle.pool.specs.SummedPool.{OpenedPool, numbersOf as numbersOfOpening, openedNumbers};
 ghost use Rattle.deal.specs.DemandThree.{KeepsDemandThree, KeepsSeventhWord};
 ghost use Rattle.deal.specs.Lines.{terms};
 ghost use Rattle.deal.specs.Results.{replyTo, resultsAfter};
 ghost use Rattle.amendment.specs.Amendment.{numbersOf};
-ghost use Rattle.amendment.specs.OpenedPool.{numbersOf as numbersOfOpening, openedNumbers};
 ghost use Rattle.tranche_weights.specs.FourNumbers.{fourNumbers};
 ghost use Rattle.tranche_weights.specs.OpenedReply.{refusalReply, replyFor, sumsAfter, ToldByWord, AmendedWords};
 use crate::put_answer;
-use amendment::Opening;
 use judgement::Verdict;
+use pool::Opening;
 use pool::SUM_WORDS;
 
 // What a sheet is opened to as a program in C gets it: the refusal's number, 0 where there is none, and its place; the sums are written where there is none.
@@ -34,7 +33,7 @@ fn put_opening(opening: Opening, place: &mut u64, sums: &mut [u64; SUM_WORDS]) -
     }
 }
 
-// Opens a deal sheet's pool, as amendment::open_pool does: its seven sums, left as they were where the sheet is refused.
+// Opens a deal sheet's pool, as pool::open_pool does: its seven sums, left as they were where the sheet is refused.
 #[no_mangle]
 pub extern "C" fn tranche_weights_open_pool_v10(
     sheet: &[u64],
@@ -44,7 +43,7 @@ pub extern "C" fn tranche_weights_open_pool_v10(
     ensures { λ r. ⌜ refusalReply r (now (place .exit)) ≡ replyFor (openedNumbers (now (sheet .entry))) ⌝ }
     ensures { λ r. ⌜ now (sums .exit) ≡ sumsAfter (openedNumbers (now (sheet .entry))) (now (sums .entry)) ⌝ }
 {
-    let opening = amendment::open_pool(sheet);
+    let opening = pool::open_pool(sheet);
     put_opening(opening, place, sums)
 }
 

@@ -1,9 +1,10 @@
 -- `is_opened`: the sheet is opened afresh, and the sums are held to those found. No axioms.
 use mathlib.Core.Path.{sym, ap, _∙_}
 use borrow.Author.Needs.{needs}
-use Rattle.amendment.specs.OpenedPool.{numbersOf}
+use Rattle.pool.specs.SummedPool.{numbersOf}
+use Rattle.pool.proofs.SummedPoolLaw.{refused-is-not-open}
 use Rattle.amendment.proofs.SameSums.{tells-no}
-use Rattle.amendment.proofs.OpenedLaw.{told-by-sums, refused-is-not-open}
+use Rattle.amendment.proofs.OpenedLaw.{told-by-sums}
 use Rattle.amendment.proofs.is_opened.Statement.{statement}
 use Rattle.amendment.proofs.is_opened.Tie as tie
 

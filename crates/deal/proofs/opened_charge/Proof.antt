@@ -1,7 +1,8 @@
 -- `opened_charge`: the terms are those of the sheet. No axioms.
 use mathlib.Core.Path.{_∙_, ap}
 use Rattle.weights.specs.declared.Terms.{Terms}
-use Rattle.deal.proofs.WeighSteps.{open-read, open-limits, open-terms}
+use Rattle.pool.proofs.SummedPoolLaw.{open-read}
+use Rattle.deal.proofs.WeighSteps.{open-limits, open-terms}
 use borrow.Author.Needs.{needs}
 use Rattle.deal.proofs.opened_charge.Statement.{statement}
 use Rattle.deal.proofs.opened_charge.Tie as tie

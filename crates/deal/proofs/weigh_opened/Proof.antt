@@ -1,5 +1,5 @@
 -- `weigh_opened`: the layout that is read is the sheet's. No axioms.
-use Rattle.deal.proofs.WeighSteps.{open-read}
+use Rattle.pool.proofs.SummedPoolLaw.{open-read}
 use borrow.Author.Needs.{needs}
 use Rattle.deal.proofs.weigh_opened.Statement.{statement}
 use Rattle.deal.proofs.weigh_opened.Tie as tie

@@ -1,8 +1,8 @@
 -- `print_opening` is safe: what a sheet is opened to is an opened pool. No axioms.
 use mathlib.Core.Path.{sym, ap, _∙_}
 use borrow.Author.Needs.{needs}
-use Rattle.amendment.specs.OpenedPool.{numbersOf}
-use Rattle.amendment.proofs.OpenedLaw.{opened-is-open}
+use Rattle.pool.specs.SummedPool.{numbersOf}
+use Rattle.pool.proofs.SummedPoolLaw.{opened-means}
 use Rattle.checked_examples.proofs.amendments.print_opening.Statement.{statement}
 use Rattle.checked_examples.proofs.amendments.print_opening.Tie as tie
 
@@ -19,10 +19,10 @@ write-all-requires : tie.Need-write-all-requires
 write-all-requires c κs = search needs
 
 print-pool-requires : tie.Need-print-pool-requires
-print-pool-requires c κs = let start = c .before .before .before .before in opened-is-open _ _ (ap numbersOf (sym (start .opening .given .1)) ∙ start .before .before .open-pool .ensures)
+print-pool-requires c κs = let start = c .before .before .before .before in opened-means _ _ (ap numbersOf (sym (start .opening .given .1)) ∙ start .before .before .open-pool .ensures)
 
 print-run-requires : tie.Need-print-run-requires
-print-run-requires c κs = let start = c .before .before .before .before .before .before in opened-is-open _ _ (ap numbersOf (sym (start .opening .given .1)) ∙ start .before .before .open-pool .ensures)
+print-run-requires c κs = let start = c .before .before .before .before .before .before in opened-means _ _ (ap numbersOf (sym (start .opening .given .1)) ∙ start .before .before .open-pool .ensures)
 
 enum-known-opening-2 : tie.Need-enum-known-opening-2
 enum-known-opening-2 c = search needs

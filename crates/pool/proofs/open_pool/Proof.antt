@@ -1,9 +1,9 @@
--- `sum_pool`: where the words are good the sums are those of the sheet's pool, and a refusal by the words is handed on. No axioms.
+-- `open_pool`: where the words are good the sums are those of the sheet's pool, and a refusal by the words is handed on. No axioms.
 use borrow.Author.Needs.{needs}
 use Rattle.judgement.proofs.WordsLaw.{good-words, bad-words, laid-out}
-use Rattle.pool.proofs.SummedPoolLaw.{summed-pool, refused-pool}
-use Rattle.pool.proofs.sum_pool.Statement.{statement}
-use Rattle.pool.proofs.sum_pool.Tie as tie
+use Rattle.pool.proofs.SummedPoolLaw.{opened-pool, refused-pool}
+use Rattle.pool.proofs.open_pool.Statement.{statement}
+use Rattle.pool.proofs.open_pool.Tie as tie
 
 judge-words-requires : tie.Need-judge-words-requires
 judge-words-requires c κs = search needs
@@ -22,13 +22,13 @@ enum-known-words-2 c = search needs
 returns : tie.Need-returns
 returns c =
     let both = good-words _ _ _ (c .before .before .before .before .judge-words .ensures .0) (c .before .before .words .given .1) in
-    summed-pool _ _ _ (both .0) (both .1) (c .pool-sums .ensures)
+    opened-pool _ _ (both .0) (c .pool-sums .ensures)
 
 returns-2 : tie.Need-returns-2
 returns-2 c = refused-pool _ _ (bad-words _ _ _ (c .before .before .before .judge-words .ensures .0) (c .before .words2 .given .1))
 
-pub sum-pool-spec : {M : Type 1} → statement M
-sum-pool-spec =
+pub open-pool-spec : {M : Type 1} → statement M
+open-pool-spec =
     tie.close
     (tie.spec
     judge-words-requires
