@@ -15,7 +15,7 @@ use faults::row_fault;
 use judgement::Refusal;
 use judgement::Verdict;
 use judgement::judge_word;
-use judgement::sheet::read_layout;
+use judgement::sheet::in_hundredths;
 use judgement::sheet::word_at;
 use limits::ROW_SIZE;
 use pool::Opening;
@@ -70,8 +70,8 @@ fn judge_amendment(resecuritised: bool, hundredths: bool, rows: u64, m: &[u64]) 
     Verdict::Sound
 }
 
-// The hundredths of a percent that one unit of a risk weight word is, times the word.
-fn in_hundredths(hundredths: bool, weight: u64) -> u64
+// A risk weight in hundredths of a percent, from its word.
+fn risk_weight(hundredths: bool, weight: u64) -> u64
     requires { ⌜ weightUnit hundredths * weight ≤ 125000 ⌝ }
     ensures { λ r. ⌜ r ≡ weightUnit hundredths * weight ⌝ }
 {
@@ -86,7 +86,7 @@ fn row_part(hundredths: bool, exposure: u64, nominal: u64, weight: u64, status: 
     let all = Totals {
         exposure,
         nominal,
-        weighted: exposure * in_hundredths(hundredths, weight),
+        weighted: exposure * risk_weight(hundredths, weight),
     };
     if status == 2 {
         return Sums {
@@ -200,20 +200,24 @@ pub fn is_opened(sheet: &[u64], sums: Sums) -> bool
     }
 }
 
-// Amends an opened pool, whose sums go in by value and come out with the verdict; a refused amendment changes nothing.
+// Amends an opened pool, whose sums go in by value and come out with the verdict; a refused amendment changes nothing. What it is judged by is read of the sheet: the number of rows, their
+// unit and the kind of deal.
 pub fn amend_rows(sheet: &mut [u64], sums: Sums, amendment: &[u64]) -> Amended
     requires { ⌜ OpenedPool (now sheet) sums ⌝ }
     ensures { λ r. ⌜ AmendedPool (now (sheet .entry)) (now (amendment .entry)) (now (sheet .exit)) (r .verdict) (r .sums) ⌝ }
 {
-    let l = read_layout(sheet);
-    let verdict = judge_amendment(l.resecuritisation, l.hundredths, l.rows, amendment);
+    let pool = 1 + word_at(sheet, 0);
+    let rows = word_at(sheet, pool);
+    let resecuritised = word_at(sheet, 2) == 1;
+    let hundredths = in_hundredths(sheet);
+    let verdict = judge_amendment(resecuritised, hundredths, rows, amendment);
     let Verdict::Sound = verdict else {
         return Amended { verdict, sums };
     };
-    let at = l.first_row + ROW_SIZE * (amendment[0] - 1) as usize;
+    let at = pool as usize + 1 + ROW_SIZE * (amendment[0] - 1) as usize;
     Amended {
         verdict,
-        sums: replace_row(sheet, sums, l.hundredths, at, amendment),
+        sums: replace_row(sheet, sums, hundredths, at, amendment),
     }
 }
 

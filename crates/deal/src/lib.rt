@@ -20,6 +20,7 @@ use irba::IrbFigures;
 use judgement::Layout;
 use judgement::Refusal;
 use judgement::Verdict;
+use judgement::sheet::read_layout;
 use limits::LINE_SIZE;
 use limits::TRANCHES_MOST;
 use pool::Opening;
@@ -74,36 +75,64 @@ fn terms_of(l: Layout, q: Sums) -> Terms
     }
 }
 
+// What the weighing of an opened pool comes to: the answer, and the pool charge, whatever the answer.
+struct Weighing {
+    answer: Answer,
+    charge: u64,
+}
+
 // Weighs every tranche of a sheet whose pool is opened. Everything is decided before the first word is written: the room for results, then the tranches'
-// thickness.
-fn weigh_pool(sheet: &[u64], l: Layout, sums: Sums, results: &mut [u64]) -> Answer
+// thickness. The charge is worked out first, for whoever asks for it alone.
+fn weigh_pool(sheet: &[u64], l: Layout, sums: Sums, results: &mut [u64]) -> Weighing
     requires { ⌜ OpenPool (now sheet) l sums ⌝ }
-    ensures { λ r. ⌜ replyOf r ≡ replyTo (now (sheet .entry)) (length (now (results .entry))) ⌝ }
+    ensures { λ r. ⌜ r .charge ≡ terms (now (sheet .entry)) .charge ⌝ }
+    ensures { λ r. ⌜ replyOf (r .answer) ≡ replyTo (now (sheet .entry)) (length (now (results .entry))) ⌝ }
     ensures { λ r. ⌜ now (results .exit) ≡ resultsAfter (now (sheet .entry)) (now (results .entry)) ⌝ }
     ensures { λ r. ⌜ KeepsDemandThree (now (sheet .entry)) (length (now (results .entry))) (now (results .exit)) ⌝ }
     ensures { λ r. ⌜ KeepsSeventhWord (now (sheet .entry)) (length (now (results .entry))) (now (results .exit)) ⌝ }
 {
+    let terms = terms_of(l, sums);
+    let charge = terms.charge;
     let count = l.tranches;
     if (results.len() as u64) < LINE_SIZE as u64 * count {
-        return Answer::Refused(Refusal {
+        let short = Answer::Refused(Refusal {
             number: 14,
             place: 0,
         });
+        return Weighing {
+            answer: short,
+            charge,
+        };
     }
-    let terms = terms_of(l, sums);
     let mut points = [WHOLE_POOL; POINTS];
     tranches::class_points(sheet, l, sums.all.nominal, &mut points);
     let mut taken = [0u8; TRANCHES_MOST];
     inferred::take_rows(sheet, l, terms, &mut taken);
     let thickness = tranches::judge_thickness(sheet, l, terms, &points, &taken);
     if let Verdict::Faulty(r) = thickness {
-        return Answer::Refused(r);
+        return Weighing {
+            answer: Answer::Refused(r),
+            charge,
+        };
     }
     lines::write_lines(sheet, l, terms, &points, &taken, results);
-    Answer::Weighed {
-        count,
-        charge: terms.charge,
+    Weighing {
+        answer: Answer::Weighed { count, charge },
+        charge,
     }
+}
+
+// The same of an opened pool, whose layout is read of the sheet.
+fn weigh_sums(sheet: &[u64], sums: Sums, results: &mut [u64]) -> Weighing
+    requires { ⌜ OpenedPool (now sheet) sums ⌝ }
+    ensures { λ r. ⌜ r .charge ≡ terms (now (sheet .entry)) .charge ⌝ }
+    ensures { λ r. ⌜ replyOf (r .answer) ≡ replyTo (now (sheet .entry)) (length (now (results .entry))) ⌝ }
+    ensures { λ r. ⌜ now (results .exit) ≡ resultsAfter (now (sheet .entry)) (now (results .entry)) ⌝ }
+    ensures { λ r. ⌜ KeepsDemandThree (now (sheet .entry)) (length (now (results .entry))) (now (results .exit)) ⌝ }
+    ensures { λ r. ⌜ KeepsSeventhWord (now (sheet .entry)) (length (now (results .entry))) (now (results .exit)) ⌝ }
+{
+    let l = read_layout(sheet);
+    weigh_pool(sheet, l, sums, results)
 }
 
 // Weighs every tranche of an opened pool, of which neither words nor sums are worked out anew: what `weigh` gives for its sheet.
@@ -114,8 +143,8 @@ pub fn weigh_opened(sheet: &[u64], sums: Sums, results: &mut [u64]) -> Answer
     ensures { λ r. ⌜ KeepsDemandThree (now (sheet .entry)) (length (now (results .entry))) (now (results .exit)) ⌝ }
     ensures { λ r. ⌜ KeepsSeventhWord (now (sheet .entry)) (length (now (results .entry))) (now (results .exit)) ⌝ }
 {
-    let l = judgement::sheet::read_layout(sheet);
-    weigh_pool(sheet, l, sums, results)
+    let weighing = weigh_sums(sheet, sums, results);
+    weighing.answer
 }
 
 // Weighs every tranche of a deal sheet: seven words per tranche into the results, later words untouched; or one refusal, with the results as they
@@ -139,7 +168,7 @@ pub fn opened_charge(sheet: &[u64], sums: Sums) -> u64
     requires { ⌜ OpenedPool (now sheet) sums ⌝ }
     ensures { λ r. ⌜ r ≡ terms (now (sheet .entry)) .charge ⌝ }
 {
-    let l = judgement::sheet::read_layout(sheet);
-    let t = terms_of(l, sums);
-    t.charge
+    let mut no_room = [0u64; 1];
+    let weighing = weigh_sums(sheet, sums, &mut no_room);
+    weighing.charge
 }

@@ -14,8 +14,8 @@ use crate::sheet::end_of;
 use crate::sheet::fact_at;
 use crate::sheet::in_hundredths;
 use crate::sheet::irb_at;
+use crate::sheet::layout_of;
 use crate::sheet::pool_at;
-use crate::sheet::read_layout;
 use crate::sheet::row_at;
 use crate::sheet::row_count;
 use crate::sheet::tranche_at;
@@ -318,7 +318,7 @@ pub fn judge_words(s: &[u64]) -> Words
     if let Verdict::Faulty(r) = words {
         return Words::Bad(r);
     }
-    let layout = read_layout(s);
+    let layout = layout_of(s);
     let end = end_of(s);
     if end < s.len() as u64 {
         return Words::Bad(Refusal {

@@ -3,7 +3,7 @@
 ghost use mathlib.Core.Path.{_≡_};
 ghost use Prim.Native.Nat.{_+_, _≤_, _<_};
 ghost use Rattle.limits.specs.SheetSize.{irbSize, placeLimit};
-ghost use Rattle.judgement.specs.DealSheet.{word, fact, inHundredths, poolAt, rows, rowAt, tranchesAt, trancheCount, trancheAt, irbAt, irbPlace, irbFigures, needed};
+ghost use Rattle.judgement.specs.DealSheet.{word, fact, inHundredths, poolAt, rows, rowAt, tranchesAt, trancheCount, trancheAt, irbAt, irbPlace, irbFigures, needed, layout};
 ghost use Rattle.judgement.specs.ReadLayout.{layoutRead};
 ghost use Rattle.judgement.specs.Refusals.{judged};
 ghost use Rattle.judgement.specs.declared.Verdict.the-variants.{Sound};
@@ -32,7 +32,7 @@ pub(crate) fn fact_at(s: &[u64], n: u64) -> u64
 }
 
 // Whether risk weights are in hundredths of a percent, which the seventh fact says.
-pub(crate) fn in_hundredths(s: &[u64]) -> bool
+pub fn in_hundredths(s: &[u64]) -> bool
     ensures { λ r. ⌜ r ≡ inHundredths (now (s .entry)) ⌝ }
 {
     fact_at(s, 7) == 1
@@ -142,6 +142,30 @@ fn irb_figures(s: &[u64], at: u64) -> IrbFigures
     }
 }
 
+// What is read of a sheet whose words are good. Each word that every sheet has is there, so it is read where it stands.
+pub(crate) fn layout_of(s: &[u64]) -> Layout
+    requires { ⌜ judged (now s) (needed (now s)) ≡ Sound ⌝ }
+    ensures { λ r. ⌜ r ≡ layout (now (s .entry)) ⌝ }
+{
+    let pool = (1 + s[0]) as usize;
+    let rows = s[pool];
+    let tranches = pool + 1 + ROW_SIZE * rows as usize;
+    Layout {
+        kind: s[1],
+        resecuritisation: s[2] == 1,
+        stc: fact_at(s, 5) == 1,
+        diligence: s[3] == 1,
+        composition: s[4] == 1,
+        reporting_date: fact_at(s, 6),
+        hundredths: in_hundredths(s),
+        first_row: pool + 1,
+        rows,
+        first_tranche: tranches + 1,
+        tranches: s[tranches],
+        irb: irb_figures(s, irb_at(s)),
+    }
+}
+
 // What is read where a count is above its limit.
 const NO_LAYOUT: Layout = Layout {
     kind: 0,
@@ -159,7 +183,7 @@ const NO_LAYOUT: Layout = Layout {
 };
 
 // What is read of a sheet whose words are not judged: nothing where a count is above its limit, for then no place behind it is known. Of a sheet whose words are good it is
-// what `judge_words` reads.
+// what `layout_of` reads.
 pub fn read_layout(s: &[u64]) -> Layout
     ensures { λ r. ⌜ r ≡ layoutRead (now (s .entry)) ⌝ }
 {

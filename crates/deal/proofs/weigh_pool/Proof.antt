@@ -1,4 +1,4 @@
--- `weigh_pool`: each refusal is the sheet's verdict and leaves the results; where there is none, the lines are written. No axioms.
+-- `weigh_pool`: the charge is that of the sheet's terms; each refusal is the sheet's verdict and leaves the results; where there is none, the lines are written. No axioms.
 use mathlib.Core.List.{List}
 use mathlib.Core.Path.{_≡_, refl, _∙_, ap, subst}
 use Prim.Native.Nat.{ℕ, _≤_}
@@ -45,16 +45,23 @@ taken-of :
 taken-of c {taken = taken} e table =
     subst (λ (d : Terms). TakenRows d (c .args .sheet .now) taken) (e ∙ open-terms _ _ _ (c .pre)) table
 
+-- what the terms are
+terms-are : (c : tie.After-terms-of) → let start = c .before .before .before in c .terms-of .result ≡ terms (start .args .sheet .now)
+terms-are c = c .terms-of .ensures ∙ open-terms _ _ _ (c .before .before .before .pre)
+
+charge-is : (c : tie.After-terms-of) → let start = c .before .before .before in c .terms-of .result .charge ≡ terms (start .args .sheet .now) .charge
+charge-is c = ap (λ (d : Terms). d .charge) (terms-are c)
+
+terms-of-requires : tie.Need-terms-of-requires
+terms-of-requires c κs = let start = c .before .before in (limits start, irb start)
+
 mul-if1 : tie.Need-mul-if1
-mul-if1 c = let start = c .before .before in omega (arith, counted start, few start)
+mul-if1 c = let start = c .before .before .before in omega (arith, counted start, few start)
 
 returns : tie.Need-returns
 returns c =
-    let start = c .before .before .before in
-    refused-answer _ _ (refused-for-room _ _ (start .pre .sound) (omega (arith, counted start)))
-
-terms-of-requires : tie.Need-terms-of-requires
-terms-of-requires c κs = let start = c .before .before .before in (limits start, irb start)
+    let start = c .before .before .before .before in
+    (charge-is (c .before), refused-answer _ _ (refused-for-room _ _ (start .pre .sound) (omega (arith, counted start))))
 
 class-points-requires : tie.Need-class-points-requires
 class-points-requires c κs =
@@ -66,66 +73,71 @@ take-rows-requires c κs = (laid (c .before .before .before .before .before .bef
 
 judge-thickness-requires : tie.Need-judge-thickness-requires
 judge-thickness-requires c κs =
-    let start = c .before .before .before .before .before .before .before .before .before .before in (
+    let taken = c .before .before in
+    let points = taken .before .before in
+    let worked = points .before .before .before in
+    let start = worked .before .before .before in (
       laid start,
-      c .before .before .before .before .before .before .terms-of .ensures ∙ open-terms _ _ _ (start .pre),
-      c .before .before .before .before .class-points .ensures,
-      taken-of start (c .before .before .before .before .before .before .terms-of .ensures) (c .before .before .take-rows .ensures),
+      terms-are worked,
+      points .class-points .ensures,
+      taken-of start (worked .terms-of .ensures) (taken .take-rows .ensures),
     )
-
-enum-known-thickness : tie.Need-enum-known-thickness
-enum-known-thickness c = search needs
 
 returns-2 : tie.Need-returns-2
 returns-2 c =
-    let start = c .before .before .before .before .before .before .before .before .before .before .before .before .before .before in
-    let room = c .before .before .before .before .before .before .before .before .before .before .before in
-    refused-answer _ _
-    (decided-by-thickness _ _ (start .pre .sound) (omega (arith, room .if1 .left, counted start)) (c .before .before .before .judge-thickness .ensures) ∙
-    c .before .thickness .given .1)
-
-enum-told : tie.Need-enum-told
-enum-told c = search needs
+    let judged = c .before .before .before in
+    let room = judged .before .before .before .before .before .before .before in
+    let worked = room .before in
+    let start = worked .before .before .before in (
+      charge-is worked,
+      refused-answer _ _
+      (decided-by-thickness _ _ (start .pre .sound) (omega (arith, room .if1 .left, counted start)) (judged .judge-thickness .ensures) ∙
+      c .before .thickness .given .1),
+    )
 
 write-lines-requires : tie.Need-write-lines-requires
 write-lines-requires c κs =
-    let start = c .before .before .before .before .before .before .before .before .before .before .before .before .before .before .before .before in
-    let room = c .before .before .before .before .before .before .before .before .before .before .before .before .before in (
+    let taken = c .before .before .before .before .before .before .before .before in
+    let points = taken .before .before in
+    let room = points .before .before in
+    let worked = room .before in
+    let start = worked .before .before .before in (
       laid start,
-      c .before .before .before .before .before .before .before .before .before .before .before .before .terms-of .ensures ∙ open-terms _ _ _ (start .pre),
-      c .before .before .before .before .before .before .before .before .before .before .class-points .ensures,
-      taken-of start (c .before .before .before .before .before .before .before .before .before .before .before .before .terms-of .ensures) (c .before .before .before .before .before .before .before .before .take-rows .ensures),
+      terms-are worked,
+      points .class-points .ensures,
+      taken-of start (worked .terms-of .ensures) (taken .take-rows .ensures),
       omega (arith, room .if1 .left, counted start),
     )
-
-same-length : tie.Need-same-length
-same-length c = search needs
 
 returns-3 : tie.Need-returns-3
 returns-3 c =
     let thickness = c .before .before .before .before .before .before in
-    let start = c .before .before .before .before .before .before .before .before .before .before .before .before .before .before .before .before .before .before .before in
-    let room = c .before .before .before .before .before .before .before .before .before .before .before .before .before .before .before .before in
-    weighed-answer _ _
-    (decided-by-thickness _ _ (start .pre .sound) (omega (arith, room .if1 .left, counted start)) (thickness .before .before .judge-thickness .ensures) ∙
-    thickness .enum-told .given .1)
-    (counted start)
-    (ap (λ (d : Terms). d .charge) (c .before .before .before .before .before .before .before .before .before .before .before .before .before .before .before .terms-of .ensures ∙ open-terms _ _ _ (start .pre)))
-    (c .before .before .write-lines .ensures)
+    let judged = thickness .before .before in
+    let room = judged .before .before .before .before .before .before .before in
+    let worked = room .before in
+    let start = worked .before .before .before in (
+      charge-is worked,
+      weighed-answer _ _
+      (decided-by-thickness _ _ (start .pre .sound) (omega (arith, room .if1 .left, counted start)) (judged .judge-thickness .ensures) ∙
+      thickness .enum-told .given .1)
+      (counted start)
+      (charge-is worked)
+      (c .before .before .write-lines .ensures),
+    )
 
 pub weigh-pool-spec : {M : Type 1} → statement M
 weigh-pool-spec =
     tie.close
     (tie.spec
+    terms-of-requires
     mul-if1
     returns
-    terms-of-requires
     class-points-requires
     take-rows-requires
     judge-thickness-requires
-    enum-known-thickness
+    (λ c. search needs)
     returns-2
-    enum-told
+    (λ c. search needs)
     write-lines-requires
-    same-length
+    (λ c. search needs)
     returns-3)

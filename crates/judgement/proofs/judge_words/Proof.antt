@@ -14,7 +14,6 @@ use Rattle.judgement.specs.declared.Layout.{Layout}
 use Rattle.judgement.specs.declared.Refusal.{Refusal}
 use Rattle.judgement.specs.declared.Verdict.{Verdict}
 use Rattle.judgement.specs.declared.Verdict.the-variants.{Sound, Faulty}
-use Rattle.judgement.proofs.ReadLayout.{layout-read}
 use Rattle.judgement.proofs.SheetLimits.{tranches-counted}
 use Rattle.judgement.proofs.JudgeSteps.{fault-decides}
 use Rattle.judgement.proofs.WordsLaw.{numbers-mean}
@@ -55,8 +54,8 @@ sound : (c : tie.After-enum-told) →
     judged s (needed s) ≡ Sound
 sound c = sym (c .before .before .judge-needed .ensures) ∙ c .enum-told .given .1
 
-read-layout-requires : tie.Need-read-layout-requires
-read-layout-requires c κs = search needs
+layout-of-requires : tie.Need-layout-of-requires
+layout-of-requires c κs = sound c
 
 end-of-requires : tie.Need-end-of-requires
 end-of-requires c κs = tranches-counted _ (sound (c .before))
@@ -70,7 +69,7 @@ returns-3 : tie.Need-returns-3
 returns-3 c =
     let s = c .before .before .before .before .before .before .before .args .s .now in
     kept s _
-    (good-words s _ (sound (c .before .before .before)) (omega (arith, c .before .end-of .ensures)) (c .before .before .read-layout .ensures ∙ layout-read s (sound (c .before .before .before))))
+    (good-words s _ (sound (c .before .before .before)) (omega (arith, c .before .end-of .ensures)) (c .before .before .layout-of .ensures))
 
 pub judge-words-spec : {M : Type 1} → statement M
 judge-words-spec =
@@ -80,7 +79,7 @@ judge-words-spec =
     enum-known-words
     returns
     enum-told
-    read-layout-requires
+    layout-of-requires
     end-of-requires
     returns-2
     returns-3)
