@@ -1,8 +1,8 @@
 //! Answers are compared before anything is timed.
 
-use crate::deals::ROOM;
+use crate::deals::{replace_row, Amendment, ROOM};
 use independent::{Deal, Line, Refusal};
-use tranche_weights::{LINE_WORDS, MOST_BLOCKS, SHEET_WORDS};
+use tranche_weights::{OpenedPool, LINE_WORDS, MOST_BLOCKS, SHEET_WORDS};
 
 /// Count and charge, or else number and place of the refusal.
 type Outcome = Result<(u64, u64), (u64, u64)>;
@@ -52,6 +52,29 @@ pub fn check_conversion(name: &str, sheet: &[u64]) -> Result<(), String> {
             "the proved conversion differs on the sheet \"{name}\": {proved:?} where {exact:?} is due"
         )),
     }
+}
+
+/// Holds a deal that is opened and amended, step by step, to the sheet with the row replaced: the words, the charge and the
+/// proved answer are those of the sheet, and that answer is admitted. Neither deal nor amendment is refused.
+pub fn check_amendments(name: &str, sheet: &[u64], amendments: &[Amendment]) -> Result<(), String> {
+    let mut sheet = sheet.to_vec();
+    let mut pool = OpenedPool::open(&sheet[..]).map_err(|refusal| format!("the sheet \"{name}\": {refusal}"))?;
+    for amendment in amendments {
+        replace_row(&mut sheet, amendment);
+        check(name, &sheet)?;
+        pool.amend_words(amendment)
+            .map_err(|refusal| format!("the sheet \"{name}\": {refusal}"))?;
+        let mut results = [[0; ROOM]; 2];
+        let amended = pool.weigh_into(&mut results[0]);
+        let loaded = tranche_weights::weigh_words(&sheet, &mut results[1]);
+        let same_charge = loaded.is_ok_and(|weighed| weighed.charge == pool.charge());
+        if pool.words() != sheet || amended != loaded || results[0] != results[1] || !same_charge {
+            return Err(format!(
+                "the amended deal differs from the fresh load of the sheet \"{name}\": {amended:?} where {loaded:?} is due"
+            ));
+        }
+    }
+    Ok(())
 }
 
 /// Whether each of the seven sums is the same.

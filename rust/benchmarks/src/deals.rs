@@ -1,6 +1,6 @@
 //! The sheets that are timed.
 
-use tranche_weights::{BLOCK_ROWS, MOST_ROWS, MOST_TRANCHES, ROW_WORDS, TRANCHE_WORDS};
+use tranche_weights::{AMENDMENT_WORDS, BLOCK_ROWS, MOST_ROWS, MOST_TRANCHES, ROW_WORDS, TRANCHE_WORDS};
 
 /// Result words for the most tranches that a sheet can hold.
 pub const ROOM: usize = tranche_weights::RESULT_WORDS;
@@ -29,6 +29,12 @@ type Row = [u64; ROW_WORDS];
 
 /// A row of a tranche: amount, class, maturity, amount held, ratings.
 type Tranche = [u64; TRANCHE_WORDS];
+
+/// An amendment: the number of a row, counted from 1, then the row that takes its place.
+pub type Amendment = [u64; AMENDMENT_WORDS];
+
+/// Rows that are amended in turn, each twice before the amendments begin anew.
+const AMENDED_ROWS: u64 = 32;
 
 /// Where a tranche's row holds its maturity.
 const MATURITY: usize = 2;
@@ -135,7 +141,12 @@ fn past_one_block() -> Vec<u64> {
 /// The most rows and tranches; two tranches to a class here and there, and every second one unrated. Those are the
 /// longest, so that they take no rating and the formula.
 pub fn large() -> Vec<u64> {
-    let rows = rows(MOST_ROWS as u64);
+    large_of(MOST_ROWS as u64)
+}
+
+/// The same tranches, of the same shares, over a pool of the given number of rows.
+pub fn large_of(count: u64) -> Vec<u64> {
+    let rows = rows(count);
     let amount = nominal(&rows) / MOST_TRANCHES as u64;
     let mut class = 1;
     let tranche = |number: u64| {
@@ -155,6 +166,34 @@ pub fn large() -> Vec<u64> {
     };
     let tranches: Vec<Tranche> = (0..MOST_TRANCHES as u64).map(tranche).collect();
     sheet(ORDINARY, &rows, &tranches)
+}
+
+/// Amendments of the large deal's pool with the given number of rows, spread over it. Each leaves the row its status and
+/// changes its other words: some of the exposure has been repaid, the nominal amount is a little above the first one, so
+/// that the tranches still fit the pool, and the risk weight is another one.
+pub fn amendments(count: u64) -> Vec<Amendment> {
+    let rows = rows(count);
+    let amendment = |number: u64| {
+        let row = number % AMENDED_ROWS * 619 % count;
+        let [exposure, nominal, risk_weight, status] = rows[row as usize];
+        let other_weight = 40 + (risk_weight - 40 + number) % 61;
+        [
+            row + 1,
+            exposure - 1_000 * number,
+            nominal + 1 + number,
+            other_weight,
+            status,
+        ]
+    };
+    (1..=2 * AMENDED_ROWS).map(amendment).collect()
+}
+
+/// Writes the amendment's row over that of its number in a sheet.
+pub fn replace_row(sheet: &mut [u64], amendment: &Amendment) {
+    let [number, row @ ..] = amendment;
+    let first_row = 2 + sheet[0] as usize;
+    let place = first_row + ROW_WORDS * (*number as usize - 1);
+    sheet[place..place + ROW_WORDS].copy_from_slice(row);
 }
 
 /// The large deal with a last word that is no rating code.
@@ -371,6 +410,46 @@ mod tests {
         let sheet = large_refused();
         let refusal = independent::weigh(&sheet, ROOM as u64).expect_err("a refused sheet");
         assert_eq!((refusal.number, refusal.place), (11, sheet.len() as u64 - 1));
+    }
+
+    /// With every number of rows, each amendment leaves half of the tranches rated and the others under the formula, so that
+    /// the deals differ in rows alone.
+    #[test]
+    fn amended_deals_keep_their_approaches() {
+        for count in [1, BLOCK_ROWS as u64, 250, MOST_ROWS as u64] {
+            let mut sheet = large_of(count);
+            for amendment in amendments(count) {
+                replace_row(&mut sheet, &amendment);
+                let amended = deal(&sheet);
+                let of = |approach: Approach| {
+                    amended
+                        .lines
+                        .iter()
+                        .filter(move |line| line.approach == approach.word())
+                };
+                let counts = [Approach::SecErba, Approach::SecSa].map(|approach| of(approach).count());
+                assert_eq!(counts, [MOST_TRANCHES / 2; 2], "{count} rows: {amendment:?}");
+            }
+        }
+    }
+
+    /// Each amendment changes all words of its row but the status, also where the amendments begin anew.
+    #[test]
+    fn amendments_change_their_rows() {
+        for count in [1, BLOCK_ROWS as u64, 250, MOST_ROWS as u64] {
+            let mut rows = rows(count);
+            let amendments = amendments(count);
+            for [number, new @ ..] in [&amendments[..], &amendments].concat() {
+                let row = &mut rows[number as usize - 1];
+                let same = row.iter().zip(new).map(|(old, new)| *old == new);
+                assert_eq!(
+                    same.collect::<Vec<_>>(),
+                    [false, false, false, true],
+                    "{count} rows: {number}"
+                );
+                *row = new;
+            }
+        }
     }
 
     /// A lies above the charge, so neither exponential is that of 0; and neither floor nor cap hides the raw weight.

@@ -68,22 +68,29 @@ impl Series {
         let lines: Vec<Vec<String>> = cells
             .map(|((count, &time), added)| vec![count.to_string(), duration(time), added])
             .collect();
-        let line = Line::through(&points);
         let head = [
             &format!("{}s", self.unit),
             "time per sheet",
             &format!("per added {}", self.unit),
         ];
         format!(
-            "{}\n\n{}\nLeast-squares line: {} + {} per {}; largest relative deviation from it {:.1}%.",
+            "{}\n\n{}\n{}",
             self.title,
             table(&head, &lines),
-            duration(line.start),
-            duration(line.slope),
-            self.unit,
-            100.0 * line.deviation(&points),
+            fitted(&points, self.unit)
         )
     }
+}
+
+/// The line through points of count and time, for each of what is counted, and how far the points are off it.
+pub fn fitted(points: &[(f64, f64)], unit: &str) -> String {
+    let line = Line::through(points);
+    format!(
+        "Least-squares line: {} + {} per {unit}; largest relative deviation from it {:.1}%.",
+        duration(line.start),
+        duration(line.slope),
+        100.0 * line.deviation(points),
+    )
 }
 
 /// A straight line: time = start + slope × count.

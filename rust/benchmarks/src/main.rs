@@ -2,12 +2,14 @@
 //!
 //! `cargo run --release -p benchmarks` prints, as text that can stand in a README: the time per sheet of the three on
 //! some sheets, with ratios; sheets per second on one core and on all; the time to read a block's sums and to convert a
-//! sheet to the other unit of risk weights; and how the time grows with rows and tranches. Before a sheet is timed, its
-//! answers are compared. `--quick` takes fewer rounds and shorter runs.
+//! sheet to the other unit of risk weights; how the time grows with rows and tranches; and the time of an amendment, with
+//! the charge or all lines after it, against that of a fresh load, with ratios. Before a sheet is timed, its answers are
+//! compared. `--quick` takes fewer rounds and shorter runs.
 
 #![forbid(unsafe_code)]
 
 mod agreement;
+mod amendments;
 mod deals;
 mod growth;
 mod machine;
@@ -50,6 +52,7 @@ fn run(plan: &Plan) -> Result<(), String> {
     for series in [growth::by_rows(), growth::by_tranches()] {
         println!("\n{}", series.measured(plan)?);
     }
+    println!("\n{}", amendments::measured(plan)?);
     Ok(())
 }
 

@@ -33,6 +33,19 @@ pub const QUICK: Plan = Plan {
     run_time: Duration::from_millis(50),
 };
 
+/// What is timed: something that can be done again and again, on any thread.
+pub trait Repeated: Sync {
+    /// Does it so many times.
+    fn repeat(&self, times: u64);
+}
+
+impl<T: Repeated + ?Sized> Repeated for Box<T> {
+    /// Does what is in the box.
+    fn repeat(&self, times: u64) {
+        (**self).repeat(times);
+    }
+}
+
 /// A version and the sheet that it weighs.
 #[derive(Clone, Copy)]
 pub struct Work<'a> {
@@ -40,7 +53,7 @@ pub struct Work<'a> {
     pub sheet: &'a [u64],
 }
 
-impl Work<'_> {
+impl Repeated for Work<'_> {
     /// Weighs the sheet again and again, with results of its own.
     fn repeat(&self, times: u64) {
         let mut results = [0; SHEET_WORDS];
@@ -48,27 +61,27 @@ impl Work<'_> {
             (self.version)(self.sheet, &mut results);
         }
     }
+}
 
-    /// How many repetitions take about `target`, found by doubling; the trials also warm the caches.
-    fn repetitions(&self, target: Duration) -> u64 {
-        let mut times = 1;
-        loop {
-            let start = Instant::now();
-            self.repeat(times);
-            let taken = start.elapsed();
-            if taken >= target / 2 {
-                let scaled = times as f64 * target.as_secs_f64() / taken.as_secs_f64();
-                return (scaled as u64).max(1);
-            }
-            times *= 2;
+/// How many repetitions take about `target`, found by doubling; the trials also warm the caches.
+fn repetitions(work: &impl Repeated, target: Duration) -> u64 {
+    let mut times = 1;
+    loop {
+        let start = Instant::now();
+        work.repeat(times);
+        let taken = start.elapsed();
+        if taken >= target / 2 {
+            let scaled = times as f64 * target.as_secs_f64() / taken.as_secs_f64();
+            return (scaled as u64).max(1);
         }
+        times *= 2;
     }
 }
 
-/// The times per sheet in nanoseconds, a list for each work. A round times every work once, and each round begins with
+/// The times of one repetition in nanoseconds, a list for each work. A round times every work once, and each round begins with
 /// the next one, so that other work on the machine slows all alike.
-pub fn rounds(works: &[Work], plan: &Plan) -> Vec<Vec<f64>> {
-    let repetitions: Vec<u64> = works.iter().map(|work| work.repetitions(plan.round_time)).collect();
+pub fn rounds(works: &[impl Repeated], plan: &Plan) -> Vec<Vec<f64>> {
+    let repetitions: Vec<u64> = works.iter().map(|work| repetitions(work, plan.round_time)).collect();
     let mut times = vec![Vec::with_capacity(plan.rounds); works.len()];
     let turns = (0..plan.rounds).flat_map(|round| (0..works.len()).map(move |step| (round + step) % works.len()));
     for turn in turns {
@@ -82,7 +95,7 @@ pub fn rounds(works: &[Work], plan: &Plan) -> Vec<Vec<f64>> {
 /// Sheets per second with each number of threads, every thread weighing the same count of sheets; medians of runs that
 /// alternate.
 pub fn rates<const KINDS: usize>(work: &Work, threads: [usize; KINDS], plan: &Plan) -> [f64; KINDS] {
-    let repetitions = work.repetitions(plan.run_time);
+    let repetitions = repetitions(work, plan.run_time);
     let mut rates: [Vec<f64>; KINDS] = array::from_fn(|_| Vec::with_capacity(plan.runs));
     for kind in (0..plan.runs).flat_map(|_| 0..KINDS) {
         let start = Instant::now();

@@ -1,8 +1,10 @@
-//! The three versions, the reading of a block's sums and the conversion of a sheet, in the one form that is timed. Inputs
-//! and answers pass through `black_box`, so that the compiler can neither foresee the sheet nor drop the answer.
+//! The three versions, the reading of a block's sums and the conversion of a sheet, in the one form that is timed, and what
+//! is done for an amendment, in another. Inputs and answers pass through `black_box`, so that the compiler can neither
+//! foresee the sheet nor drop the answer.
 
+use crate::deals::{replace_row, Amendment};
 use std::hint::black_box;
-use tranche_weights::MOST_BLOCKS;
+use tranche_weights::{OpenedPool, MOST_BLOCKS};
 
 /// Weighs a sheet once. The results are lent to every version; the exact one makes its own. They are as long as the largest
 /// sheet, so that a sheet can be written there too.
@@ -35,4 +37,31 @@ pub fn proved_block_sums(sheet: &[u64], _: &mut [u64]) {
 /// The sheet in the other unit of risk weights, by the proved version.
 pub fn proved_conversion(sheet: &[u64], output: &mut [u64]) {
     let _ = black_box(tranche_weights::convert_words(black_box(sheet), black_box(output)));
+}
+
+/// Amends the deal that is kept, and answers. The results are lent to every one.
+pub type Step<Deal> = fn(&mut Deal, &Amendment, &mut [u64]);
+
+/// The opened pool is amended, and its charge worked out, by the proved version. The results are not used.
+pub fn amended_charge(pool: &mut OpenedPool, amendment: &Amendment, _: &mut [u64]) {
+    let _ = black_box(pool.amend_words(black_box(amendment)));
+    black_box(black_box(&*pool).charge());
+}
+
+/// The opened pool is amended, and all its lines worked out, by the proved version.
+pub fn amended_lines(pool: &mut OpenedPool, amendment: &Amendment, results: &mut [u64]) {
+    let _ = black_box(pool.amend_words(black_box(amendment)));
+    let _ = black_box(black_box(&*pool).weigh_into(black_box(results)));
+}
+
+/// The row is replaced in the sheet, and the whole of it weighed, by the proved version.
+pub fn proved_load(sheet: &mut Box<[u64]>, amendment: &Amendment, results: &mut [u64]) {
+    replace_row(sheet, black_box(amendment));
+    proved(sheet, results);
+}
+
+/// The row is replaced in the sheet, and the whole of it weighed, by the plain version.
+pub fn plain_load(sheet: &mut Box<[u64]>, amendment: &Amendment, results: &mut [u64]) {
+    replace_row(sheet, black_box(amendment));
+    plain(sheet, results);
 }
