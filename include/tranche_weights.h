@@ -14,7 +14,8 @@
  * - What the caller owes: any other pointer is not null and is aligned for its type, as many words or bytes as its length says stay readable (or writable, where the
  *   pointer is not const) until the call returns, and what the function writes overlaps nothing else that is passed. place, count, charge and sums are never null, and
  *   have the words that are stated below.
- * - It also owes the stack: 16 KB are enough for every function but the two that take a file, and 64 KB for these (tests/calls.c runs them on threads with no more).
+ * - It also owes the stack: 16 KB are enough for every function but the two that take a file, and 64 KB for these (tests/calls.c and tests/opened_calls.c run them on
+ *   threads with no more).
  * - What is proved is the archive's ten functions, whose names end in the version; the functions here only hand on to them. That a caller keeps what it owes, no
  *   proof can see.
  *

@@ -5,19 +5,14 @@
  * sheets in the other unit, up to the longest, and a null pointer for every list of length 0. Stops with status 1 and one line where something is not what is due.
  * tests/c_example.sh runs it.
  */
-#include <pthread.h>
-#include <stdio.h>
-#include <stdlib.h>
 #include <string.h>
 
-#include "tranche_weights.h"
+#include "trial.h"
 
-/* The stacks, in bytes, that the header says are enough for a call. */
+/* The stack, in bytes, that the header says is enough for a call on a file. */
 #define FILE_STACK 65536
-#define SHEET_STACK 16384
 
-/* What each lent word and byte holds before a call. */
-#define WORD_BEFORE 7
+/* What each lent byte holds before a call. */
 #define BYTE_BEFORE 0xA5
 
 /* A sheet that is accepted, its line, and the word after it as it was; its charge. */
@@ -59,18 +54,13 @@ static const uint64_t dated_sheet[WORDS + 2] = {6, 0, 0, 1, 1, 0, 20240228, 1, 1
 #define MATURITY_PLACE 15
 
 /*
- * The same sheet as a mixed pool, with the IRB section after it; the places of its count, its number of loans and its share. The charge is 95% of 15% and 5% of 8%.
- * The parameter, 3.56 / 25 - 1.85 * 0.1465 + 0.55 * 0.45 + 0.07 * 4.2, is 0.412875, and the formula gives 39.0249%. The weight is no lower than that and less than
- * 0.02% above it, the least weight no higher and less than 0.015% below it: the rules leave open whether the weight is the number below or one more, and whether the
- * least weight is the number below or one less.
+ * The mixed pool is the first sheet with the IRB section after it; the places of its count, its number of loans and its share. The parameter, 3.56 / 25 - 1.85 * 0.1465 +
+ * 0.55 * 0.45 + 0.07 * 4.2, is 0.412875, and the formula gives 39.0249%. The weight is no lower than that and less than 0.02% above it, the least weight no higher and
+ * less than 0.015% below it: the rules leave open whether the weight is the number below or one more, and whether the least weight is the number below or one less.
  */
-static const uint64_t irb_sheet[WORDS + 1 + TRANCHE_WEIGHTS_IRB_WORDS] = {4, 2, 0, 1, 1, 1, 100, 100, 100, 0, 1, 80, 1, 60, 80, 1, 0, 0,
-                                                                          1, 150000, 450000, 25, 0, 950000, 12000};
-#define IRB_SHEET_WORDS (sizeof irb_sheet / sizeof *irb_sheet)
 #define IRB_COUNT_PLACE WORDS
 #define LOANS_PLACE (WORDS + 3)
 #define SHARE_PLACE (WORDS + 5)
-#define IRB_CHARGE 146500
 #define IRB_WEIGHT 3903
 #define IRB_LEAST_WEIGHT 3902
 
@@ -89,23 +79,8 @@ static const uint64_t percent_sheet[ALL_FACTS_WORDS] = {7, 0, 0, 1, 1, 0, 0, 0, 
 #define CHARGE_AT_3750 30000
 #define CHARGE_AT_1234 9872
 
-/* A sheet with rows of status 0, 1 and 2, the sums of its one block, and the place of the last status. */
-static const uint64_t rows_sheet[] = {4, 0, 0, 1, 1, 3, 100, 120, 100, 0, 60, 70, 50, 1, 40, 45, 20, 2, 1, 80, 1, 60, 80, 1, 0, 0};
-static const uint64_t rows_sums[TRANCHE_WEIGHTS_SUM_WORDS] = {
-    [TRANCHE_WEIGHTS_SUM_EXPOSURE] = 200,
-    [TRANCHE_WEIGHTS_SUM_NOMINAL] = 235,
-    [TRANCHE_WEIGHTS_SUM_WEIGHTED_EXPOSURE] = 1380000,
-    [TRANCHE_WEIGHTS_SUM_KNOWN_EXPOSURE] = 160,
-    [TRANCHE_WEIGHTS_SUM_KNOWN_NOMINAL] = 190,
-    [TRANCHE_WEIGHTS_SUM_KNOWN_WEIGHTED_EXPOSURE] = 1300000,
-    [TRANCHE_WEIGHTS_SUM_LATE_NOMINAL] = 70,
-};
-#define ROWS_SHEET_WORDS (sizeof rows_sheet / sizeof *rows_sheet)
+/* The place of the last status in the sheet with rows of three statuses. */
 #define LAST_STATUS_PLACE 17
-
-/* A re-securitisation, whose rows have status 3, and the sums of its block. */
-static const uint64_t resecuritisation[WORDS] = {4, 0, 1, 1, 1, 1, 100, 120, 50, 3, 1, 80, 1, 60, 80, 1, 0, 0};
-static const uint64_t resecuritisation_sums[TRANCHE_WEIGHTS_SUM_WORDS] = {100, 120, 500000, 100, 120, 500000, 0};
 
 /*
  * A sheet with one row more than a block has: the first is delinquent, the last, alone in the second block, is not known. The sums of both blocks. main puts the sheet
@@ -144,15 +119,6 @@ static uint64_t most_rows[MOST_ROWS_WORDS];
 static const uint64_t most_rows_line[TRANCHE_WEIGHTS_LINE_WORDS + 1] = {TRANCHE_WEIGHTS_BY_SEC_ERBA, 996190, 1000000, 1367, 11, 1, 1367, WORD_BEFORE};
 
 /*
- * A sheet with a tranche that is too thin for the formula: of a nominal of 10000000 the class before it leaves 1000009, and it leaves 1000004, so both its points are
- * 100000, above the charge of 80000. The place of its amount, and the sums of the block.
- */
-static const uint64_t thin_sheet[] = {4, 0, 0, 1, 1, 1, 6000000, 10000000, 100, 0, 2, 8999991, 1, 60, 0, 1, 0, 0, 5, 2, 60, 5, 0, 0, 0};
-static const uint64_t thin_sums[TRANCHE_WEIGHTS_SUM_WORDS] = {6000000, 10000000, 60000000000, 6000000, 10000000, 60000000000, 0};
-#define THIN_SHEET_WORDS (sizeof thin_sheet / sizeof *thin_sheet)
-#define THIN_PLACE 18
-
-/*
  * A sheet of the fewest facts with all else at its most: 1,000 rows, 32 tranches and the IRB section. With all facts it has the most words of a sheet. main puts it
  * together from the rows above, the tranche of the first sheet and the section of the mixed pool. And where converted sheets go.
  */
@@ -173,15 +139,6 @@ static const uint64_t past[] = {TRANCHE_WEIGHTS_MOST_BLOCKS, 4294967296, 3689348
 static unsigned char file[TRANCHE_WEIGHTS_FILE_BYTES + 1];
 static size_t size;
 static unsigned char text[TRANCHE_WEIGHTS_TEXT_BYTES + 1];
-
-/* Stops where something is not what is due. */
-static void due(int holds, const char *what)
-{
-    if (!holds) {
-        printf("not what is due: %s\n", what);
-        exit(1);
-    }
-}
 
 /* Whether bytes from one place to another are all the pattern. */
 static int untouched(size_t from, size_t to)
@@ -402,7 +359,7 @@ static void *try_blocks(void *unused)
 {
     summed(rows_sheet, ROWS_SHEET_WORDS, 0, rows_sums, "the sums of a block");
     nothing_past(rows_sheet, ROWS_SHEET_WORDS, 1, "the sums past the only block");
-    summed(resecuritisation, WORDS, 0, resecuritisation_sums, "the sums of a re-securitisation");
+    summed(resecuritisation, RESECURITISATION_WORDS, 0, resecuritisation_sums, "the sums of a re-securitisation");
     weighed(weigh(two_blocks, TWO_BLOCKS_WORDS, TRANCHE_WEIGHTS_LINE_WORDS), TWO_BLOCKS_CHARGE, two_blocks_line, "a pool of two blocks");
     summed(two_blocks, TWO_BLOCKS_WORDS, 0, first_block, "the sums of a whole block");
     summed(two_blocks, TWO_BLOCKS_WORDS, 1, last_block, "the sums of a last block of one row");
@@ -580,15 +537,6 @@ static void *try_null(void *unused)
     c.number = tranche_weights_convert(sheet, WORDS, NULL, 0, &c.place, &c.count);
     due(c.number == TRANCHE_WEIGHTS_REFUSED_ROOM && c.place == 0 && c.count == 0, "no room for a sheet to convert");
     return unused;
-}
-
-/* Runs a trial on a thread with a stack of so many bytes. */
-static void on_stack(size_t stack, void *(*trial)(void *))
-{
-    pthread_attr_t attributes;
-    pthread_t thread;
-    due(pthread_attr_init(&attributes) == 0 && pthread_attr_setstacksize(&attributes, stack) == 0, "a thread with a small stack");
-    due(pthread_create(&thread, &attributes, trial, NULL) == 0 && pthread_join(thread, NULL) == 0, "a trial on its thread");
 }
 
 /* Puts a sheet of so many rows together, with the facts and the tranche of the first sheet; a function makes each row from its number, counted from 0. */
