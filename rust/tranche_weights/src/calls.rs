@@ -1,11 +1,11 @@
 //! What can be asked of the library: the answer to any words, the answer to a file, a file's report, a block's sums, a
-//! sheet in the other unit.
+//! sheet in the other unit, the opening of a pool.
 
 use crate::deal::{Deal, Line};
 use crate::library;
-use crate::limits::{LINE_WORDS, MOST_TRANCHES, TEXT_ROOM};
+use crate::limits::{FEWEST_FACTS, LINE_WORDS, MOST_FACTS, MOST_TRANCHES, SUM_WORDS, TEXT_ROOM};
 use crate::refusal::Refusal;
-use crate::reply::{BlockReply, ConversionReply, Reply, Weighed};
+use crate::reply::{BlockReply, ConversionReply, OpeningReply, Reply, Weighed};
 use crate::sums::BlockSums;
 use crate::text_room_error::TextRoomError;
 
@@ -100,7 +100,7 @@ pub(crate) fn weigh_sheet(words: &[u64]) -> Result<Deal, Refusal> {
 }
 
 /// Lends room for the lines of the most tranches, and puts the deal together from the reply and the lines.
-fn deal_of(reply: impl FnOnce(&mut [u64]) -> Reply) -> Result<Deal, Refusal> {
+pub(crate) fn deal_of(reply: impl FnOnce(&mut [u64]) -> Reply) -> Result<Deal, Refusal> {
     let mut results = [[0; LINE_WORDS]; MOST_TRANCHES];
     let Weighed { count, charge } = reply(results.as_flattened_mut()).outcome()?;
     let lines = results.iter().take(count as usize).map(Line::of);
@@ -260,4 +260,51 @@ pub fn reply_to_conversion(sheet: &[u64], output: &mut [u64]) -> ConversionReply
 /// ```
 pub fn convert_words(sheet: &[u64], output: &mut [u64]) -> Result<usize, Refusal> {
     reply_to_conversion(sheet, output).outcome()
+}
+
+/// The words of the sheet in the other unit of the risk weights, as [`convert_words`] writes them.
+pub(crate) fn converted(sheet: &[u64]) -> Result<Vec<u64>, Refusal> {
+    let mut words = vec![0; sheet.len() + MOST_FACTS - FEWEST_FACTS];
+    let count = convert_words(sheet, &mut words)?;
+    words.truncate(count);
+    Ok(words)
+}
+
+/// Opens the pool of a sheet as [`OpenedPool::open`](crate::OpenedPool::open) does, writes the words of its sums, and
+/// gives number and place as the C function gives them; number 0 where it is opened. On a refusal the sums are as they
+/// were.
+///
+/// ```
+/// use tranche_weights::{reply_to_opening, OpeningReply, SUM_WORDS};
+///
+/// // One loan of 100 at 50%, nominal 120, one tranche of 80 that is held in full, five years, AAA.
+/// let sheet = [4, 0, 0, 1, 1, 1, 100, 120, 50, 0, 1, 80, 1, 60, 80, 1, 0, 0];
+/// let mut sums = [9; SUM_WORDS];
+/// assert_eq!(reply_to_opening(&sheet[..7], &mut sums), OpeningReply::refusing(1, 7));
+/// assert_eq!(sums, [9; SUM_WORDS]);
+///
+/// assert_eq!(reply_to_opening(&sheet, &mut sums), OpeningReply::opening());
+/// assert_eq!(sums, [100, 120, 500_000, 100, 120, 500_000, 0]);
+/// ```
+pub fn reply_to_opening(sheet: &[u64], sums: &mut [u64; SUM_WORDS]) -> OpeningReply {
+    library::open_pool(sheet, sums)
+}
+
+/// Whether any words and any sums are an opened pool: the sheet gets no refusal but 13 and 14, which are not judged here,
+/// and the sums are those of its rows, in the order and units of [`BlockSums`].
+///
+/// It is true of every [`OpenedPool`](crate::OpenedPool), whose words need no such check. Words that come from elsewhere
+/// are opened by [`OpenedPool::open`](crate::OpenedPool::open), whatever sums are kept beside them.
+///
+/// ```
+/// use tranche_weights::is_opened;
+///
+/// // One loan of 100 at 50%, nominal 120, one tranche of 80 that is held in full, five years, AAA.
+/// let sheet = [4, 0, 0, 1, 1, 1, 100, 120, 50, 0, 1, 80, 1, 60, 80, 1, 0, 0];
+/// assert!(is_opened(&sheet, &[100, 120, 500_000, 100, 120, 500_000, 0]));
+/// assert!(!is_opened(&sheet, &[100, 120, 500_000, 100, 120, 500_000, 1]));
+/// assert!(!is_opened(&sheet[..7], &[100, 120, 500_000, 100, 120, 500_000, 0]));
+/// ```
+pub fn is_opened(sheet: &[u64], sums: &[u64; SUM_WORDS]) -> bool {
+    library::is_opened(sheet, sums)
 }

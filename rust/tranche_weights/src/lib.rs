@@ -15,6 +15,10 @@
 //! unit of the risk weights, whole percent or hundredths of a percent: [`Sheet::in_other_unit`] and [`convert_words`],
 //! with [`reply_to_conversion`].
 //!
+//! A deal whose loans change from day to day is kept open: [`Sheet::open`] and [`OpenedPool::open`] give an [`OpenedPool`],
+//! whose rows are replaced one by one, and whose charge and lines are worked out without reading the other rows again.
+//! [`reply_to_opening`] opens as the C function does, and [`is_opened`] tells whether words and sums are an opened pool.
+//!
 //! # A deal from end to end
 //!
 //! Amounts are in whole units of one currency, points and charge in millionths of the pool, weights in hundredths of a
@@ -59,7 +63,7 @@
 //!
 //! In a deal with a reporting date the maturities are dates: [`Tranche::maturing_on`] has an example. [`PoolKind`] has
 //! one of a mixed pool, weighed by SEC-IRBA, [`Tranche`] one of a tranche that takes the ratings of another, and
-//! [`RiskWeight`] one of a loan at 37.5%.
+//! [`RiskWeight`] one of a loan at 37.5%, and [`OpenedPool`] one of a pool that is amended.
 //!
 //! # The words of a sheet
 //!
@@ -86,6 +90,9 @@
 //! The class is the rank: class 1 is the senior class, which bears losses last. Tranches stand from senior to junior:
 //! the first has class 1, each next the class of the one before it, with which it ranks pari passu, or one more.
 //!
+//! An amendment is [`AMENDMENT_WORDS`] words: the number of a pool row, counted from 1, then the four words of the row
+//! that is to stand in its place.
+//!
 //! # Linking
 //!
 //! The library is for x86-64 Linux only. `rt staticlib tranche_weights`, run from the repository's root, makes
@@ -93,8 +100,8 @@
 //! `TRANCHE_WEIGHTS_LIB` names another folder; a relative one counts from the crate's folder. Without the archive,
 //! checking and documenting work, with a warning; building does not.
 //!
-//! The crate calls version 9 of the library's interface. Every symbol of the archive carries its version, as in
-//! `tranche_weights_weigh_v9`, so that an archive of another version fails to link.
+//! The crate calls version 10 of the library's interface. Every symbol of the archive carries its version, as in
+//! `tranche_weights_weigh_v10`, so that an archive of another version fails to link.
 //!
 //! The library keeps no state, so threads can call it at the same time. Of the calling thread's stack 64 KB are enough.
 //!
@@ -104,15 +111,18 @@
 //! makes facts and rows by `new` and `with_…`, has an arm for all other cases in each `match`, and counts the words
 //! that it lends by [`LINE_WORDS`], [`RESULT_WORDS`] and [`SHEET_WORDS`], goes on with those too. A refusal's number, an
 //! approach's word and the place of a word in the line and of a sum keep their meaning in all versions, and so do the
-//! units of lines and sums from this version on. The name of a refusal that is no longer given goes with it; a program
-//! that has it must leave it out.
+//! units of lines and sums from version 9 of the interface on. The name of a refusal that is no longer given goes with it;
+//! a program that has it must leave it out.
 //!
-//! In this version weighted exposure ([`Totals::weighted_exposure`]) is in hundredths of a percent; up to version 8 of
-//! the interface it was in percent. A program that was written for one of those and reads it must see to that.
+//! Weighted exposure ([`Totals::weighted_exposure`]) is in hundredths of a percent; up to version 8 of the interface it was
+//! in percent. A program that was written for one of those and reads it must see to that.
 
 #![deny(missing_docs)]
 #![deny(unsafe_code)]
 
+mod amendment;
+mod amendment_error;
+mod amendment_refusal;
 mod calls;
 mod date;
 mod deal;
@@ -120,6 +130,7 @@ mod facts;
 mod library;
 mod limits;
 mod numbers;
+mod opened_pool;
 mod pool;
 mod pool_kind;
 mod rating;
@@ -132,23 +143,28 @@ mod sums;
 mod text_room_error;
 mod tranche;
 
+pub use amendment::Amendment;
+pub use amendment_error::AmendmentError;
+pub use amendment_refusal::{AmendmentReason, AmendmentRefusal};
 pub use calls::{
-    block_sums, convert_words, reply_to_block, reply_to_conversion, reply_to_file, reply_to_words, report, report_into,
-    weigh_file, weigh_words,
+    block_sums, convert_words, is_opened, reply_to_block, reply_to_conversion, reply_to_file, reply_to_opening,
+    reply_to_words, report, report_into, weigh_file, weigh_words,
 };
 pub use date::Date;
 pub use deal::{Approach, Deal, Line};
 pub use facts::Facts;
 pub use limits::{
-    BLOCK_ROWS, BYTES_PER_WORD, FEWEST_FACTS, FILE_BYTES, IRB_WORDS, LINE_WORDS, MOST_BLOCKS, MOST_FACTS, MOST_RATINGS,
-    MOST_ROWS, MOST_TRANCHES, NUMBER_DIGITS, RESULT_WORDS, ROW_WORDS, SHEET_WORDS, SUM_WORDS, TEXT_ROOM, TRANCHE_WORDS,
+    AMENDMENT_WORDS, BLOCK_ROWS, BYTES_PER_WORD, FEWEST_FACTS, FILE_BYTES, IRB_WORDS, LINE_WORDS, MOST_BLOCKS,
+    MOST_FACTS, MOST_RATINGS, MOST_ROWS, MOST_TRANCHES, NUMBER_DIGITS, RESULT_WORDS, ROW_WORDS, SHEET_WORDS, SUM_WORDS,
+    TEXT_ROOM, TRANCHE_WORDS,
 };
 pub use numbers::{AverageWeight, Loans, Millionths, Months, PoolAmount, TrancheAmount};
+pub use opened_pool::OpenedPool;
 pub use pool::{Row, Status};
 pub use pool_kind::{IrbFigures, PoolKind};
 pub use rating::{LongTerm, Rating, ShortTerm};
 pub use refusal::{Reason, Refusal};
-pub use reply::{BlockReply, ConversionReply, Reply, Weighed};
+pub use reply::{AmendmentReply, BlockReply, ConversionReply, OpeningReply, Reply, Weighed};
 pub use risk_weight::RiskWeight;
 pub use sheet::{Ordinary, Resecuritisation, Sheet, SheetBuilder};
 pub use sheet_error::SheetError;

@@ -1,5 +1,5 @@
 //! The parts of a sheet, of a line and of a report, with the sizes that follow from them, and the limits of a sheet's
-//! numbers (document 01, "The deal sheet" and "Checked deals"; document 02, S-1, S-3, S-5 to S-7 and S-9).
+//! numbers (document 01, "The deal sheet" and "Checked deals"; document 02, S-1, S-3, S-5 to S-7, S-9 and S-10).
 //!
 //! A size that has parts is worked out from them, so that each number stands here once.
 
@@ -57,8 +57,11 @@ pub const LINE_WORDS: usize = 7;
 /// Result words that are enough for every sheet: the lines of the most tranches.
 pub const RESULT_WORDS: usize = MOST_TRANCHES * LINE_WORDS;
 
-/// The words of a block's sums, in the order of the fields of [`BlockSums`](crate::BlockSums).
+/// The words of the sums of a block or of a pool, in the order of the fields of [`BlockSums`](crate::BlockSums).
 pub const SUM_WORDS: usize = 7;
+
+/// The words of an amendment: the number of a pool row, then the words of the row.
+pub const AMENDMENT_WORDS: usize = 1 + ROW_WORDS;
 
 /// The most digits of a number of 64 bits.
 pub const NUMBER_DIGITS: usize = u64::MAX.ilog10() as usize + 1;

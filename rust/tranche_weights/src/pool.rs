@@ -6,7 +6,7 @@ use crate::risk_weight::{RiskWeight, Unit};
 
 /// A row of the pool, without its status.
 ///
-/// The status is given where the row is added: [`Status`] in an ordinary pool; in a re-securitisation there is none to
+/// The status is given where the row is added or amended: [`Status`] in an ordinary pool; in a re-securitisation there is none to
 /// choose, since each row is a securitisation tranche.
 #[derive(Debug, Clone, Copy, PartialEq, Eq, Hash)]
 #[non_exhaustive]
@@ -39,6 +39,9 @@ impl Row {
         ]
     }
 }
+
+/// The status word of every row in a re-securitisation: a securitisation tranche.
+pub(crate) const SECURITISATION_TRANCHE: u64 = 3;
 
 /// The status of a row in an ordinary pool.
 #[derive(Debug, Clone, Copy, PartialEq, Eq, Hash)]

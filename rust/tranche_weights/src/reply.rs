@@ -1,5 +1,6 @@
-//! What the library answers to a sheet, as its C functions give it.
+//! What the library answers to a sheet and to an amendment, as its C functions give it.
 
+use crate::amendment_refusal::AmendmentRefusal;
 use crate::limits::SUM_WORDS;
 use crate::refusal::Refusal;
 use crate::sums::BlockSums;
@@ -149,6 +150,74 @@ impl ConversionReply {
         match self.number {
             0 => Ok(self.count as usize),
             number => Err(Refusal::new(number, self.place)),
+        }
+    }
+}
+
+/// What the library answers to a sheet whose pool is to be opened, as its C function gives it.
+#[derive(Debug, Clone, Copy, PartialEq, Eq, Hash)]
+#[non_exhaustive]
+pub struct OpeningReply {
+    /// The refusal's number; 0 where the pool is opened.
+    pub number: u64,
+    /// The refusal's place; 0 where the pool is opened.
+    pub place: u64,
+}
+
+impl OpeningReply {
+    /// The reply that the pool is opened: number and place are 0.
+    pub const fn opening() -> OpeningReply {
+        OpeningReply { number: 0, place: 0 }
+    }
+
+    /// The reply that refuses a sheet.
+    pub const fn refusing(number: u64, place: u64) -> OpeningReply {
+        OpeningReply { number, place }
+    }
+
+    /// Nothing where the pool is opened.
+    ///
+    /// # Errors
+    ///
+    /// The [`Refusal`] where the number is not 0.
+    pub const fn outcome(self) -> Result<(), Refusal> {
+        match self.number {
+            0 => Ok(()),
+            number => Err(Refusal::new(number, self.place)),
+        }
+    }
+}
+
+/// What the library answers to an amendment, as its C function gives it.
+#[derive(Debug, Clone, Copy, PartialEq, Eq, Hash)]
+#[non_exhaustive]
+pub struct AmendmentReply {
+    /// The refusal's number; 0 where the pool is amended.
+    pub number: u64,
+    /// The refusal's place in the words of the amendment; 0 where the pool is amended.
+    pub place: u64,
+}
+
+impl AmendmentReply {
+    /// The reply that the pool is amended: number and place are 0.
+    pub const fn amending() -> AmendmentReply {
+        AmendmentReply { number: 0, place: 0 }
+    }
+
+    /// The reply that refuses an amendment.
+    pub const fn refusing(number: u64, place: u64) -> AmendmentReply {
+        AmendmentReply { number, place }
+    }
+
+    /// Nothing where the pool is amended.
+    ///
+    /// # Errors
+    ///
+    /// The [`AmendmentRefusal`] where the number is not 0.
+    pub const fn outcome(self) -> Result<(), AmendmentRefusal> {
+        match self.number {
+            0 => Ok(()),
+            number => Err(AmendmentRefusal::new(number, self.place)),
         }
     }
 }

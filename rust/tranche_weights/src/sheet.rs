@@ -1,13 +1,14 @@
-//! The sheet of a deal and its builder (document 01, "The deal sheet"; document 02, S-1, S-3, S-5, S-7 and S-9).
+//! The sheet of a deal and its builder (document 01, "The deal sheet"; document 02, S-1, S-3, S-5, S-7, S-9 and S-10).
 
 use std::marker::PhantomData;
 
-use crate::calls::{block_sums, convert_words, weigh_sheet};
+use crate::calls::{block_sums, converted, weigh_sheet};
 use crate::date::Date;
 use crate::deal::Deal;
 use crate::facts::Facts;
 use crate::limits::{FEWEST_FACTS, IRB_WORDS, MOST_FACTS, MOST_ROWS, MOST_TRANCHES, ROW_WORDS, TRANCHE_WORDS};
-use crate::pool::{Row, Status};
+use crate::opened_pool::OpenedPool;
+use crate::pool::{Row, Status, SECURITISATION_TRANCHE};
 use crate::refusal::Refusal;
 use crate::risk_weight::Unit;
 use crate::sheet_error::SheetError;
@@ -29,9 +30,6 @@ enum DealKind {
     Stc,
     Resecuritisation,
 }
-
-/// The status word of every row in a re-securitisation: a securitisation tranche.
-const SECURITISATION_TRANCHE: u64 = 3;
 
 /// Builds the sheet of a deal: rows in any order, tranches from senior to junior.
 ///
@@ -335,7 +333,16 @@ impl Sheet {
         block_sums(&self.words, block)
     }
 
-    /// The sheet in the other unit of the risk weights, as [`convert_words`] writes it: with [`MOST_FACTS`] facts, in
+    /// Opens the pool, so that rows of it can be replaced. The sheet stays as it is.
+    ///
+    /// # Errors
+    ///
+    /// None that the library gives to such a sheet: its words are within their limits, and 13 is not judged here.
+    pub fn open(&self) -> Result<OpenedPool, Refusal> {
+        OpenedPool::open(self.words())
+    }
+
+    /// The sheet in the other unit of the risk weights, as [`convert_words`](crate::convert_words) writes it: with [`MOST_FACTS`] facts, in
     /// hundredths of a percent where this one is in whole percent, and in whole percent where it is in hundredths. It is
     /// weighed as this one is.
     ///
@@ -371,9 +378,6 @@ impl Sheet {
     /// # }
     /// ```
     pub fn in_other_unit(&self) -> Result<Sheet, Refusal> {
-        let mut words = vec![0; self.words.len() + MOST_FACTS - FEWEST_FACTS];
-        let count = convert_words(&self.words, &mut words)?;
-        words.truncate(count);
-        Ok(Sheet { words })
+        converted(&self.words).map(|words| Sheet { words })
     }
 }

@@ -1,4 +1,4 @@
-//! The sums of a block of the pool's rows (document 02, S-7 and S-9).
+//! The sums of a block of the pool's rows, and of all of them (document 02, S-7, S-9 and S-10).
 
 use crate::limits::SUM_WORDS;
 
@@ -15,7 +15,7 @@ pub struct Totals {
     pub weighted_exposure: u64,
 }
 
-/// The seven sums of a block of the pool's rows.
+/// The seven sums of a block of the pool's rows, or of all of them ([`OpenedPool::sums`](crate::OpenedPool::sums)).
 ///
 /// A block is [`BLOCK_ROWS`](crate::BLOCK_ROWS) rows in the order of the sheet, and what is left is the last one. Added
 /// up over the blocks, each sum is that of the pool.
@@ -38,7 +38,7 @@ pub struct Totals {
 #[derive(Debug, Clone, Copy, Default, PartialEq, Eq, Hash)]
 #[non_exhaustive]
 pub struct BlockSums {
-    /// Over all rows of the block.
+    /// Over all rows of the block or of the pool.
     pub all: Totals,
     /// Over the rows with known status: those that pay, those that are delinquent, and all of a re-securitisation.
     pub known: Totals,

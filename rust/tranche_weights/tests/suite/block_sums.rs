@@ -33,8 +33,22 @@ fn sums_of<'a>(rows: impl IntoIterator<Item = &'a [u64]>, hundredths: u64) -> [u
     sums
 }
 
-/// The words of a block's sums, from its fields.
-fn words_of(sums: BlockSums) -> [u64; SUM_WORDS] {
+/// The words of the sums of a sheet's pool, from its rows.
+pub fn pool_sums(words: &[u64]) -> [u64; SUM_WORDS] {
+    sums_of(rows(words), hundredths(words))
+}
+
+/// How many hundredths of a percent the sheet's unit of risk weights is.
+fn hundredths(words: &[u64]) -> u64 {
+    if affirms(words, UNIT) {
+        1
+    } else {
+        100
+    }
+}
+
+/// The words of a block's or a pool's sums, from their fields.
+pub fn words_of(sums: BlockSums) -> [u64; SUM_WORDS] {
     let BlockSums {
         all,
         known,
@@ -51,9 +65,8 @@ fn words_of(sums: BlockSums) -> [u64; SUM_WORDS] {
 pub fn hold_blocks(words: &[u64], sums: impl Fn(u64) -> Result<BlockSums, Refusal>) {
     let read = |block: u64| words_of(sums(block).unwrap_or_else(|refusal| panic!("{refusal}: {words:?}")));
     let rows: Vec<&[u64]> = rows(words).collect();
-    let hundredths = if affirms(words, UNIT) { 1 } else { 100 };
     for (block, rows) in (0..).zip(rows.chunks(BLOCK_ROWS)) {
-        let sums = sums_of(rows.iter().copied(), hundredths);
+        let sums = sums_of(rows.iter().copied(), hundredths(words));
         assert_eq!(read(block), sums, "block {block}: {words:?}");
     }
     let past = rows.len().div_ceil(BLOCK_ROWS) as u64;

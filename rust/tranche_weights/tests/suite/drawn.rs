@@ -1,19 +1,22 @@
 //! Sheets drawn by a seeded generator: each is built, and the library refuses none of them but by 13; the least weights
 //! of its lines lie near the weights (document 02, S-6); the sums of its blocks are those of their rows (S-7); ratings
-//! that a tranche takes of another one can be written on it (S-8); in the other unit it gets the same answer (S-9).
+//! that a tranche takes of another one can be written on it (S-8); in the other unit it gets the same answer (S-9);
+//! amended it is that of a fresh load (S-10).
 
 use crate::block_sums::hold_blocks;
 use crate::checked_deal::file_of;
 use crate::conversion::hold_conversion;
+use crate::opened_pool::{hold_amended, hold_opened};
 use crate::places::{
     affirmed, affirmed_on, affirms, fact, first_row, first_tranche, irb_count, risk_weights, rows, tranche_count,
     COMPOSITION, DUE_DILIGENCE, POOL_KIND, REPORTING_DATE, RESECURITISATION, STC, UNIT,
 };
 use crate::texts::text_of;
+use std::error::Error;
 use tranche_weights::{
     report, weigh_file, Approach, AverageWeight, Date, Facts, IrbFigures, Loans, Millionths, Months, PoolAmount,
     PoolKind, Rating, Reason, RiskWeight, Row, Sheet, SheetBuilder, SheetError, Status, Tranche, TrancheAmount,
-    MOST_ROWS, MOST_TRANCHES, ROW_WORDS, TRANCHE_WORDS,
+    AMENDMENT_WORDS, MOST_ROWS, MOST_TRANCHES, ROW_WORDS, TRANCHE_WORDS,
 };
 
 /// The statuses of an ordinary pool, by status word.
@@ -105,25 +108,40 @@ impl Generator {
     /// Adds the pool's section. A third of the ordinary pools have paying rows alone, so that the charge is low; a
     /// third have delinquent ones too; a third have all three statuses.
     fn rows(&mut self, words: &mut Vec<u64>) {
-        let resecuritisation = affirms(words, RESECURITISATION);
-        let in_hundredths = affirms(words, UNIT);
+        let facts = words.clone();
         let count = self.within(1, MOST_ROWS as u64);
         let statuses = 1 + self.below(3);
         words.push(count);
         let first_row = words.len();
         for _ in 0..count {
-            let status = if resecuritisation { 3 } else { self.below(statuses) };
-            words.extend([
-                self.within(1, PoolAmount::HIGHEST),
-                self.within(1, PoolAmount::HIGHEST),
-                self.risk_weight(in_hundredths),
-                status,
-            ]);
+            words.extend(self.row(&facts, statuses));
         }
-        if in_hundredths {
+        if affirms(&facts, UNIT) {
             let row = self.below(count) as usize;
             words[first_row + ROW_WORDS * row + 2] = 100 * self.below(RiskWeight::HIGHEST_PERCENT) + 1 + self.below(99);
         }
+    }
+
+    /// A row of a pool with these facts, of one of the first statuses, so many, where it is not that of a re-securitisation.
+    fn row(&mut self, facts: &[u64], statuses: u64) -> [u64; ROW_WORDS] {
+        let status = if affirms(facts, RESECURITISATION) {
+            3
+        } else {
+            self.below(statuses)
+        };
+        [
+            self.within(1, PoolAmount::HIGHEST),
+            self.within(1, PoolAmount::HIGHEST),
+            self.risk_weight(affirms(facts, UNIT)),
+            status,
+        ]
+    }
+
+    /// An amendment of the sheet, of any row, most often the first or the last.
+    fn amendment(&mut self, words: &[u64]) -> [u64; AMENDMENT_WORDS] {
+        let number = self.within(1, rows(words).count() as u64);
+        let [exposure, nominal, risk_weight, status] = self.row(words, 3);
+        [number, exposure, nominal, risk_weight, status]
     }
 
     /// The risk weight of a row; in hundredths, too, a whole percent every other time.
@@ -462,5 +480,24 @@ fn a_built_sheet_is_converted() -> Result<(), SheetError> {
         seen[sort_of(&words)] += 1;
     }
     assert!(seen.iter().all(|count| *count >= 20), "{seen:?}");
+    Ok(())
+}
+
+/// Every built sheet is opened, and after each of a run of amendments it is that of a fresh load.
+#[test]
+fn an_amended_sheet_is_that_of_a_fresh_load() -> Result<(), Box<dyn Error>> {
+    let mut generator = Generator(0x616d_656e_6465_6401);
+    let mut seen = [0; SORTS];
+    for _ in 0..900 {
+        let words = generator.words();
+        let mut pool = built(&words)?.open()?;
+        hold_opened(&pool);
+        for _ in 0..6 {
+            let amendment = generator.amendment(&words);
+            hold_amended(&mut pool, amendment);
+        }
+        seen[sort_of(&words)] += 1;
+    }
+    assert!(seen.iter().all(|count| *count >= 10), "{seen:?}");
     Ok(())
 }

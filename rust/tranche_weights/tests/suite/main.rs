@@ -13,6 +13,7 @@ mod inferred;
 mod irb;
 mod least_weight;
 mod numbers;
+mod opened_pool;
 mod places;
 mod ratings;
 mod refusals;

@@ -1,10 +1,10 @@
-//! The lent results and the sizes of all that is lent (document 01, "The deal sheet"; document 02, S-6, S-7 and S-9).
+//! The lent results and the sizes of all that is lent (document 01, "The deal sheet"; document 02, S-6, S-7, S-9 and S-10).
 
 use crate::checked_deal::{file_of, RESULTS, WORDS};
 use crate::places::DUE_DILIGENCE;
 use tranche_weights::{
-    reply_to_file, reply_to_words, weigh_file, weigh_words, Approach, Line, Reply, BLOCK_ROWS, FILE_BYTES, LINE_WORDS,
-    MOST_BLOCKS, MOST_TRANCHES, NUMBER_DIGITS, RESULT_WORDS, SHEET_WORDS, SUM_WORDS, TEXT_ROOM,
+    reply_to_file, reply_to_words, weigh_file, weigh_words, Approach, Line, Reply, AMENDMENT_WORDS, BLOCK_ROWS,
+    FILE_BYTES, LINE_WORDS, MOST_BLOCKS, MOST_TRANCHES, NUMBER_DIGITS, RESULT_WORDS, SHEET_WORDS, SUM_WORDS, TEXT_ROOM,
 };
 
 /// The approaches, by their words.
@@ -56,13 +56,14 @@ fn an_accepted_sheet_has_number_and_place_0() {
 
 /// The sizes that are worked out from their parts are those of documents 01 and 02: seven words for each of 32 tranches;
 /// a file of at most 33,928 bytes; the bytes of a report as the library has them; 20 blocks of 50 rows, with seven sums
-/// each.
+/// each; five words of an amendment.
 #[test]
 fn sizes_are_those_of_the_papers() {
     assert_eq!((LINE_WORDS, MOST_TRANCHES, RESULT_WORDS), (7, 32, 224));
     assert_eq!((SHEET_WORDS, FILE_BYTES), (4241, 33_928));
     assert_eq!((NUMBER_DIGITS, TEXT_ROOM), (20, 5482));
     assert_eq!((BLOCK_ROWS, MOST_BLOCKS, SUM_WORDS), (50, 20, 7));
+    assert_eq!(AMENDMENT_WORDS, 5);
 }
 
 /// A deal's lines hold the result words, each in its field.
