@@ -17,7 +17,7 @@ fn pattern(place: usize) -> u64 {
 }
 
 /// Words to lend.
-#[derive(Debug, Default)]
+#[derive(Debug, Clone, Default, PartialEq, Eq)]
 pub struct Lent {
     words: Vec<u64>,
     room: usize,
@@ -30,6 +30,11 @@ impl Lent {
         self.words.extend((0..room + GUARD).map(pattern));
         self.room = room;
         call(&mut self.words[..room])
+    }
+
+    /// The words that were lent.
+    pub fn words_mut(&mut self) -> &mut [u64] {
+        &mut self.words[..self.room]
     }
 
     /// The first `count` of the lent words, or fewer where there are no more.
