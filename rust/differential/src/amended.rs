@@ -26,15 +26,14 @@ pub struct Stage {
 }
 
 impl Stage {
-    /// A pool that was opened or amended, loaded afresh, with so much room for results.
-    fn new(pool: &OpenedPool, rooms: [usize; ROOMS]) -> Stage {
-        let fresh = OpenedPool::open(pool.words()).expect("an opened pool");
+    /// A pool that was opened or amended, with so much room for results.
+    fn new(pool: OpenedPool, rooms: [usize; ROOMS]) -> Stage {
         Stage {
             refused: None,
-            sums: fresh.sums(),
-            charge: fresh.charge(),
-            answers: rooms.map(|room| independent::weigh_opened(&fresh, room as u64)),
-            pool: fresh,
+            sums: pool.sums(),
+            charge: pool.charge(),
+            answers: rooms.map(|room| independent::weigh_opened(&pool, room as u64)),
+            pool,
         }
     }
 
@@ -42,7 +41,7 @@ impl Stage {
     fn amended(&self, amendment: &[u64], rooms: [usize; ROOMS]) -> Stage {
         let mut pool = self.pool.clone();
         match pool.amend(amendment) {
-            Ok(()) => Stage::new(&pool, rooms),
+            Ok(()) => Stage::new(pool, rooms),
             Err(refused) => Stage {
                 refused: Some(refused),
                 ..self.clone()
@@ -68,7 +67,7 @@ pub fn stages(case: &Case) -> Vec<Stage> {
     let Ok(pool) = OpenedPool::open(&case.sheet) else {
         return Vec::new();
     };
-    let mut stages = vec![Stage::new(&pool, case.amended_rooms)];
+    let mut stages = vec![Stage::new(pool, case.amended_rooms)];
     for amendment in &case.amendments {
         let next = stages[stages.len() - 1].amended(amendment, case.amended_rooms);
         stages.push(next);

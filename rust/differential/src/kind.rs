@@ -346,9 +346,9 @@ pub enum Amendments {
 impl Amendments {
     /// All lengths of a list, in the order of the enum.
     pub const TABLE: [Entry<Amendments>; 4] = [
-        (Amendments::Unused, "none", 80),
-        (Amendments::One, "one", 10),
-        (Amendments::Few, "two to four", 20),
+        (Amendments::Unused, "none", 170),
+        (Amendments::One, "one", 20),
+        (Amendments::Few, "two to four", 40),
         (Amendments::Many, "many", 1),
     ];
 

@@ -32,11 +32,6 @@ impl Lent {
         call(&mut self.words[..room])
     }
 
-    /// The words that were lent.
-    pub fn words_mut(&mut self) -> &mut [u64] {
-        &mut self.words[..self.room]
-    }
-
     /// The first `count` of the lent words, or fewer where there are no more.
     pub fn first(&self, count: u64) -> &[u64] {
         &self.words[..self.room.min(count as usize)]
