@@ -4,7 +4,7 @@
 use crate::answer::sum_words;
 use crate::case::Case;
 use crate::difference::{same, Asked, Difference, Part};
-use crate::library::{AmendmentReply, Library};
+use crate::library::{AmendmentReply, IsOpened, Library};
 use crate::observed::{Observed, ROOMS};
 use crate::opening::{compare_sums, compare_told};
 use crate::words;
@@ -82,7 +82,10 @@ pub fn compare(library: &Library, case: &Case) -> Result<Vec<Stage>, Difference>
     let last = |difference: Difference| difference.of(Asked::Amendment(case.amendments.len()));
     same(Part::Steps, stages.len(), observed.len()).map_err(last)?;
     for (number, (stage, seen)) in stages.iter().zip(&observed).enumerate() {
-        compare_stage(library, case, stage, seen).map_err(|difference| difference.of(Asked::Amendment(number)))?;
+        let before = &stages[number.saturating_sub(1)];
+        compare_stage(library, case, stage, seen)
+            .and_then(|()| compare_with_before(library.is_opened, before, stage))
+            .map_err(|difference| difference.of(Asked::Amendment(number)))?;
     }
     compare_swapped(library, case, &stages, &observed).map_err(|difference| difference.of(Asked::Amendment(2)))?;
     Ok(stages)
@@ -105,6 +108,13 @@ fn compare_stage(library: &Library, case: &Case, stage: &Stage, seen: &Observed)
         words::compare(answer, reply, lent)?;
     }
     compare_told(library.is_opened, case, &seen.words, seen.sums, true).map(|_| ())
+}
+
+/// A sheet and the sums that it had before an amendment are told an opened pool just where the amendment left them.
+fn compare_with_before(is_opened: IsOpened, before: &Stage, stage: &Stage) -> Result<(), Difference> {
+    let said = is_opened(stage.pool.words(), &sum_words(&before.sums));
+    let due = before.sums == stage.sums;
+    same(Part::IsOpened, ("sums of before", due), ("sums of before", said))
 }
 
 /// The words of the sheet are the same, each at its place, and as many.
@@ -132,4 +142,91 @@ fn compare_swapped(library: &Library, case: &Case, stages: &[Stage], observed: &
     let swapped = [&case.amendments[1], &case.amendments[0]].map(Vec::clone);
     let other = (library.amend)(&case.sheet, &swapped, case.amended_rooms);
     same(Part::AmendmentOrder, observed.get(2), other.get(2))
+}
+
+#[cfg(test)]
+mod tests {
+    use super::*;
+    use crate::library::Amend;
+
+    /// The sheets of a run with a list of amendments.
+    fn cases() -> impl Iterator<Item = Case> {
+        let cases = (0..2_000).map(|index| Case::new(11, index));
+        cases.filter(|case| !case.amendments.is_empty())
+    }
+
+    /// A pool is opened where its sheet gets no refusal before 14, and there is a stage more than amendments. An accepted
+    /// amendment puts its row in the sheet, and a refused one leaves all as it was.
+    #[test]
+    fn stages_follow_the_amendments() {
+        let [mut opened, mut amended, mut refused] = [0; 3];
+        for case in cases() {
+            let stages = stages(&case);
+            let opens = independent::block_sums(&case.sheet, 0).is_ok();
+            assert_eq!(stages.len(), if opens { 1 + case.amendments.len() } else { 0 });
+            opened += u64::from(opens);
+            for (pair, amendment) in stages.windows(2).zip(&case.amendments) {
+                let [before, after] = [&pair[0], &pair[1]].map(|stage| stage.pool.words());
+                match pair[1].refused {
+                    None => {
+                        amended += 1;
+                        let place = independent::sheet::row_place(after, amendment[0] as usize - 1);
+                        let mut changed = before.to_vec();
+                        changed[place..place + 4].copy_from_slice(&amendment[1..]);
+                        assert_eq!(after, changed);
+                    }
+                    Some(_) => {
+                        refused += 1;
+                        assert_eq!((after, pair[1].sums), (before, pair[0].sums));
+                    }
+                }
+            }
+        }
+        assert!(opened > 100 && amended > 100 && refused > 100);
+    }
+
+    /// The first pairs that commute, of which the first changes the sheet, with the stages of their pools.
+    fn pairs() -> Vec<(Case, Vec<Stage>)> {
+        let with_stages = cases().map(|case| {
+            let stages = stages(&case);
+            (case, stages)
+        });
+        let pairs = with_stages
+            .filter(|(case, stages)| commute(case, stages) && stages[0].pool.words() != stages[1].pool.words());
+        pairs.take(20).collect()
+    }
+
+    /// The parts in which the pairs differ in the other order, for this library.
+    fn parts(amend: Amend) -> Vec<Part> {
+        let library = Library {
+            amend,
+            ..Library::PROVED
+        };
+        let differences = pairs().into_iter().filter_map(|(case, stages)| {
+            let observed = (Library::PROVED.amend)(&case.sheet, &case.amendments, case.amended_rooms);
+            compare_swapped(&library, &case, &stages, &observed).err()
+        });
+        differences.map(|difference| difference.part).collect()
+    }
+
+    /// Two amendments of different rows that are both accepted are made in the other order too. A library that gives
+    /// another pool then, or none, is found out each time.
+    #[test]
+    fn order_of_amendments_is_compared() {
+        assert_eq!(parts(Library::PROVED.amend), []);
+        let other_sums: Amend = |sheet, amendments, rooms| {
+            let mut observed = (Library::PROVED.amend)(sheet, amendments, rooms);
+            observed.iter_mut().for_each(|seen| seen.sums[0] += 1);
+            observed
+        };
+        let second_left_out: Amend = |sheet, amendments, rooms| {
+            let mut observed = (Library::PROVED.amend)(sheet, amendments, rooms);
+            observed[2] = observed[1].clone();
+            observed
+        };
+        let none: Amend = |_, _, _| Vec::new();
+        for amend in [other_sums, second_left_out, none] {
+            assert_eq!(parts(amend), [Part::AmendmentOrder; 20]);
+        }
+    }
 }

@@ -1,9 +1,10 @@
 //! What a run went through in opening and amending pools (S-10), counted. All of it must occur.
 
 use crate::amended::{commute, Stage};
-use crate::amended_feature::{AmendedFeature, Step};
+use crate::amended_feature::{AmendedFeature, OpenedRoom, Step};
 use crate::amendment_feature::AmendmentFeature;
 use crate::amendment_refusal::{AmendmentOrder, AmendmentRefusal};
+use crate::answer::Approach;
 use crate::case::Case;
 use crate::kind::{Amendment, Amendments};
 use crate::opening::Opening;
@@ -28,6 +29,10 @@ pub struct AmendmentTally {
     pub features: [u64; AmendmentFeature::TABLE.len()],
     /// Accepted amendments whose pool shows each feature.
     pub amended_features: [u64; AmendedFeature::TABLE.len()],
+    /// Weighings of opened pools whose room shows each feature.
+    pub rooms: [u64; OpenedRoom::TABLE.len()],
+    /// Lines of amended pools by approach.
+    pub approaches: [u64; Approach::TABLE.len()],
     /// Lists on sheets that are not opened.
     pub unopened: u64,
     /// Pairs of amendments that were made in the other order too.
@@ -47,9 +52,31 @@ impl AmendmentTally {
     pub fn note_stages(&mut self, case: &Case, stages: &[Stage]) {
         self.unopened += u64::from(stages.is_empty());
         self.swapped += u64::from(commute(case, stages));
+        for stage in stages {
+            self.note_rooms(case, stage);
+        }
         for number in 1..stages.len() {
             self.kinds[case.amendment_kinds[number - 1] as usize] += 1;
             self.note_step(&Step::new(case, stages, number));
+            if stages[number].refused.is_none() {
+                self.note_lines(&stages[number]);
+            }
+        }
+    }
+
+    /// Notes the weighings of an opened pool.
+    fn note_rooms(&mut self, case: &Case, stage: &Stage) {
+        for room in case.amended_rooms {
+            for (count, (feature, _)) in self.rooms.iter_mut().zip(OpenedRoom::TABLE) {
+                *count += u64::from(feature.shown(stage, room));
+            }
+        }
+    }
+
+    /// Notes the lines of a pool that an amendment changed.
+    fn note_lines(&mut self, stage: &Stage) {
+        for line in stage.answer().iter().flat_map(|deal| &deal.lines) {
+            self.approaches[line.approach as usize] += 1;
         }
     }
 
@@ -78,6 +105,8 @@ impl AmendmentTally {
         add(&mut self.orders, &other.orders);
         add(&mut self.features, &other.features);
         add(&mut self.amended_features, &other.amended_features);
+        add(&mut self.rooms, &other.rooms);
+        add(&mut self.approaches, &other.approaches);
         self.unopened += other.unopened;
         self.swapped += other.swapped;
     }
@@ -92,6 +121,8 @@ impl AmendmentTally {
         names.extend(AmendmentOrder::TABLE.map(|(_, name)| name.to_string()));
         names.extend(AmendmentFeature::TABLE.map(|(_, name)| name.to_string()));
         names.extend(AmendedFeature::TABLE.map(|(_, name)| name.to_string()));
+        names.extend(OpenedRoom::TABLE.map(|(_, name)| name.to_string()));
+        names.extend(Approach::TABLE.iter().map(|(_, name)| format!("amended lines: {name}")));
         names.push("amendments: of a sheet that is not opened".to_string());
         names.push("amendments: two in the other order".to_string());
         names
@@ -107,6 +138,8 @@ impl AmendmentTally {
             &self.orders,
             &self.features,
             &self.amended_features,
+            &self.rooms,
+            &self.approaches,
             &[self.unopened, self.swapped],
         ];
         groups.concat()

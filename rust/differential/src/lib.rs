@@ -56,7 +56,7 @@ mod tranches;
 mod unit_feature;
 mod words;
 
-pub use amended_feature::AmendedFeature;
+pub use amended_feature::{AmendedFeature, OpenedRoom};
 pub use amendment::AMENDMENT_WORDS;
 pub use amendment_feature::AmendmentFeature;
 pub use amendment_refusal::{AmendmentOrder, AmendmentRefusal};

@@ -1,6 +1,6 @@
 //! A sheet and what each side says to it, in full, as text.
 
-use crate::amended;
+use crate::amended::{self, Stage};
 use crate::answer::{sum_words, MOST_RESULTS, SUM_WORDS};
 use crate::blocks;
 use crate::case::Case;
@@ -8,7 +8,8 @@ use crate::conversion;
 use crate::difference::Part;
 use crate::kind::{Amendment, Amendments, File, Relation};
 use crate::lent::Lent;
-use crate::library::{BlockReply, ConversionReply, Library, OpeningReply, Reply};
+use crate::library::{AmendmentReply, BlockReply, ConversionReply, Library, OpeningReply, Reply};
+use crate::observed::Observed;
 use crate::run::Found;
 use crate::words::due;
 use independent::{Deal, OpenedPool, Refusal};
@@ -144,17 +145,6 @@ fn opening_answers(library: &Library, case: &Case) -> String {
     format!("independent, opening: {independent}proved, opening: {proved}")
 }
 
-/// A pool after so many amendments, by one side: number and place of the reply, sums and charge, the rows that are not
-/// those of the sheet as given, and its answers.
-fn stage(side: &str, steps: usize, reply: [u64; 2], pool: (&[u64], u64), rows: &str, answers: String) -> String {
-    let ([number, place], (sums, charge)) = (reply, pool);
-    let sums = words(sums);
-    format!(
-        "{side}, after {steps} amendments: number {number} place {place} sums {sums} charge {charge} \
-         changed words{rows}\n{answers}"
-    )
-}
-
 /// The words of a sheet that are not those of the sheet as given, each after its place.
 fn changed_words(given: &[u64], sheet: &[u64]) -> String {
     let places = (0..).zip(given.iter().zip(sheet));
@@ -164,23 +154,36 @@ fn changed_words(given: &[u64], sheet: &[u64]) -> String {
         .collect()
 }
 
+/// What the independent side has for an opened pool: number and place of the reply, sums and charge, the words of the
+/// sheet that are not those of the sheet as given, and the answers.
+fn independent_stage(case: &Case, due: &Stage) -> String {
+    let [number, place] = due.refused.map_or([0; 2], |refused| [refused.number, refused.place]);
+    let sums = words(&sum_words(&due.sums));
+    let changed = changed_words(&case.sheet, due.pool.words());
+    let answers: String = due.answers.iter().map(independent_answer).collect();
+    let charge = due.charge;
+    format!("number {number} place {place} sums {sums} charge {charge} changed words{changed}\n{answers}")
+}
+
+/// The same of the proved library.
+fn proved_stage(case: &Case, said: &Observed) -> String {
+    let AmendmentReply { number, place, .. } = said.reply;
+    let sums = words(&said.sums);
+    let changed = changed_words(&case.sheet, &said.words);
+    let answers: String = said.weighed.iter().map(|(reply, lent)| weighed(reply, lent)).collect();
+    let charge = said.charge;
+    format!("number {number} place {place} sums {sums} charge {charge} changed words{changed}\n{answers}")
+}
+
 /// What both sides say of the opened pool after its opening and after each amendment.
 fn amended_answers(library: &Library, case: &Case) -> String {
+    let stages = amended::stages(case);
     let observed = (library.amend)(&case.sheet, &case.amendments, case.amended_rooms);
-    let independent = amended::stages(case).into_iter().enumerate().map(|(steps, due)| {
-        let reply = due.refused.map_or([0; 2], |refused| [refused.number, refused.place]);
-        let sums = sum_words(&due.sums);
-        let rows = changed_words(&case.sheet, due.pool.words());
-        let answers = due.answers.iter().map(independent_answer).collect();
-        stage("independent", steps, reply, (&sums, due.charge), &rows, answers)
-    });
-    let proved = observed.iter().enumerate().map(|(steps, said)| {
-        let reply = [said.reply.number, said.reply.place];
-        let rows = changed_words(&case.sheet, &said.words);
-        let answers = said.weighed.iter().map(|(reply, lent)| weighed(reply, lent)).collect();
-        stage("proved", steps, reply, (&said.sums, said.charge), &rows, answers)
-    });
-    independent.chain(proved).collect()
+    let independent = stages.iter().map(|due| ("independent", independent_stage(case, due)));
+    let proved = observed.iter().map(|said| ("proved", proved_stage(case, said)));
+    let numbered = independent.enumerate().chain(proved.enumerate());
+    let text = numbered.map(|(steps, (side, text))| format!("{side}, after {steps} amendments: {text}"));
+    text.collect()
 }
 
 /// What both sides answer to the sheet, to its file where there is one, to blocks of its rows, to its conversion, to its
