@@ -92,3 +92,70 @@ impl OpeningFeature {
         }
     }
 }
+
+#[cfg(test)]
+mod tests {
+    use super::*;
+    use crate::answer::SUM_WORDS;
+
+    /// What is shown where the lines have this answer, the sheet is refused by this number, or opened by 0, and the changed
+    /// sheet is this.
+    fn shown(lines: u64, number: u64, changed: Changed, sum: usize) -> Vec<OpeningFeature> {
+        let refused = |number| Refusal { number, place: 0 };
+        let lines = match lines {
+            0 => Ok(Deal {
+                charge: 0,
+                lines: Vec::new(),
+            }),
+            number => Err(refused(number)),
+        };
+        let opening = Opening {
+            refused: Some(refused(number)).filter(|refused| refused.number != 0),
+            changed,
+        };
+        let features = OpeningFeature::TABLE.map(|(feature, _)| feature).into_iter();
+        features
+            .filter(|feature| feature.shown(&lines, &opening, sum))
+            .collect()
+    }
+
+    /// No feature stands twice in its table.
+    #[test]
+    fn each_feature_stands_once() {
+        let features = OpeningFeature::TABLE.map(|(feature, _)| feature);
+        assert!((1..features.len()).all(|n| !features[..n].contains(&features[n])));
+    }
+
+    /// Each number before 14 is a feature of its own, and none other is shown with it but that the sheet is no opened pool.
+    #[test]
+    fn refusals_are_seen() {
+        let of_lines = [
+            refusal::THIN,
+            refusal::ROOM,
+            refusal::FILE_LENGTH,
+            refusal::NOT_WHOLE_PERCENT,
+        ];
+        for &number in refusal::MET.iter().filter(|number| !of_lines.contains(number)) {
+            let refused = [OpeningFeature::Refused(number), OpeningFeature::BadSheet];
+            assert_eq!(shown(number, number, Changed::OtherSums, 0), refused);
+        }
+    }
+
+    /// An opened pool shows the sum that was changed, what the changed sheet is, and the refusal of its lines.
+    #[test]
+    fn opened_pools_are_seen() {
+        for ((word, _), sum) in SumWord::TABLE.into_iter().zip(0..SUM_WORDS) {
+            let opened = [OpeningFeature::OtherSum(word), OpeningFeature::ChangedOpened];
+            assert_eq!(shown(0, 0, Changed::Opened, sum), opened);
+        }
+        for number in [refusal::THIN, refusal::ROOM] {
+            let refused = [
+                OpeningFeature::LinesRefused(number),
+                OpeningFeature::OtherSum(SumWord::Exposure),
+                OpeningFeature::ChangedRefused,
+            ];
+            assert_eq!(shown(number, 0, Changed::Refused, 0), refused);
+        }
+        assert_eq!(shown(0, 0, Changed::OtherSums, 0)[1..], [OpeningFeature::ChangedSums]);
+    }
+}
