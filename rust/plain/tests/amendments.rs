@@ -1,7 +1,7 @@
 //! The opened pool of S-10: its refusals on opening and on amendments, and that sums, charge and lines are those of the
 //! sheet opened afresh.
 
-use plain::{OpenedPool, LINE_WORDS, SUM_WORDS};
+use plain::{OpenedPool, Refusal, LINE_WORDS, SUM_WORDS};
 
 /// The whole deal of "Checked deals": the rows stand at 6 and 10.
 const CHECKED: [u64; 36] = [
@@ -33,8 +33,11 @@ fn with(words: &[u64], place: usize, word: u64) -> Vec<u64> {
     changed
 }
 
-/// The answer of an opened pool and the words that it lends.
-fn weighed(pool: &OpenedPool) -> (Result<(u64, u64), (u64, u64)>, [u64; 4 * LINE_WORDS]) {
+/// The answer to a sheet: tranche count and pool charge, or the refusal.
+type Answer = Result<(u64, u64), Refusal>;
+
+/// The answer of an opened pool and the results that it was lent.
+fn weighed(pool: &OpenedPool) -> (Answer, [u64; 4 * LINE_WORDS]) {
     let mut results = [77; 4 * LINE_WORDS];
     (pool.weigh(&mut results), results)
 }
