@@ -4,7 +4,6 @@
 use crate::limits::{ROW_WORDS, SUM_WORDS, TRANCHE_WORDS};
 use crate::pool::{Pool, Row};
 use crate::sheet::{self, Deal, Facts, Refusal};
-use crate::tranche::Terms;
 use crate::weigh_deal;
 
 /// A sheet that has no bad word, with its facts and the sums of its pool.
@@ -46,7 +45,7 @@ impl OpenedPool {
 
     /// The pool charge, in millionths, that the sheet is weighed with.
     pub fn charge(&self) -> u64 {
-        Terms::of(&self.deal()).charge as u64
+        self.deal().charge() as u64
     }
 
     /// Weighs the sheet as it stands, as [`weigh`](crate::weigh) does.
