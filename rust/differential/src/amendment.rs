@@ -107,7 +107,7 @@ impl Terms {
             0 => {
                 let cut = ABOVE_32_BITS + self.number(random);
                 let past = above(random, self.rows());
-                random.pick(&[0, 0, past, past, cut])
+                random.pick(&[0, self.rows() + 1, self.rows() + 1, past, cut])
             }
             1 | 2 => {
                 let past = above(random, POOL_AMOUNT);
