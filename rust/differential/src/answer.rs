@@ -137,10 +137,20 @@ pub mod refusal {
     pub const WORDS_FOLLOW: u64 = 3;
     /// A fact is outside its codes.
     pub const FACT: u64 = 4;
+    /// A pool amount is outside its limits.
+    pub const POOL_AMOUNT: u64 = 5;
     /// A risk weight is above the limit of its unit.
     pub const RISK_WEIGHT: u64 = 6;
+    /// A status is none that a row of the deal can have.
+    pub const STATUS: u64 = 7;
+    /// A tranche amount is outside its limits, or the amount held above it.
+    pub const TRANCHE_AMOUNT: u64 = 8;
+    /// A class is out of order.
+    pub const CLASS: u64 = 9;
     /// A maturity is outside its months.
     pub const MATURITY: u64 = 10;
+    /// A rating code is not listed.
+    pub const RATING: u64 = 11;
     /// The formula applies, A equals D, and D is above the charge.
     pub const THIN: u64 = 13;
     /// Results shorter than the lines, or an output shorter than the rewritten sheet.
@@ -162,13 +172,13 @@ pub mod refusal {
         COUNT,
         WORDS_FOLLOW,
         FACT,
-        5,
+        POOL_AMOUNT,
         RISK_WEIGHT,
-        7,
-        8,
-        9,
+        STATUS,
+        TRANCHE_AMOUNT,
+        CLASS,
         MATURITY,
-        11,
+        RATING,
         THIN,
         ROOM,
         FILE_LENGTH,

@@ -1,13 +1,17 @@
 //! One sheet of a run with all that is done with it: its room for results, its file, a second sheet made from it, numbers
-//! of blocks, and the output for the sheet in the other unit.
+//! of blocks, the output for the sheet in the other unit, and amendments of its pool.
 
+use crate::amendment;
+use crate::answer::SUM_WORDS;
 use crate::blocks;
 use crate::damage;
 use crate::dates;
 use crate::inferred;
 use crate::irb;
-use crate::kind::{File, Kind, Output, Relation, Room};
+use crate::kind::{Amendment, Amendments, File, Kind, Output, Relation, Room};
 use crate::limits;
+use crate::observed::ROOMS;
+use crate::opening::{sums_of, Change};
 use crate::pool;
 use crate::random::Random;
 use crate::sheet::{
@@ -40,6 +44,18 @@ pub struct Case {
     pub output_kind: Output,
     /// How many output words are lent then.
     pub output: usize,
+    /// The sums of the pool that the sheet was written with, before any damage.
+    pub sums: [u64; SUM_WORDS],
+    /// A word of the sums and one of the sheet that are changed, each alone.
+    pub change: Change,
+    /// How many amendments of the pool are made.
+    pub list: Amendments,
+    /// What each of them is made to show.
+    pub amendment_kinds: Vec<Amendment>,
+    /// Their words.
+    pub amendments: Vec<Vec<u64>>,
+    /// How many result words are lent with the opened pool: enough, then too few.
+    pub amended_rooms: [usize; ROOMS],
     /// The deal that the sheet was written from.
     deal: Deal,
 }
@@ -66,6 +82,12 @@ impl Case {
             blocks: [0; blocks::DRAWN],
             output_kind: Output::Larger,
             output: 0,
+            sums: [0; SUM_WORDS],
+            change: Change::default(),
+            list: Amendments::Unused,
+            amendment_kinds: Vec::new(),
+            amendments: Vec::new(),
+            amended_rooms: [0; ROOMS],
             deal: Deal::default(),
         }
     }
@@ -80,6 +102,8 @@ impl Case {
         self.deal.write(&mut self.sheet);
         self.room_kind = Room::draw(&mut random);
         self.room = self.room_kind.words(self.deal.tranches.len(), &mut random);
+        let terms = amendment::Terms::of(&self.deal);
+        self.sums = sums_of(&self.deal);
         if !self.kind.is_sound() {
             damage::apply(self.kind, &mut random, self.deal.layout(), &mut self.sheet);
         }
@@ -88,6 +112,25 @@ impl Case {
         self.blocks = blocks::draw(&mut random);
         self.output_kind = Output::draw(&mut random);
         self.output = self.output_kind.words(&self.sheet, &mut random);
+        self.make_amendments(&mut random, &terms);
+    }
+
+    /// Makes the amendments of the pool, by the terms of the deal that the sheet was written from, and what goes with
+    /// them.
+    fn make_amendments(&mut self, random: &mut Random, terms: &amendment::Terms) {
+        self.change = Change::draw(random, terms.layout, &self.sheet);
+        self.list = Amendments::draw(random);
+        self.amendment_kinds.clear();
+        self.amendments.clear();
+        for _ in 0..self.list.count(random) {
+            let kind = Amendment::draw(random);
+            let words = amendment::draw(kind, random, terms, &self.sheet, self.amendments.last());
+            self.amendment_kinds.push(kind);
+            self.amendments.push(words);
+        }
+        let enough = random.pick(&[Room::Ample, Room::Exact]);
+        let too_few = random.pick(&[Room::OneLess, Room::OneLessEach, Room::Short, Room::Nothing]);
+        self.amended_rooms = [enough, too_few].map(|room| room.words(terms.layout.tranches, random));
     }
 
     /// Makes the second sheet. Facts are added to damaged sheets too, and months take the place of dates in them; the

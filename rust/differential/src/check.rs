@@ -1,13 +1,15 @@
 //! All comparisons of one sheet.
 
+use crate::amended;
 use crate::blocks;
 use crate::case::Case;
 use crate::conversion;
 use crate::conversion_law;
 use crate::difference::{Asked, Difference, Part};
-use crate::kind::{File, Relation};
+use crate::kind::{Amendments, File, Relation};
 use crate::lent::Lent;
 use crate::library::Library;
+use crate::opening;
 use crate::second;
 use crate::tally::Tally;
 use crate::text;
@@ -29,6 +31,22 @@ pub fn check(library: &Library, case: &Case, lent: &mut Lent, tally: &mut Tally)
     let conversions = conversion::compare(library.convert, case, lent)?;
     conversion_law::compare(library, case, lent)?;
     tally.note_conversions(case, &expected, &conversions);
+    check_opened(library, case, &expected, tally)
+}
+
+/// Compares the opening of the sheet's pool, and its amendments where there are some.
+fn check_opened(
+    library: &Library,
+    case: &Case,
+    expected: &Result<Deal, Refusal>,
+    tally: &mut Tally,
+) -> Result<(), Difference> {
+    let opening = opening::compare(library, case)?;
+    tally.amended.note_opening(case, expected, &opening);
+    if case.list != Amendments::Unused {
+        let stages = amended::compare(library, case)?;
+        tally.amended.note_stages(case, &stages);
+    }
     Ok(())
 }
 

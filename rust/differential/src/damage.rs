@@ -213,7 +213,7 @@ fn add_words(random: &mut Random, words: &mut Vec<u64>) {
 }
 
 /// Draws the place of a word: each sort of field comes often, however many rows there are.
-fn place(random: &mut Random, layout: Layout, words: &[u64]) -> usize {
+pub fn place(random: &mut Random, layout: Layout, words: &[u64]) -> usize {
     let row = layout.row(random.below(layout.rows as u64) as usize);
     let tranche = layout.tranche(random.below(layout.tranches as u64) as usize);
     match random.below(14) {

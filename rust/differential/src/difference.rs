@@ -6,7 +6,7 @@ use std::fmt;
 /// The compared part in which the sides differ.
 #[derive(Debug, Clone, Copy, PartialEq, Eq)]
 pub enum Part {
-    /// One side weighs, sums or converts, the other refuses.
+    /// One side weighs, sums, converts, opens or amends, the other refuses.
     Outcome,
     /// The refusal's number.
     Number,
@@ -52,6 +52,16 @@ pub enum Part {
     SumsInOtherUnit,
     /// The sheet converted twice is not the sheet with all facts stated.
     ConvertedTwice,
+    /// A word of the sums was written on a refusal.
+    SumsOnRefusal,
+    /// How often an opened pool is looked at: once after the opening and after each amendment, or never.
+    Steps,
+    /// A word of the sheet of an opened pool.
+    Sheet,
+    /// Whether a sheet and sums are an opened pool.
+    IsOpened,
+    /// Two amendments of different rows give another pool in the other order.
+    AmendmentOrder,
     /// One side stopped with a panic.
     Panic,
 }
@@ -83,6 +93,11 @@ impl fmt::Display for Part {
             Part::OtherUnit => "the other unit",
             Part::SumsInOtherUnit => "sums in the other unit",
             Part::ConvertedTwice => "converted twice",
+            Part::SumsOnRefusal => "sums were written on a refusal",
+            Part::Steps => "steps of an opened pool",
+            Part::Sheet => "word of the sheet",
+            Part::IsOpened => "an opened pool",
+            Part::AmendmentOrder => "order of amendments",
             Part::Panic => "a panic",
         })
     }
@@ -99,6 +114,10 @@ pub enum Asked {
     Block(u64),
     /// The sheet in the other unit, with so many output words.
     Conversion(usize),
+    /// The opening of the sheet's pool.
+    Opening,
+    /// The opened pool after so many amendments, in the answer to the last of them or in what it then is.
+    Amendment(usize),
 }
 
 impl fmt::Display for Asked {
@@ -109,6 +128,8 @@ impl fmt::Display for Asked {
             Asked::File => to.write_str(" of the file"),
             Asked::Block(block) => write!(to, " of block {block}"),
             Asked::Conversion(room) => write!(to, " of the conversion to {room} words"),
+            Asked::Opening => to.write_str(" of the opening"),
+            Asked::Amendment(steps) => write!(to, " after {steps} amendments"),
         }
     }
 }

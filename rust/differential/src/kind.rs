@@ -1,5 +1,5 @@
-//! The kinds of sheets, the kinds of room for results and for the rewritten sheet, and the kinds of files that a run is
-//! made of, each with its name and its share.
+//! The kinds of sheets, the kinds of room for results and for the rewritten sheet, the kinds of files and the kinds of
+//! amendments that a run is made of, each with its name and its share.
 
 use crate::answer::LINE_WORDS;
 use crate::random::Random;
@@ -330,6 +330,96 @@ impl Relation {
     }
 }
 
+/// How many amendments of a sheet's pool are made.
+#[derive(Debug, Clone, Copy, PartialEq, Eq)]
+pub enum Amendments {
+    /// None: the pool is only opened.
+    Unused,
+    /// One.
+    One,
+    /// Two to four.
+    Few,
+    /// Up to 40.
+    Many,
+}
+
+impl Amendments {
+    /// All lengths of a list, in the order of the enum.
+    pub const TABLE: [Entry<Amendments>; 4] = [
+        (Amendments::Unused, "none", 170),
+        (Amendments::One, "one", 20),
+        (Amendments::Few, "two to four", 40),
+        (Amendments::Many, "many", 1),
+    ];
+
+    /// Draws the length of a list.
+    pub fn draw(random: &mut Random) -> Amendments {
+        draw(&Amendments::TABLE, random)
+    }
+
+    /// How many amendments to make.
+    pub fn count(self, random: &mut Random) -> u64 {
+        match self {
+            Amendments::Unused => 0,
+            Amendments::One => 1,
+            Amendments::Few => random.between(2, 4),
+            Amendments::Many => random.between(5, 40),
+        }
+    }
+}
+
+/// What an amendment is made to show.
+#[derive(Debug, Clone, Copy, PartialEq, Eq)]
+pub enum Amendment {
+    /// Any good row.
+    Any,
+    /// Every word of the row at its lowest or highest allowed value.
+    AtLimits,
+    /// The row as the sheet has it with one amount by one more or less, or with another status.
+    Near,
+    /// Any good row of the number of the amendment before.
+    SameRow,
+    /// The row as the sheet has it, of the number of the amendment before.
+    AsGiven,
+    /// One bad word.
+    BadWord,
+    /// Two bad words.
+    SeveralBadWords,
+    /// Too few words.
+    Short,
+    /// Too many words.
+    Long,
+    /// A bad word, and too few.
+    BadAndShort,
+    /// A bad word, and too many.
+    BadAndLong,
+    /// Random words.
+    RandomWords,
+}
+
+impl Amendment {
+    /// All kinds of amendments, in the order of the enum.
+    pub const TABLE: [Entry<Amendment>; 12] = [
+        (Amendment::Any, "any row", 12),
+        (Amendment::AtLimits, "a row at the limits", 6),
+        (Amendment::Near, "a row with one word changed", 12),
+        (Amendment::SameRow, "the same row once more", 4),
+        (Amendment::AsGiven, "the row as given", 4),
+        (Amendment::BadWord, "a bad word", 8),
+        (Amendment::SeveralBadWords, "several bad words", 3),
+        (Amendment::Short, "too few words", 3),
+        (Amendment::Long, "too many words", 2),
+        (Amendment::BadAndShort, "a bad word and too few", 3),
+        (Amendment::BadAndLong, "a bad word and too many", 3),
+        (Amendment::RandomWords, "random words", 1),
+    ];
+
+    /// Draws a kind of amendment.
+    pub fn draw(random: &mut Random) -> Amendment {
+        draw(&Amendment::TABLE, random)
+    }
+}
+
 #[cfg(test)]
 mod tests {
     use super::*;
@@ -344,6 +434,12 @@ mod tests {
         assert!((0..).zip(File::TABLE).all(|(place, entry)| entry.0 as usize == place));
         assert!((0..)
             .zip(Relation::TABLE)
+            .all(|(place, entry)| entry.0 as usize == place));
+        assert!((0..)
+            .zip(Amendments::TABLE)
+            .all(|(place, entry)| entry.0 as usize == place));
+        assert!((0..)
+            .zip(Amendment::TABLE)
             .all(|(place, entry)| entry.0 as usize == place));
     }
 

@@ -17,7 +17,7 @@ fn pattern(place: usize) -> u64 {
 }
 
 /// Words to lend.
-#[derive(Debug, Default)]
+#[derive(Debug, Clone, Default, PartialEq, Eq)]
 pub struct Lent {
     words: Vec<u64>,
     room: usize,

@@ -1,5 +1,5 @@
 //! Holds the proved library of tranche weights against the independent implementation of document 01 ("the scope
-//! paper") and of requests S-1 to S-3 and S-5 to S-9 of document 02 ("later requests"), on seeded random sheets.
+//! paper") and of requests S-1 to S-3 and S-5 to S-10 of document 02 ("later requests"), on seeded random sheets.
 //!
 //! Every sheet is made from a seed and its index alone ([`Case`]), so that a run can be split over threads and any
 //! sheet can be made again. [`Run::go`] compares all sheets and gives the counts of what it met ([`Tally`]) or the
@@ -8,6 +8,12 @@
 #![forbid(unsafe_code)]
 #![deny(missing_docs)]
 
+mod amended;
+mod amended_feature;
+mod amendment;
+mod amendment_feature;
+mod amendment_refusal;
+mod amendment_tally;
 pub mod answer;
 mod block_feature;
 mod blocks;
@@ -31,6 +37,9 @@ mod lent;
 mod library;
 mod limits;
 mod line_feature;
+mod observed;
+mod opening;
+mod opening_feature;
 mod pool;
 mod random;
 mod rating_feature;
@@ -47,6 +56,11 @@ mod tranches;
 mod unit_feature;
 mod words;
 
+pub use amended_feature::{AmendedFeature, OpenedRoom};
+pub use amendment::AMENDMENT_WORDS;
+pub use amendment_feature::AmendmentFeature;
+pub use amendment_refusal::{AmendmentOrder, AmendmentRefusal};
+pub use amendment_tally::AmendmentTally;
 pub use block_feature::{BlockFeature, BlockRowFeature, RefusedAt};
 pub use case::Case;
 pub use check::check;
@@ -55,12 +69,18 @@ pub use date_feature::{DateFeature, DatedLineFeature};
 pub use difference::{Asked, Difference, Part};
 pub use inferred_feature::{InferredFeature, InferredRefusal, UntakenFeature};
 pub use irb_feature::{is_under_irba, IrbFeature, IrbLineFeature, IrbRefusal};
-pub use kind::{File, Kind, Output, Relation, Room};
+pub use kind::{Amendment, Amendments, File, Kind, Output, Relation, Room};
 pub use law_feature::LawFeature;
 pub use least_feature::{Ends, LeastFeature, NearPair};
 pub use lent::Lent;
-pub use library::{BlockReply, ConversionReply, Convert, Library, Reply, SumBlock, Weigh, WeighFile};
+pub use library::{
+    Amend, AmendmentReply, BlockReply, ConversionReply, Convert, IsOpened, Library, Open, OpeningReply, Reply,
+    SumBlock, Weigh, WeighFile,
+};
 pub use line_feature::{Feature, StcFeature};
+pub use observed::{Observed, ROOMS};
+pub use opening::{Change, Changed};
+pub use opening_feature::OpeningFeature;
 pub use rating_feature::RatingFeature;
 pub use run::{Found, Run};
 pub use sheet_feature::{FileFeature, RoomFeature, SheetFeature};

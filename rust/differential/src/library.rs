@@ -1,7 +1,10 @@
-//! The library that is held against the independent implementation, as five functions, so that tests can put wrong
+//! The library that is held against the independent implementation, as eight functions, so that tests can put wrong
 //! ones in their place.
 
-pub use tranche_weights::{BlockReply, ConversionReply, Reply};
+use crate::answer::SUM_WORDS;
+use crate::observed::{self, Observed, ROOMS};
+
+pub use tranche_weights::{AmendmentReply, BlockReply, ConversionReply, OpeningReply, Reply};
 
 /// Weighs a sheet's words into lent results and replies with the four numbers of the C function.
 pub type Weigh = fn(&[u64], &mut [u64]) -> Reply;
@@ -16,7 +19,17 @@ pub type SumBlock = fn(&[u64], u64) -> BlockReply;
 /// function does.
 pub type Convert = fn(&[u64], &mut [u64]) -> ConversionReply;
 
-/// The five functions that are compared.
+/// Opens the pool of a sheet, writes its sums to the lent ones and replies with number and place, as the C function does.
+pub type Open = fn(&[u64], &mut [u64; SUM_WORDS]) -> OpeningReply;
+
+/// Tells whether a sheet and sums are an opened pool.
+pub type IsOpened = fn(&[u64], &[u64; SUM_WORDS]) -> bool;
+
+/// Opens the pool of a sheet, amends it one by one and gives what is seen of it after the opening and after each
+/// amendment, with so much room for results in each of its weighings; nothing where the sheet is not opened.
+pub type Amend = fn(&[u64], &[Vec<u64>], [usize; ROOMS]) -> Vec<Observed>;
+
+/// The eight functions that are compared.
 #[derive(Clone, Copy)]
 pub struct Library {
     /// Weighs a sheet's words into lent results.
@@ -29,6 +42,12 @@ pub struct Library {
     pub block_sums: SumBlock,
     /// Writes a sheet in the other unit of risk weights to lent output.
     pub convert: Convert,
+    /// Opens the pool of a sheet and writes its sums.
+    pub open: Open,
+    /// Tells whether a sheet and sums are an opened pool.
+    pub is_opened: IsOpened,
+    /// Opens the pool of a sheet and amends it.
+    pub amend: Amend,
 }
 
 impl Library {
@@ -39,5 +58,8 @@ impl Library {
         report: tranche_weights::report,
         block_sums: tranche_weights::reply_to_block,
         convert: tranche_weights::reply_to_conversion,
+        open: tranche_weights::reply_to_opening,
+        is_opened: tranche_weights::is_opened,
+        amend: observed::amend,
     };
 }

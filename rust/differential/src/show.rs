@@ -1,23 +1,25 @@
 //! A sheet and what each side says to it, in full, as text.
 
-use crate::answer::MOST_RESULTS;
+use crate::amended::{self, Stage};
+use crate::answer::{sum_words, MOST_RESULTS, SUM_WORDS};
 use crate::blocks;
 use crate::case::Case;
 use crate::conversion;
 use crate::difference::Part;
-use crate::kind::{File, Relation};
+use crate::kind::{Amendment, Amendments, File, Relation};
 use crate::lent::Lent;
-use crate::library::{BlockReply, ConversionReply, Library, Reply};
+use crate::library::{AmendmentReply, BlockReply, ConversionReply, Library, OpeningReply, Reply};
+use crate::observed::Observed;
 use crate::run::Found;
 use crate::words::due;
-use independent::{Deal, Refusal};
+use independent::{Deal, OpenedPool, Refusal};
 
 /// Words as decimal numbers with a space between, as document 01 writes a sheet.
 fn words(list: &[u64]) -> String {
     list.iter().map(u64::to_string).collect::<Vec<_>>().join(" ")
 }
 
-/// The sheet, its room and output, and the file and second sheet where there are some.
+/// The sheet, its room and output, and the file, second sheet and amendments where there are some.
 pub fn case(case: &Case) -> String {
     let mut text = format!(
         "kind {}, room {}, output {}\nsheet {}\n",
@@ -33,6 +35,10 @@ pub fn case(case: &Case) -> String {
     if case.relation != Relation::Unused {
         let name = Relation::TABLE[case.relation as usize].1;
         text += &format!("second sheet ({name}) {}\n", words(&case.second));
+    }
+    for (number, (kind, amendment)) in (1..).zip(case.amendment_kinds.iter().zip(&case.amendments)) {
+        let name = Amendment::TABLE[*kind as usize].1;
+        text += &format!("amendment {number} ({name}) {}\n", words(amendment));
     }
     text
 }
@@ -74,8 +80,13 @@ fn independent_answer(answer: &Result<Deal, Refusal>) -> String {
 fn proved_answer(room: usize, weigh: impl FnOnce(&mut [u64]) -> Reply) -> String {
     let mut lent = Lent::default();
     let reply = lent.lend(room, weigh);
-    let lines = lent.lines_of(&reply).iter().map(|line| format!("  {}\n", words(line)));
-    numbers(&reply) + &lines.collect::<String>()
+    weighed(&reply, &lent)
+}
+
+/// The four numbers of a reply, and the lines that it says were written to the lent results.
+fn weighed(reply: &Reply, lent: &Lent) -> String {
+    let lines = lent.lines_of(reply).iter().map(|line| format!("  {}\n", words(line)));
+    numbers(reply) + &lines.collect::<String>()
 }
 
 /// Number, place and sums of a reply, as a line.
@@ -122,7 +133,61 @@ fn conversion_answers(library: &Library, case: &Case) -> String {
     both.collect()
 }
 
-/// What both sides answer to the sheet, to its file where there is one, to blocks of its rows and to its conversion.
+/// What both sides answer to the opening of the sheet's pool.
+fn opening_answers(library: &Library, case: &Case) -> String {
+    let independent = match OpenedPool::open(&case.sheet) {
+        Ok(pool) => format!("number 0 place 0 sums {}\n", words(&sum_words(&pool.sums()))),
+        Err(Refusal { number, place }) => format!("number {number} place {place}\n"),
+    };
+    let mut sums = [0; SUM_WORDS];
+    let OpeningReply { number, place, .. } = (library.open)(&case.sheet, &mut sums);
+    let proved = format!("number {number} place {place} sums {}\n", words(&sums));
+    format!("independent, opening: {independent}proved, opening: {proved}")
+}
+
+/// The words of a sheet that are not those of the sheet as given, each after its place.
+fn changed_words(given: &[u64], sheet: &[u64]) -> String {
+    let places = (0..).zip(given.iter().zip(sheet));
+    let changed = places.filter(|(_, (old, new))| old != new);
+    changed
+        .map(|(place, (_, new)): (u64, _)| format!(" {place}: {new}"))
+        .collect()
+}
+
+/// What the independent side has for an opened pool: number and place of the reply, sums and charge, the words of the
+/// sheet that are not those of the sheet as given, and the answers.
+fn independent_stage(case: &Case, due: &Stage) -> String {
+    let [number, place] = due.refused.map_or([0; 2], |refused| [refused.number, refused.place]);
+    let sums = words(&sum_words(&due.sums));
+    let changed = changed_words(&case.sheet, due.pool.words());
+    let answers: String = due.answers.iter().map(independent_answer).collect();
+    let charge = due.charge;
+    format!("number {number} place {place} sums {sums} charge {charge} changed words{changed}\n{answers}")
+}
+
+/// The same of the proved library.
+fn proved_stage(case: &Case, said: &Observed) -> String {
+    let AmendmentReply { number, place, .. } = said.reply;
+    let sums = words(&said.sums);
+    let changed = changed_words(&case.sheet, &said.words);
+    let answers: String = said.weighed.iter().map(|(reply, lent)| weighed(reply, lent)).collect();
+    let charge = said.charge;
+    format!("number {number} place {place} sums {sums} charge {charge} changed words{changed}\n{answers}")
+}
+
+/// What both sides say of the opened pool after its opening and after each amendment.
+fn amended_answers(library: &Library, case: &Case) -> String {
+    let stages = amended::stages(case);
+    let observed = (library.amend)(&case.sheet, &case.amendments, case.amended_rooms);
+    let independent = stages.iter().map(|due| ("independent", independent_stage(case, due)));
+    let proved = observed.iter().map(|said| ("proved", proved_stage(case, said)));
+    let numbered = independent.enumerate().chain(proved.enumerate());
+    let text = numbered.map(|(steps, (side, text))| format!("{side}, after {steps} amendments: {text}"));
+    text.collect()
+}
+
+/// What both sides answer to the sheet, to its file where there is one, to blocks of its rows, to its conversion, to its
+/// opening, and to its amendments where there are some.
 pub fn answers(library: &Library, case: &Case) -> String {
     let independent = independent_answer(&independent::weigh(&case.sheet, case.room as u64));
     let proved = proved_answer(case.room, |results| (library.weigh)(&case.sheet, results));
@@ -131,7 +196,12 @@ pub fn answers(library: &Library, case: &Case) -> String {
         File::Unused => String::new(),
         _ => file_answers(library, case),
     };
-    text + &of_file + &block_answers(library, case) + &conversion_answers(library, case)
+    let amended = match case.list {
+        Amendments::Unused => String::new(),
+        _ => amended_answers(library, case),
+    };
+    let opened = opening_answers(library, case) + &amended;
+    text + &of_file + &block_answers(library, case) + &conversion_answers(library, case) + &opened
 }
 
 /// What both sides answer to the sheet's file, with the room of the sheet and as a report.

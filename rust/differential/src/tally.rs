@@ -1,5 +1,6 @@
 //! What a run went through, counted, and what of it must occur for the run to count as one.
 
+use crate::amendment_tally::AmendmentTally;
 use crate::answer::{refusal, Approach, LineWord, LINE_WORDS};
 use crate::block_feature::{AskedBlock, BlockFeature, BlockRowFeature};
 use crate::case::Case;
@@ -71,7 +72,7 @@ fn column(stc: bool, senior: bool, months: u64) -> usize {
 }
 
 /// Adds counts to others, place by place.
-fn add(counts: &mut [u64], others: &[u64]) {
+pub fn add(counts: &mut [u64], others: &[u64]) {
     counts.iter_mut().zip(others).for_each(|(one, two)| *one += two);
 }
 
@@ -112,6 +113,7 @@ fn names() -> Vec<String> {
     names.extend(BlockFeature::TABLE.map(|(_, name)| name.to_string()));
     names.extend(ConversionFeature::TABLE.map(|(_, name)| name.to_string()));
     names.extend(ConversionRefusal::TABLE.map(|(_, name)| name.to_string()));
+    names.extend(AmendmentTally::names());
     names
 }
 
@@ -185,6 +187,8 @@ pub struct Tally {
     pub conversion_features: [u64; ConversionFeature::TABLE.len()],
     /// Conversions that are refused and show each feature.
     pub conversion_refusals: [u64; ConversionRefusal::TABLE.len()],
+    /// What is of opened pools.
+    pub amended: AmendmentTally,
     /// Lines with two admitted weights where the higher one is taken.
     pub higher_taken: u64,
     /// Lines with two admitted least weights where the lower one is taken.
@@ -437,6 +441,7 @@ impl Tally {
         add(&mut self.block_features, &other.block_features);
         add(&mut self.conversion_features, &other.conversion_features);
         add(&mut self.conversion_refusals, &other.conversion_refusals);
+        self.amended.add(&other.amended);
         self.higher_taken += other.higher_taken;
         self.lower_taken += other.lower_taken;
         add(&mut self.apart, &other.apart);
@@ -479,6 +484,7 @@ impl Tally {
             &self.block_features,
             &self.conversion_features,
             &self.conversion_refusals,
+            &self.amended.counts(),
         ];
         groups.concat()
     }

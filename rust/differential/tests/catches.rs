@@ -1,6 +1,8 @@
 //! The comparison finds a wrong answer in each part that it compares: each test puts a function with one fault in place
 //! of the proved one.
 
+mod runs;
+
 use differential::answer::{refusal, sum_words, Approach, LineWord, SumWord, LINE_WORDS, MOST_RESULTS, SUM_WORDS};
 use differential::sheet::{
     blocks_of, pool_kind, rewritten_words, unit, write_with_facts, Fact, IrbWord, Layout, RowWord, TrancheWord, BLOCKS,
@@ -8,8 +10,8 @@ use differential::sheet::{
     ONE_PERCENT, RATINGS, RISK_WEIGHT, RISK_WEIGHT_PERCENT, WHOLE, WORD_BYTES,
 };
 use differential::{
-    show, Asked, BlockReply, Case, ConversionReply, Convert, Difference, Ends, Feature, Found, LeastFeature, Library,
-    Part, Reply, Run, SumBlock, Tally, Weigh, WeighFile,
+    show, Asked, BlockReply, Case, ConversionReply, Convert, Ends, Feature, LeastFeature, Library, Part, Reply, Run,
+    SumBlock, Tally, Weigh, WeighFile,
 };
 use independent::approach::{self, Figures};
 use independent::block::{self, sums_over};
@@ -21,35 +23,8 @@ use independent::irba::Sum;
 use independent::rating::{self, Table};
 use independent::sheet::{Facts, Irb, Row, Sheet, Status, Tranche};
 use independent::{Line, Refusal};
+use runs::{first_difference, first_part, run, SEED};
 use std::cmp::Reverse;
-
-/// The seed of the runs.
-const SEED: u64 = 3;
-
-/// A run of some sheets over this library.
-fn run(library: Library, threads: u64) -> Result<Tally, Found> {
-    let run = Run {
-        seed: SEED,
-        sheets: 4_000,
-        threads,
-    };
-    run.go(&library)
-}
-
-/// The difference that a run first finds in this library. The outcome is the same on any number of threads.
-fn first_difference(library: Library) -> Option<Difference> {
-    let found = run(library, 2).err();
-    assert_eq!(run(library, 1).err(), found);
-    assert_eq!(run(library, 3).err(), found);
-    found.map(|found| found.difference)
-}
-
-/// The part in which a run first finds this library different, in the answer to what is meant.
-fn first_part(library: Library, meant: fn(Asked) -> bool) -> Option<Part> {
-    let difference = first_difference(library)?;
-    assert!(meant(difference.asked), "{difference}");
-    Some(difference.part)
-}
 
 /// The part in which a run first finds this weighing different.
 fn weighed(weigh: Weigh) -> Option<Part> {

@@ -6,13 +6,14 @@ use differential::sheet::{
     FACTS, FEWEST_FACTS, IRB_AVERAGE, IRB_SHARE, LOANS, MANY_LOANS, MONTHS, NO_UNITS, ONE_PERCENT, POOL_AMOUNT,
     RISK_WEIGHT, ROWS, TRANCHES, TRANCHE_AMOUNT, WEIGHT_EDGES, WHOLE,
 };
-use differential::{is_under_irba, Case, Kind, Output, Relation};
+use differential::{is_under_irba, Amendment, Amendments, Case, Kind, Output, Relation, AMENDMENT_WORDS};
 use independent::approach::Figures;
 use independent::charge::{self, Points};
 use independent::inferred::is_rated;
 use independent::irba::Sum;
 use independent::rating::{self, Table};
 use independent::sheet::Tranche;
+use independent::OpenedPool;
 use std::cmp::Ordering;
 use std::collections::BTreeSet;
 
@@ -481,6 +482,138 @@ fn conversions_come_with_all_outputs() {
         .chain(refused);
     let missed: Vec<_> = wanted.filter(|case| !met.contains(case)).collect();
     assert!(missed.is_empty(), "{missed:?}");
+}
+
+/// Lists of amendments are as long as they should be, and those without one are the most.
+#[test]
+fn lists_follow_their_lengths() {
+    let mut counts = [0; Amendments::TABLE.len()];
+    for case in (0..20_000).map(|index| Case::new(31, index)) {
+        let lengths = match case.list {
+            Amendments::Unused => 0..=0,
+            Amendments::One => 1..=1,
+            Amendments::Few => 2..=4,
+            Amendments::Many => 5..=40,
+        };
+        assert!(lengths.contains(&case.amendments.len()));
+        assert_eq!(case.amendment_kinds.len(), case.amendments.len());
+        counts[case.list as usize] += 1;
+    }
+    let [unused, others @ ..] = counts;
+    assert!(
+        others.iter().sum::<u64>() < unused && others.iter().all(|&count| count > 50),
+        "{counts:?}"
+    );
+}
+
+/// The number by which a kind of amendment is refused: 0 where it is taken; none where it may be any.
+fn due_number(kind: Amendment, words: &[u64], place: u64) -> Option<u64> {
+    let of_word = [refusal::COUNT, 5, 5, refusal::RISK_WEIGHT, 7];
+    match kind {
+        Amendment::Any | Amendment::AtLimits | Amendment::Near | Amendment::SameRow | Amendment::AsGiven => Some(0),
+        Amendment::Short => Some(refusal::MISSING).filter(|_| place == words.len() as u64),
+        Amendment::Long => Some(refusal::WORDS_FOLLOW).filter(|_| place == AMENDMENT_WORDS as u64),
+        Amendment::BadWord | Amendment::SeveralBadWords | Amendment::BadAndShort | Amendment::BadAndLong => {
+            of_word.get(place as usize).copied()
+        }
+        Amendment::RandomWords => None,
+    }
+}
+
+/// The amendments of sound sheets are taken or refused as their kinds say, and have too few words or too many where these
+/// say so.
+#[test]
+fn amendments_follow_their_kinds() {
+    let mut met = BTreeSet::new();
+    for case in (0..20_000).map(|index| Case::new(32, index)) {
+        if !case.kind.is_sound() {
+            continue;
+        }
+        let mut pool = OpenedPool::open(&case.sheet).expect("a sound sheet");
+        for (&kind, words) in case.amendment_kinds.iter().zip(&case.amendments) {
+            let refused = pool.amend(words).err();
+            let [number, place] = refused.map_or([0; 2], |refused| [refused.number, refused.place]);
+            assert_eq!(
+                due_number(kind, words, place).unwrap_or(number),
+                number,
+                "{kind:?} {words:?}"
+            );
+            let length = words.len().cmp(&AMENDMENT_WORDS);
+            match kind {
+                Amendment::Short | Amendment::BadAndShort => assert_eq!(length, Ordering::Less),
+                Amendment::Long | Amendment::BadAndLong => assert_eq!(length, Ordering::Greater),
+                Amendment::RandomWords => assert!(words.len() < 8),
+                _ => assert_eq!(length, Ordering::Equal),
+            }
+            met.insert((kind as usize, place));
+        }
+    }
+    let places = |kind: Amendment, most: u64| (0..=most).map(move |place| (kind as usize, place));
+    let wanted = places(Amendment::BadWord, 4)
+        .chain(places(Amendment::Short, 4))
+        .chain(places(Amendment::SeveralBadWords, 3))
+        .chain(places(Amendment::BadAndShort, 3))
+        .chain(places(Amendment::BadAndLong, 4));
+    let missed: Vec<_> = wanted.filter(|case| !met.contains(case)).collect();
+    assert!(missed.is_empty(), "{missed:?}");
+}
+
+/// The row as given is that of the sheet, and the same row once more is that of the amendment before. A near row has one
+/// word changed at most. Words at the limits are at them.
+#[test]
+fn amended_rows_follow_their_kinds() {
+    let mut met = [0; 4];
+    for case in (0..20_000).map(|index| Case::new(33, index)) {
+        if !case.kind.is_sound() {
+            continue;
+        }
+        let layout = Layout::of_sheet(&case.sheet);
+        let most = unit::risk_weight(layout.fact_word(&case.sheet, Fact::Unit));
+        let mut before = None;
+        for (&kind, words) in case.amendment_kinds.iter().zip(&case.amendments) {
+            let of_row = before.filter(|number| (1..=layout.rows as u64).contains(number));
+            let given = |number: u64| &layout.pool(&case.sheet)[number as usize - 1];
+            match kind {
+                Amendment::SameRow => {
+                    met[0] += u64::from(of_row.is_some());
+                    assert!(of_row.is_none_or(|number| number == words[0]));
+                }
+                Amendment::AsGiven => {
+                    met[1] += 1;
+                    assert!(of_row.is_none_or(|number| number == words[0]));
+                    assert_eq!(words[1..], given(words[0])[..]);
+                }
+                Amendment::Near => {
+                    let pairs = given(words[0]).iter().zip(&words[1..]);
+                    let changed = pairs.filter(|(old, new)| old != new).count();
+                    met[2] += changed as u64;
+                    assert!(changed <= 1);
+                }
+                Amendment::AtLimits => {
+                    met[3] += 1;
+                    let amounts = words[1..3].iter();
+                    assert!(amounts
+                        .chain([&words[3]])
+                        .all(|word| [0, 1, most, POOL_AMOUNT].contains(word)));
+                }
+                _ => {}
+            }
+            before = words.first().copied();
+        }
+    }
+    assert!(met.iter().all(|&count| count > 200), "{met:?}");
+}
+
+/// Opened pools are lent room enough and too little.
+#[test]
+fn opened_pools_have_room_and_have_not() {
+    for case in (0..5_000).map(|index| Case::new(34, index)) {
+        if case.kind.is_sound() {
+            let needed = LINE_WORDS * Layout::of_sheet(&case.sheet).tranches;
+            let [enough, too_few] = case.amended_rooms;
+            assert!(enough >= needed && too_few < needed);
+        }
+    }
 }
 
 /// Non-senior tranches of just one half of the pool and a millionth more or less occur, rated, with and without the

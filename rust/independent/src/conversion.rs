@@ -1,7 +1,7 @@
 //! The converter of S-9: a sheet rewritten from either unit of the risk weight word to the other.
 
 use crate::answer::Refusal;
-use crate::sheet::{Sheet, WeightUnit, FACTS_MOST, ROW_WORDS};
+use crate::sheet::{facts_stated, row_place, Sheet, WeightUnit, FACTS_MOST, ROW_WORDS};
 
 /// Going down to percent, a risk weight that is not a multiple of 100.
 const NOT_WHOLE_PERCENT: u64 = 19;
@@ -40,15 +40,9 @@ fn word_in(unit: WeightUnit, risk_weight: u64) -> Option<u64> {
     whole.then(|| risk_weight / unit.hundredths())
 }
 
-/// How many facts a sheet states. Each stands at the place of its number, from 1, after their count.
-fn facts_stated(words: &[u64]) -> usize {
-    words[0] as usize
-}
-
-/// The places of the risk weights, from the first row on: the rows follow the facts and their own count.
+/// The places of the risk weights, from the first row on.
 fn risk_weight_places(words: &[u64]) -> impl Iterator<Item = usize> {
-    let first_row = 1 + facts_stated(words) + 1;
-    (first_row + ROW_RISK_WEIGHT..).step_by(ROW_WORDS)
+    (row_place(words, 0) + ROW_RISK_WEIGHT..).step_by(ROW_WORDS)
 }
 
 /// "Shorter fact lists are filled with zeros": one for each fact that is not stated, after those that are.

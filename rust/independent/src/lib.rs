@@ -1,4 +1,4 @@
-//! Exact tranche weights: the crate follows document 01 (the scope paper), requests S-1 to S-3 and S-5 to S-9 of
+//! Exact tranche weights: the crate follows document 01 (the scope paper), requests S-1 to S-3 and S-5 to S-10 of
 //! document 02 (the paper of later requests) and the rating figures of source document 001 alone, and shares nothing
 //! with the proved code.
 //!
@@ -7,7 +7,7 @@
 //! fixed-point numbers, each rounded outward.
 //!
 //! [`answer`] has the types of the answers, [`date`] the dates of S-3. One module stands for each heading of document
-//! 01, and one each for S-9's converter, S-7, S-8 and S-5; each uses only these two and modules above it in this list:
+//! 01, and one each for S-9's converter, S-7, S-8, S-5 and S-10; each uses only these two and modules above it in this list:
 //! - [`sheet`]: "The deal sheet" and "Refusals, by who can cause them", but for refusals 13 and 19;
 //! - [`conversion`]: a sheet rewritten in the other unit of the risk weight word, and refusal 19;
 //! - [`charge`]: "Points and pool charge";
@@ -16,7 +16,8 @@
 //! - [`rating`]: "The rating table";
 //! - [`irba`]: charge and parameter of SEC-IRBA;
 //! - [`formula`]: "The formula and its series";
-//! - [`approach`]: "Which approach, then floor, then cap", and refusal 13.
+//! - [`approach`]: "Which approach, then floor, then cap", and refusal 13;
+//! - [`opened`]: S-10's opened pool and its amendments.
 #![forbid(unsafe_code)]
 
 pub mod answer;
@@ -28,10 +29,13 @@ pub mod date;
 pub mod formula;
 pub mod inferred;
 pub mod irba;
+pub mod opened;
 pub mod rating;
 pub mod sheet;
 
 pub use answer::{Amounts, BlockSums, Deal, Line, Refusal, Totals};
+pub use opened::OpenedPool;
+use sheet::Sheet;
 
 /// Weighs a deal sheet. `room` is how many result words the caller lends, for refusal 14.
 ///
@@ -39,9 +43,13 @@ pub use answer::{Amounts, BlockSums, Deal, Line, Refusal, Totals};
 /// 14, then 13 by tranche in order. Collecting the lines stops at the first refused tranche, so 13 keeps that order. All
 /// of a tranche's line, 13 too, goes by the ratings that count for it.
 pub fn weigh(sheet: &[u64], room: u64) -> Result<Deal, Refusal> {
-    let sheet = sheet::read(sheet)?;
+    weigh_read(&sheet::read(sheet)?, room)
+}
+
+/// Weighs a sheet whose words are good: 14, then 13 and the lines.
+fn weigh_read(sheet: &Sheet, room: u64) -> Result<Deal, Refusal> {
     sheet::refuse_short_room(sheet::LINE_WORDS * sheet.tranches.len(), room)?;
-    let figures = approach::Figures::of(&sheet);
+    let figures = approach::Figures::of(sheet);
     let nominal = charge::nominal_sum(&sheet.pool);
     let lines = sheet.tranches.iter().map(|tranche| {
         let tranche = &approach::with_ratings_that_count(&figures, &sheet.tranches, tranche);
@@ -54,6 +62,11 @@ pub fn weigh(sheet: &[u64], room: u64) -> Result<Deal, Refusal> {
         charge: figures.charge,
         lines: lines.collect::<Result<Vec<Line>, Refusal>>()?,
     })
+}
+
+/// Weighs the sheet of an opened pool as it stands. Its words are good, so only 14 and 13 can come.
+pub fn weigh_opened(pool: &OpenedPool, room: u64) -> Result<Deal, Refusal> {
+    weigh_read(pool.sheet(), room)
 }
 
 /// Weighs a deal sheet in its file form: the same words, eight bytes each, lowest byte first. Refusal 15 comes before

@@ -1,5 +1,6 @@
 //! "The deal sheet" and "Refusals, by who can cause them" of document 01, with the fifth fact and refusal 16 of S-1,
-//! the sixth fact and refusal 17 of S-3, the IRB section and refusal 18 of S-5, and the seventh fact of S-9.
+//! the sixth fact and refusal 17 of S-3, the IRB section and refusal 18 of S-5, the seventh fact of S-9 and the words of
+//! S-10's amendment.
 //!
 //! The words are read from place 0 upward, each judged as it is read, so the first bad word decides at its own place.
 //! A missing word comes after all words that are there, so it is found only when none of those is bad.
@@ -220,6 +221,17 @@ impl Reader<'_> {
         let word = self.word(number, |word| entry(word).is_some_and(&good))?;
         Ok(entry(word).expect("a good code"))
     }
+
+    /// Refuses words that follow the last one read (3), at the first of them.
+    fn end(&self) -> Result<(), Refusal> {
+        if self.next < self.words.len() {
+            return Err(Refusal {
+                number: TOO_LONG,
+                place: self.place(),
+            });
+        }
+        Ok(())
+    }
 }
 
 /// Reads the sections in their order, then refuses words that follow the last (refusal 3, at the first of them).
@@ -232,18 +244,34 @@ pub fn read(words: &[u64]) -> Result<Sheet, Refusal> {
         .collect::<Result<Vec<_>, _>>()?;
     let tranches = read_tranches(&mut reader, facts.reporting_date)?;
     let irb = read_irb(&mut reader, facts.pool_kind)?;
-    if reader.next < words.len() {
-        return Err(Refusal {
-            number: TOO_LONG,
-            place: reader.place(),
-        });
-    }
+    reader.end()?;
     Ok(Sheet {
         facts,
         pool,
         tranches,
         irb,
     })
+}
+
+/// Reads an amendment of a sheet's pool (S-10): the number of a row that is there, counted from 1 (else 2), then that row
+/// in its new form, "as on loading". Its words are judged as a sheet's are, at their places in the amendment: the first
+/// bad one decides, then one that is missing (1), then one that follows the five (3). Gives the row's number from 0.
+pub fn read_amendment(words: &[u64], sheet: &Sheet) -> Result<usize, Refusal> {
+    let mut reader = Reader { words, next: 0 };
+    let number = reader.word(COUNT, |number| (1..=sheet.pool.len() as u64).contains(&number))?;
+    read_row(&mut reader, &sheet.facts)?;
+    reader.end()?;
+    Ok(number as usize - 1)
+}
+
+/// How many facts a sheet states. Each stands at the place of its number, from 1, after their count.
+pub fn facts_stated(words: &[u64]) -> usize {
+    words[0] as usize
+}
+
+/// The place of a row's first word, rows counted from 0: they follow the facts and their own count.
+pub fn row_place(words: &[u64], row: usize) -> usize {
+    1 + facts_stated(words) + 1 + ROW_WORDS * row
 }
 
 /// The facts: their count, pool kind, then answers of 0 or 1, then the reporting date, then the unit of the risk weight

@@ -2,8 +2,8 @@
 //!
 //! It reads the deal sheet of document 01 with the fifth fact of S-1, the sixth of S-3, the seventh of S-9 and the IRB
 //! section of S-5 of document 02, rates by S-1 and S-2, takes SEC-IRBA by S-5, rounds each weight up and down by S-6,
-//! adds up the pool by the blocks of S-7, infers ratings by S-8, refuses what they refuse in the same order, and writes
-//! the same result words for each tranche. It has no converter.
+//! adds up the pool by the blocks of S-7, infers ratings by S-8, keeps an opened pool and amends it by S-10, refuses what
+//! they refuse in the same order, and writes the same result words for each tranche. It has no converter.
 //! Sums of whole amounts are kept in `u64`. Every figure with a division or an exponential in it is worked in `f64`,
 //! with `exp`, `ceil` and `floor`.
 //!
@@ -18,14 +18,16 @@ mod date;
 mod irba;
 mod kind;
 mod limits;
+mod opened;
 mod points;
 mod pool;
 mod rating;
 mod sheet;
 mod tranche;
 
-pub use limits::LINE_WORDS;
 use limits::{refusal, MOST_TRANCHES, TRANCHE_WORDS};
+pub use limits::{LINE_WORDS, SUM_WORDS};
+pub use opened::OpenedPool;
 use points::Points;
 use sheet::Deal;
 pub use sheet::Refusal;
@@ -36,19 +38,23 @@ use tranche::Terms;
 /// The answer is the tranche count and the pool charge, or else the number and the place of the refusal. On a refusal
 /// `results` is left as it was; words after the last line are never written.
 pub fn weigh(sheet: &[u64], results: &mut [u64]) -> Result<(u64, u64), Refusal> {
-    let deal = sheet::read(sheet)?;
+    weigh_deal(&sheet::read(sheet)?, results)
+}
+
+/// Weighs a deal that has no bad word.
+fn weigh_deal(deal: &Deal, results: &mut [u64]) -> Result<(u64, u64), Refusal> {
     let count = deal.tranches.len();
     if results.len() < LINE_WORDS * count {
         return Err((refusal::ROOM, 0));
     }
-    let terms = Terms::of(&deal);
+    let terms = Terms::of(deal);
     let mut points = [Points::default(); MOST_TRANCHES];
     let points = &mut points[..count];
     points::place(deal.tranches, deal.pool.nominal(), points);
-    refuse_empty_tranche(&deal, &terms, points)?;
+    refuse_empty_tranche(deal, &terms, points)?;
     let (lines, _) = results.as_chunks_mut::<LINE_WORDS>();
     for ((line, words), points) in lines.iter_mut().zip(deal.tranches).zip(points) {
-        *line = terms.line(&words.into(), terms.ratings(&deal, words), points);
+        *line = terms.line(&words.into(), terms.ratings(deal, words), points);
     }
     Ok((count as u64, terms.charge as u64))
 }

@@ -13,6 +13,10 @@ pub const MOST_FACTS: u64 = 7;
 pub const MOST_ROWS: u64 = 1_000;
 /// The rows of a block, by which a pool is added up; the last one may have fewer.
 pub const BLOCK_ROWS: u64 = 50;
+/// Words of a pool row: exposure, nominal, risk weight, status.
+pub const ROW_WORDS: usize = 4;
+/// The sums of a pool.
+pub const SUM_WORDS: usize = 7;
 /// The most tranches that a sheet can hold.
 pub const MOST_TRANCHES: usize = 32;
 /// The ratings of a tranche.

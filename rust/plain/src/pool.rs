@@ -1,5 +1,7 @@
 //! "Points and pool charge": the sums over the rows, and the charge and the cap that follow from them.
 
+use crate::limits::{ROW_WORDS, SUM_WORDS};
+
 /// The status codes of a row.
 pub mod status {
     /// Pays.
@@ -16,13 +18,35 @@ pub mod status {
 pub struct Row {
     pub exposure: u64,
     pub nominal: u64,
-    /// In the unit of the sheet.
+    /// In the unit of the sheet, or in hundredths of a percent.
     pub risk_weight: u64,
     pub status: u64,
 }
 
+impl Row {
+    /// The row with its risk weight in hundredths of a percent, of which the unit that it is in is so many.
+    pub fn in_hundredths(self, unit: u64) -> Row {
+        Row {
+            risk_weight: self.risk_weight * unit,
+            ..self
+        }
+    }
+}
+
+impl From<&[u64; ROW_WORDS]> for Row {
+    /// Names the words of a row.
+    fn from(&[exposure, nominal, risk_weight, status]: &[u64; ROW_WORDS]) -> Self {
+        Row {
+            exposure,
+            nominal,
+            risk_weight,
+            status,
+        }
+    }
+}
+
 /// Sums over a set of rows. The largest, 1,000 rows of 10^10 at 1250%, fits a word.
-#[derive(Default)]
+#[derive(Clone, Copy, Default)]
 struct Sums {
     exposure: u64,
     nominal: u64,
@@ -36,6 +60,13 @@ impl Sums {
         self.exposure += row.exposure;
         self.nominal += row.nominal;
         self.weighted += row.exposure * row.risk_weight;
+    }
+
+    /// Takes one row of them out again.
+    fn remove(&mut self, row: &Row) {
+        self.exposure -= row.exposure;
+        self.nominal -= row.nominal;
+        self.weighted -= row.exposure * row.risk_weight;
     }
 
     /// Adds the sums over other rows.
@@ -54,6 +85,11 @@ impl Sums {
         }
     }
 
+    /// The three sums in the order of S-7.
+    fn words(&self) -> [u64; 3] {
+        [self.exposure, self.nominal, self.weighted]
+    }
+
     /// The base charge of the rows, in millionths.
     fn base(&self) -> f64 {
         (8.0 * self.weighted as f64 / self.exposure as f64).ceil()
@@ -61,7 +97,7 @@ impl Sums {
 }
 
 /// Sums over all rows, over the rows of unknown status, and the nominal amount of the delinquent ones.
-#[derive(Default)]
+#[derive(Clone, Copy, Default)]
 pub struct Pool {
     all: Sums,
     unknown: Sums,
@@ -77,6 +113,32 @@ impl Pool {
             status::NOT_KNOWN => self.unknown.add(row),
             _ => {}
         }
+    }
+
+    /// Takes a row out of the sums that it belongs to. Its risk weight is in the unit that these are in.
+    pub fn remove(&mut self, row: &Row) {
+        self.all.remove(row);
+        match row.status {
+            status::DELINQUENT => self.late -= row.nominal,
+            status::NOT_KNOWN => self.unknown.remove(row),
+            _ => {}
+        }
+    }
+
+    /// The seven sums of S-7: exposure, nominal and weighted exposure over all rows, the same over the rows with known
+    /// status, and late nominal.
+    pub fn sums(&self) -> [u64; SUM_WORDS] {
+        let [exposure, nominal, weighted] = self.all.words();
+        let [known_exposure, known_nominal, known_weighted] = self.all.less(&self.unknown).words();
+        [
+            exposure,
+            nominal,
+            weighted,
+            known_exposure,
+            known_nominal,
+            known_weighted,
+            self.late,
+        ]
     }
 
     /// Adds the sums of a block of rows.

@@ -68,6 +68,7 @@ impl From<&[u64; IRB_WORDS]> for Irb {
 }
 
 /// The facts of a deal.
+#[derive(Clone, Copy)]
 pub struct Facts {
     pool_kind: u64,
     pub resecuritisation: bool,
@@ -78,6 +79,33 @@ pub struct Facts {
     pub reporting_date: Option<Date>,
     /// Whether the risk weights are in hundredths of a percent; else they are in whole percent.
     in_hundredths: bool,
+}
+
+impl Facts {
+    /// The limits of the words of a pool row. A re-securitisation holds securitisation tranches and nothing else.
+    pub fn row_limits(&self) -> RowLimits {
+        RowLimits {
+            most_weight: MOST_WEIGHT / self.unit(),
+            statuses: match self.resecuritisation {
+                true => status::TRANCHE..=status::TRANCHE,
+                false => status::PAYING..=status::NOT_KNOWN,
+            },
+        }
+    }
+
+    /// The unit of the risk weights, in hundredths of a percent.
+    pub fn unit(&self) -> u64 {
+        match self.in_hundredths {
+            true => 1,
+            false => PERCENT,
+        }
+    }
+}
+
+/// The limits of the words of a pool row that differ between deals.
+pub struct RowLimits {
+    most_weight: u64,
+    statuses: RangeInclusive<u64>,
 }
 
 /// A tranche's row by its names. The amount is used in the points alone and is left out, and so are the ratings: those that
@@ -110,7 +138,7 @@ pub fn is_rated(ratings: &[u64; RATINGS]) -> bool {
 pub fn read(sheet: &[u64]) -> Result<Deal<'_>, Refusal> {
     let mut reader = Reader { sheet, place: 0 };
     let facts = reader.facts()?;
-    let pool = reader.pool(facts.resecuritisation, facts.in_hundredths)?;
+    let pool = reader.pool(&facts)?;
     let count = reader.within(1..=MOST_TRANCHES as u64, refusal::COUNT)?;
     let first_tranche = reader.place;
     reader.check_tranches(count, facts.reporting_date)?;
@@ -119,9 +147,7 @@ pub fn read(sheet: &[u64]) -> Result<Deal<'_>, Refusal> {
         pool_kind::SA => None,
         kind => Some(reader.irb(kind)?),
     };
-    if reader.place < sheet.len() {
-        return Err((refusal::FOLLOWS, reader.place as u64));
-    }
+    reader.end()?;
     Ok(Deal {
         facts,
         pool,
@@ -131,7 +157,17 @@ pub fn read(sheet: &[u64]) -> Result<Deal<'_>, Refusal> {
     })
 }
 
-/// The sheet and the place of the next word.
+/// Reads an amendment of a pool of so many rows (S-10): the row's number counted from 1, then the row. The first bad word
+/// decides; then words that follow are refused.
+pub fn read_amendment(words: &[u64], rows: u64, limits: &RowLimits) -> Result<(u64, Row), Refusal> {
+    let mut reader = Reader { sheet: words, place: 0 };
+    let number = reader.within(1..=rows, refusal::COUNT)?;
+    let row = reader.row(limits)?;
+    reader.end()?;
+    Ok((number, row))
+}
+
+/// The words of a sheet, or of an amendment, and the place of the next one.
 struct Reader<'a> {
     sheet: &'a [u64],
     place: usize,
@@ -159,6 +195,14 @@ impl<'a> Reader<'a> {
         } else {
             self.refuse(number)
         }
+    }
+
+    /// Refuses words that follow those read.
+    fn end(&self) -> Result<(), Refusal> {
+        if self.place < self.sheet.len() {
+            return Err((refusal::FOLLOWS, self.place as u64));
+        }
+        Ok(())
     }
 
     /// A fact that is 0 for no and 1 for yes.
@@ -211,45 +255,41 @@ impl<'a> Reader<'a> {
         }
     }
 
-    /// The section of the pool, added up block by block, and then brought to hundredths of a percent at once. A
-    /// re-securitisation holds securitisation tranches and nothing else. The loop over the rows is kept out of `read`,
-    /// with `block` inlined here; with `block` apart it is slower.
+    /// The section of the pool, added up block by block, and then brought to hundredths of a percent at once. The loop over
+    /// the rows is kept out of `read`, with `block` inlined here; with `block` apart it is slower.
     #[inline(never)]
-    fn pool(&mut self, resecuritisation: bool, in_hundredths: bool) -> Result<Pool, Refusal> {
-        let statuses = if resecuritisation {
-            status::TRANCHE..=status::TRANCHE
-        } else {
-            status::PAYING..=status::NOT_KNOWN
-        };
-        let (unit, most_weight) = if in_hundredths {
-            (1, MOST_WEIGHT)
-        } else {
-            (PERCENT, MOST_WEIGHT / PERCENT)
-        };
+    fn pool(&mut self, facts: &Facts) -> Result<Pool, Refusal> {
+        let limits = facts.row_limits();
         let mut left = self.within(1..=MOST_ROWS, refusal::COUNT)?;
         let mut pool = Pool::default();
         while left > 0 {
             let rows = left.min(BLOCK_ROWS);
-            pool.add_block(&self.block(rows, most_weight, &statuses)?);
+            pool.add_block(&self.block(rows, &limits)?);
             left -= rows;
         }
-        pool.scale_weighted(unit);
+        pool.scale_weighted(facts.unit());
         Ok(pool)
     }
 
     /// A block of so many rows, added up row by row.
     #[inline(always)]
-    fn block(&mut self, rows: u64, most_weight: u64, statuses: &RangeInclusive<u64>) -> Result<Pool, Refusal> {
+    fn block(&mut self, rows: u64, limits: &RowLimits) -> Result<Pool, Refusal> {
         let mut block = Pool::default();
         for _ in 0..rows {
-            block.add(&Row {
-                exposure: self.within(1..=MOST_POOL_AMOUNT, refusal::POOL_AMOUNT)?,
-                nominal: self.within(1..=MOST_POOL_AMOUNT, refusal::POOL_AMOUNT)?,
-                risk_weight: self.within(0..=most_weight, refusal::RISK_WEIGHT)?,
-                status: self.within(statuses.clone(), refusal::STATUS)?,
-            });
+            block.add(&self.row(limits)?);
         }
         Ok(block)
+    }
+
+    /// A row of the pool.
+    #[inline(always)]
+    fn row(&mut self, limits: &RowLimits) -> Result<Row, Refusal> {
+        Ok(Row {
+            exposure: self.within(1..=MOST_POOL_AMOUNT, refusal::POOL_AMOUNT)?,
+            nominal: self.within(1..=MOST_POOL_AMOUNT, refusal::POOL_AMOUNT)?,
+            risk_weight: self.within(0..=limits.most_weight, refusal::RISK_WEIGHT)?,
+            status: self.within(limits.statuses.clone(), refusal::STATUS)?,
+        })
     }
 
     /// The rows of the tranches. Each class is the one before it or one more; the first is 1.

@@ -11,6 +11,9 @@ use crate::sheet::{is_rated, ratings_of, Deal, Irb, Tranche};
 /// 1250%, in hundredths of a percent.
 const FULL: f64 = 125_000.0;
 
+/// The charge that is reported where more than 5% of all exposure has no known status, in millionths.
+const UNKNOWN_CHARGE: f64 = 1e6;
+
 /// The approaches with their result words.
 #[derive(Clone, Copy, PartialEq)]
 pub enum Approach {
@@ -34,6 +37,25 @@ impl Deal<'_> {
         bits.fold(0, |rated, (words, bit)| {
             rated | u32::from(is_rated(ratings_of(words))) << bit
         })
+    }
+
+    /// The IRB section of a deal under SEC-IRBA, by the approach of every tranche.
+    fn irb_under(&self, approach: Option<Approach>) -> Option<Irb> {
+        self.irb.filter(|_| approach == Some(Approach::SecIrba)).map(Irb::from)
+    }
+
+    /// The pool charge K in millionths, with the section where SEC-IRBA holds; none where it is not known.
+    fn charge_with(&self, irb: Option<&Irb>) -> Option<f64> {
+        match irb {
+            Some(irb) => Some(irb.mixed_charge(&self.pool)),
+            None => self.pool.charge(),
+        }
+    }
+
+    /// The pool charge as it is reported.
+    pub fn charge(&self) -> f64 {
+        let irb = self.irb_under(self.approach());
+        self.charge_with(irb.as_ref()).unwrap_or(UNKNOWN_CHARGE)
     }
 
     /// The approach of every tranche; none where it depends on the tranche's ratings.
@@ -72,15 +94,12 @@ impl Terms {
     pub fn of(deal: &Deal) -> Self {
         let facts = &deal.facts;
         let approach = deal.approach();
-        let irb = deal.irb.filter(|_| approach == Some(Approach::SecIrba)).map(Irb::from);
-        let charge = match &irb {
-            Some(irb) => Some(irb.mixed_charge(&deal.pool)),
-            None => deal.pool.charge(),
-        };
+        let irb = deal.irb_under(approach);
+        let charge = deal.charge_with(irb.as_ref());
         let average = || irb.as_ref().map_or_else(|| deal.pool.cap(), |irb| irb.average as f64);
         let capped = facts.composition_known && !facts.resecuritisation;
         let charge_known = charge.is_some();
-        let charge = charge.unwrap_or(1e6);
+        let charge = charge.unwrap_or(UNKNOWN_CHARGE);
         Terms {
             charge,
             charge_known,
