@@ -5,25 +5,21 @@ use Prim.Native.Nat.{ℕ, _*_, _≤_, _<_}
 use lib.ListN.{length, drop}
 use borrow.Author.Tests.{lt-ltb, le-ltb}
 use Rattle.limits.specs.SheetSize.{lineSize}
-use Rattle.charge.specs.SumLimits.{SumLimits, IrbLimits}
 use Rattle.charge.specs.declared.Sums.{Sums}
-use Rattle.judgement.specs.DealSheet.{trancheCount, layout}
+use Rattle.judgement.specs.DealSheet.{trancheCount}
 use Rattle.judgement.specs.LaidOut.{LaidOut}
 use Rattle.judgement.specs.Refusals.{refused, firstOf, wordsVerdict}
 use Rattle.judgement.specs.declared.Layout.{Layout}
 use Rattle.judgement.specs.declared.Refusal.{Refusal}
 use Rattle.judgement.specs.declared.Verdict.{Verdict}
 use Rattle.judgement.specs.declared.Verdict.the-variants.{Sound, Faulty}
-use Rattle.judgement.proofs.JudgeSteps.{needed-sound}
 use Rattle.judgement.proofs.WordsLaw.{laid-out}
 use Rattle.pool.specs.SummedPool.{OpenPool}
-use Rattle.pool.proofs.PoolLaws.{sum-limits}
 use Rattle.deal.specs.Lines.{termsFor, terms}
 use Rattle.deal.specs.Refusals.{thinVerdict, verdict}
 use Rattle.deal.specs.DemandThree.{KeepsDemandThree, KeepsSeventhWord}
 use Rattle.deal.specs.Results.{replyOf, replyTo, lines, resultsAfter}
 use Rattle.deal.specs.declared.Answer.the-variants.{Weighed, Refused}
-use Rattle.deal.proofs.TermsLaws.{irb-limits}
 use Rattle.deal.proofs.DemandThreeLaw.{keeps-demand-three, keeps-seventh-word}
 
 -- ---- an opened pool
@@ -34,12 +30,6 @@ open-laid-out s l q pool = laid-out s l (pool .sound) (pool .is-layout)
 pub open-terms : (s : List ℕ) (l : Layout) (q : Sums) → OpenPool s l q → termsFor l q ≡ terms s
 unfolding terms
 open-terms s l q pool = rw (pool .is-layout, pool .are-sums)
-
-pub open-limits : (s : List ℕ) (l : Layout) (q : Sums) → OpenPool s l q → SumLimits q × IrbLimits (l .irb)
-unfolding layout
-open-limits s l q pool =
-    let good = needed-sound s (pool .sound) in
-    (rw (pool .are-sums) (sum-limits s good), rw (pool .is-layout) (irb-limits s good))
 
 -- ---- words and 3, then the room for results, then thickness
 

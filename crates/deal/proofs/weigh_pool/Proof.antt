@@ -91,8 +91,8 @@ returns-2 c =
     let start = worked .before .before .before in (
       charge-is worked,
       refused-answer _ _
-      (decided-by-thickness _ _ (start .pre .sound) (omega (arith, room .if1 .left, counted start)) (judged .judge-thickness .ensures) ∙
-      c .before .thickness .given .1),
+          (decided-by-thickness _ _ (start .pre .sound) (omega (arith, room .if1 .left, counted start)) (judged .judge-thickness .ensures) ∙
+          c .before .thickness .given .1),
     )
 
 write-lines-requires : tie.Need-write-lines-requires
@@ -118,11 +118,11 @@ returns-3 c =
     let start = worked .before .before .before in (
       charge-is worked,
       weighed-answer _ _
-      (decided-by-thickness _ _ (start .pre .sound) (omega (arith, room .if1 .left, counted start)) (judged .judge-thickness .ensures) ∙
-      thickness .enum-told .given .1)
-      (counted start)
-      (charge-is worked)
-      (c .before .before .write-lines .ensures),
+          (decided-by-thickness _ _ (start .pre .sound) (omega (arith, room .if1 .left, counted start)) (judged .judge-thickness .ensures) ∙
+          thickness .enum-told .given .1)
+          (counted start)
+          (charge-is worked)
+          (c .before .before .write-lines .ensures),
     )
 
 pub weigh-pool-spec : {M : Type 1} → statement M
