@@ -38,6 +38,10 @@ $build examples/print_lines.c "$archive" -o "$room/print_lines"
 "$room/print_lines" "$room/deal" > "$room/out"
 stands "lines of examples/ordinary.txt by C" "$room/out"
 
+$build examples/amend_row.c "$archive" -o "$room/amend_row"
+"$room/amend_row" "$room/deal" 5 10000000 10000000 100 0 > "$room/out"
+stands "amended row of examples/ordinary.txt by C" "$room/out"
+
 block c > "$room/small.c"
 $build "$room/small.c" "$archive" -o "$room/small"
 "$room/small" > "$room/out"
