@@ -10,7 +10,8 @@
  * - Whatever the words or bytes are, the call ends and gives the answer described here; no input is undefined. The three calls on an opened pool
  *   (tranche_weights_amend, tranche_weights_opened_charge and tranche_weights_weigh_opened) alone ask something of the words that they are lent: "An opened pool",
  *   below.
- * - A list of length 0 is nothing: its pointer is not looked at and may be null. What is lent to be written need not be initialised.
+ * - A list of length 0 is nothing: its pointer is not looked at and may be null (the sheet of an opened pool has words). What is lent only to be written need not be
+ *   initialised.
  * - What the caller owes: any other pointer is not null and is aligned for its type, as many words or bytes as its length says stay readable (or writable, where the
  *   pointer is not const) until the call returns, and what the function writes overlaps nothing else that is passed. place, count, charge and sums are never null, and
  *   have the words that are stated below.
