@@ -6,10 +6,10 @@
  *
  * What holds of all ten functions
  * - The caller owns all memory. Nothing is allocated, kept or freed, and no pointer outlives the call.
- * - There is no state: calls that write to different memory may run at the same time on different threads, also on the same sheet.
- * - Whatever the words or bytes are, the call ends and gives the answer described here; no input is undefined. The three calls on an opened pool
- *   (tranche_weights_amend, tranche_weights_opened_charge and tranche_weights_weigh_opened) alone ask something of the words that they are lent: "An opened pool",
- *   below.
+ * - There is no state: calls may run at the same time on different threads, also on the same sheet, as long as none of them writes to memory that another is lent.
+ *   tranche_weights_amend writes to its sheet and sums: while it runs, no other call may be given either.
+ * - Whatever the words or bytes are, the call ends and gives the answer described here; no input is undefined. This holds of the three calls on an opened pool
+ *   (tranche_weights_amend, tranche_weights_opened_charge and tranche_weights_weigh_opened) only where they are lent one: "An opened pool", below.
  * - A list of length 0 is nothing: its pointer is not looked at and may be null (the sheet of an opened pool has words). What is lent only to be written need not be
  *   initialised.
  * - What the caller owes: any other pointer is not null and is aligned for its type, as many words or bytes as its length says stay readable (or writable, where the
@@ -126,8 +126,9 @@ enum {
  * - What the caller owes the three calls on an opened pool: the sheet and the sums are such that tranche_weights_is_opened says 1. It does so after
  *   tranche_weights_open_pool has accepted the sheet, and after every tranche_weights_amend, whether that was accepted or refused, as long as nothing else writes to
  *   either.
- * - Where that is not kept, nothing is promised: a figure may be wrong with no sign of it, and words outside the lists may be read or written. Who can't be sure asks
- *   tranche_weights_is_opened first, which takes any words, in the time that it takes to open the pool.
+ * - Where that is not kept, nothing is promised: a figure may be wrong with no sign of it, words outside the lists may be read or written, and the program may be
+ *   stopped, as by a sum of 0 that is divided by. Who can't be sure asks tranche_weights_is_opened first, which takes any words, in the time that it takes to open the
+ *   pool.
  *
  * The places of the words in an amendment: the number of the row, counted from 1, and the row as the sheet has it, its risk weight in the sheet's unit.
  */
@@ -191,9 +192,9 @@ enum {
 
 /* The functions as the archive names them. They take what the functions below take, and no null pointer. */
 uint64_t tranche_weights_weigh_v10(const uint64_t *sheet, size_t words, uint64_t *results, size_t room, uint64_t *place, uint64_t *count,
-                                  uint64_t *charge);
+                                   uint64_t *charge);
 uint64_t tranche_weights_weigh_file_v10(const uint8_t *file, size_t size, uint64_t *results, size_t room, uint64_t *place, uint64_t *count,
-                                       uint64_t *charge);
+                                        uint64_t *charge);
 uint64_t tranche_weights_report_v10(const uint8_t *file, size_t size, uint8_t *text, size_t room);
 uint64_t tranche_weights_block_sums_v10(const uint64_t *sheet, size_t words, uint64_t block, uint64_t *place, uint64_t *sums);
 uint64_t tranche_weights_convert_v10(const uint64_t *sheet, size_t words, uint64_t *output, size_t room, uint64_t *place, uint64_t *count);
@@ -340,8 +341,8 @@ static inline uint64_t tranche_weights_is_opened(const uint64_t *sheet, size_t w
  * Returns the refusal's number where it gets one: *place is the place of the faulty word in the amendment, counted from 0, and neither sheet nor sums have changed.
  * The words are judged from the first one on: TRANCHE_WEIGHTS_REFUSED_COUNT where the sheet has no row of that number; then TRANCHE_WEIGHTS_REFUSED_POOL_AMOUNT,
  * TRANCHE_WEIGHTS_REFUSED_RISK_WEIGHT and TRANCHE_WEIGHTS_REFUSED_STATUS as in a sheet, by the unit and the kind of deal of this one;
- * TRANCHE_WEIGHTS_REFUSED_MISSING_WORD, with *place the amendment's length, where it ends before a bad word is met; and last TRANCHE_WEIGHTS_REFUSED_WORDS_FOLLOW,
- * with *place TRANCHE_WEIGHTS_AMENDMENT_WORDS, where all five are good and more follow.
+ * TRANCHE_WEIGHTS_REFUSED_MISSING_WORD, with *place the amendment's length, where it has fewer than five words and none of them is bad; and last
+ * TRANCHE_WEIGHTS_REFUSED_WORDS_FOLLOW, with *place TRANCHE_WEIGHTS_AMENDMENT_WORDS, where all five are good and more follow.
  */
 static inline uint64_t tranche_weights_amend(uint64_t *sheet, size_t words, uint64_t *sums, const uint64_t *amendment, size_t amendment_words,
                                              uint64_t *place)
@@ -355,8 +356,8 @@ static inline uint64_t tranche_weights_amend(uint64_t *sheet, size_t words, uint
  *
  * sheet, words, sums   an opened pool, as tranche_weights_is_opened tells
  *
- * Returns the charge in millionths, under SEC-IRBA the mixed one: that which tranche_weights_weigh gives for the sheet. A tranche that is too thin for the formula
- * does not matter here.
+ * Returns the charge in millionths, under SEC-IRBA the mixed one: that which tranche_weights_weigh gives where it accepts the sheet. Where it would refuse a tranche that
+ * is too thin for the formula, or too little room, and so give 0, the charge is given here all the same.
  */
 static inline uint64_t tranche_weights_opened_charge(const uint64_t *sheet, size_t words, const uint64_t *sums)
 {

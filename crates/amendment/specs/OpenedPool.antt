@@ -1,4 +1,5 @@
--- 02, S-10: "a call may require a pool whose sheet would open and whose sums are those of its rows" (`OpenedPool`, SummedPool.antt of `pool`): an answer that tells whether something holds, as whether these do.
+-- 02, S-10: "a call may require a pool whose sheet would open and whose sums are those of its rows" (`OpenedPool`, SummedPool.antt of `pool`). What `is_opened` promises: its answer is true
+-- where that holds, and false where it does not.
 use mathlib.Core.Bool.{Bool, true, false}
 use mathlib.Core.Path.{_≡_}
 

@@ -163,7 +163,8 @@ pub fn weigh(sheet: &[u64], results: &mut [u64]) -> Answer
     }
 }
 
-// The charge of an opened pool, in millionths, SEC-IRBA included: that of the answer to its sheet.
+// The charge of an opened pool, in millionths, SEC-IRBA included: that of the answer to its sheet where the sheet is weighed, and the same where a tranche is too thin. One word is too few
+// for a line, so that nothing but the charge is worked out.
 pub fn opened_charge(sheet: &[u64], sums: Sums) -> u64
     requires { ⌜ OpenedPool (now sheet) sums ⌝ }
     ensures { λ r. ⌜ r ≡ terms (now (sheet .entry)) .charge ⌝ }

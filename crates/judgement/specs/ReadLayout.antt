@@ -1,5 +1,5 @@
--- What is read of a sheet whose words are not judged: its layout where no count is above its limit, and otherwise nothing. No reader has to trust this file: of a sheet whose words are
--- good it is the layout (`layout-read`, proofs/ReadLayout.antt), and for no other does an open contract go by it alone.
+-- What is read of a sheet whose words are not judged: its layout where no count is above its limit, and otherwise nothing; `read_layout` promises it of all words. No reader of an answer
+-- has to trust this file: of a sheet whose words are good it is the layout (`layout-read`, proofs/ReadLayout.antt), and no other open contract goes by it.
 use mathlib.Core.Bool.{Bool, false, cond, _&&_}
 use mathlib.Core.List.{List}
 use Prim.Native.Nat.{ℕ}

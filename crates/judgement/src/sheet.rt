@@ -1,5 +1,5 @@
-// Where the words of a sheet stand. A place is worked out only once the counts before it are good, or are at least within their limits. Open to other crates are the two functions that
-// take any words.
+// Where the words of a sheet stand. A place is worked out only once the counts before it are good, or are at least within their limits. Open to other crates are `word_at`, `in_hundredths` and
+// `read_layout`, which take any words.
 ghost use mathlib.Core.Path.{_≡_};
 ghost use Prim.Native.Nat.{_+_, _≤_, _<_};
 ghost use Rattle.limits.specs.SheetSize.{irbSize, placeLimit};

@@ -1,4 +1,4 @@
--- What the passes over a block's rows and over the blocks make, and the limits that they keep, which private contracts cite. No reader has to trust this file: `sum_pool` and `sum_block`
+-- What the passes over a block's rows and over the blocks make, and the limits that they keep, which private contracts cite. No reader has to trust this file: `open_pool` and `sum_block`
 -- (src/lib.rt) promise `poolSums` and `blockSums`.
 use mathlib.Core.Bool.{Bool, cond}
 use mathlib.Core.List.{List}
