@@ -92,8 +92,8 @@ impl AmendmentRefusal {
         self.number
     }
 
-    /// The place of the first word that is wrong, missing or one too many, counted from 0 in the words of the amendment: the row's
-    /// number, exposure amount, nominal amount, risk weight, status.
+    /// The place of the first word that is wrong, missing or one too many, counted from 0 in the words of the amendment:
+    /// the row's number, exposure amount, nominal amount, risk weight, status.
     pub const fn place(&self) -> u64 {
         self.place
     }

@@ -62,7 +62,7 @@
 //! ```
 //!
 //! In a deal with a reporting date the maturities are dates: [`Tranche::maturing_on`] has an example. [`PoolKind`] has
-//! one of a mixed pool, weighed by SEC-IRBA, [`Tranche`] one of a tranche that takes the ratings of another, and
+//! one of a mixed pool, weighed by SEC-IRBA, [`Tranche`] one of a tranche that takes the ratings of another,
 //! [`RiskWeight`] one of a loan at 37.5%, and [`OpenedPool`] one of a pool that is amended.
 //!
 //! # The words of a sheet
