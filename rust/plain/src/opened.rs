@@ -7,6 +7,7 @@ use crate::sheet::{self, Deal, Facts, Refusal};
 use crate::weigh_deal;
 
 /// A sheet that has no bad word, with its facts and the sums of its pool.
+#[derive(Clone)]
 pub struct OpenedPool {
     words: Vec<u64>,
     facts: Facts,
