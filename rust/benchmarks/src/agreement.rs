@@ -221,6 +221,27 @@ mod tests {
         assert!(difference(&admitted, Err((10, 7)), &[]).is_some());
     }
 
+    /// The plain version's amended deal is held to the sheet with the row replaced: another row, another sheet, and an
+    /// amendment that it refuses are differences.
+    #[test]
+    fn another_amended_deal_is_a_difference() {
+        let (sheet, amendments) = (deals::with_rows(2), deals::amendments(2));
+        let amended = |amendment| {
+            let mut sheet = sheet.clone();
+            replace_row(&mut sheet, amendment);
+            sheet
+        };
+        let pool = || plain_opened(&sheet).expect("the deal is opened");
+        let [first, second, ..] = &amendments[..] else {
+            panic!("there are several amendments")
+        };
+        assert_eq!(plain_difference(&mut pool(), first, &amended(first)), None);
+        for other in [&sheet, &amended(second), &deals::small()] {
+            assert!(plain_difference(&mut pool(), first, other).is_some());
+        }
+        assert!(plain_difference(&mut pool(), &[3, 1, 1, 0, 0], &sheet).is_some());
+    }
+
     /// Sums with any one of them changed are not the same.
     #[test]
     fn every_changed_sum_is_a_difference() {
