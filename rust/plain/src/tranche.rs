@@ -50,7 +50,7 @@ impl Deal<'_> {
     #[inline(always)]
     fn charge_with(&self, irb: Option<&Irb>) -> Option<f64> {
         match irb {
-            Some(irb) => Some(irb.mixed_charge(&self.pool)),
+            Some(irb) => Some(irb.mixed_charge(self.pool)),
             None => self.pool.charge(),
         }
     }
