@@ -54,27 +54,51 @@ pub fn check_conversion(name: &str, sheet: &[u64]) -> Result<(), String> {
     }
 }
 
-/// Holds a deal that is opened and amended, step by step, to the sheet with the row replaced: the words, the charge and the
-/// proved answer are those of the sheet, and that answer is admitted. Neither deal nor amendment is refused.
-pub fn check_amendments(name: &str, sheet: &[u64], amendments: &[Amendment]) -> Result<(), String> {
+/// Holds a deal that is opened and amended, step by step, to the sheet with the row replaced. In the proved version the words,
+/// the charge and the answer are those of the sheet, and that answer is admitted; else it is an error. What differs first in
+/// the plain version is a remark. Neither deal nor amendment is refused.
+pub fn check_amendments(name: &str, sheet: &[u64], amendments: &[Amendment]) -> Result<Option<String>, String> {
     let mut sheet = sheet.to_vec();
-    let mut pool = OpenedPool::open(&sheet[..]).map_err(|refusal| format!("the sheet \"{name}\": {refusal}"))?;
+    let mut proved = OpenedPool::open(&sheet[..]).map_err(|refusal| format!("the deal \"{name}\": {refusal}"))?;
+    let mut plain = plain_opened(&sheet)?;
+    let mut remark = None;
     for amendment in amendments {
         replace_row(&mut sheet, amendment);
         check(name, &sheet)?;
-        pool.amend_words(amendment)
-            .map_err(|refusal| format!("the sheet \"{name}\": {refusal}"))?;
+        proved
+            .amend_words(amendment)
+            .map_err(|refusal| format!("the deal \"{name}\": {refusal}"))?;
         let mut results = [[0; ROOM]; 2];
-        let amended = pool.weigh_into(&mut results[0]);
+        let amended = proved.weigh_into(&mut results[0]);
         let loaded = tranche_weights::weigh_words(&sheet, &mut results[1]);
-        let same_charge = loaded.is_ok_and(|weighed| weighed.charge == pool.charge());
-        if pool.words() != sheet || amended != loaded || results[0] != results[1] || !same_charge {
+        let same_charge = loaded.is_ok_and(|weighed| weighed.charge == proved.charge());
+        if proved.words() != sheet || amended != loaded || results[0] != results[1] || !same_charge {
             return Err(format!(
-                "the amended deal differs from the fresh load of the sheet \"{name}\": {amended:?} where {loaded:?} is due"
+                "the amended deal \"{name}\" differs from the fresh load of its sheet: {amended:?} where {loaded:?} is due"
             ));
         }
+        let difference = plain_difference(&mut plain, amendment, &sheet);
+        remark = remark.or(difference);
     }
-    Ok(())
+    Ok(remark.map(|difference| format!("The plain version differs on the amended deal \"{name}\": {difference}.")))
+}
+
+/// The opened pool of the plain version.
+pub fn plain_opened(sheet: &[u64]) -> Result<plain::OpenedPool, String> {
+    plain::OpenedPool::open(sheet.to_vec())
+        .map_err(|(number, place)| format!("the plain version refuses a deal: {number} at {place}"))
+}
+
+/// What in the plain version's amended deal is not that of the sheet with the row replaced, if anything.
+fn plain_difference(pool: &mut plain::OpenedPool, amendment: &Amendment, sheet: &[u64]) -> Option<String> {
+    let amended = pool.amend(amendment);
+    let mut results = [0; ROOM];
+    let weighed = pool.weigh(&mut results);
+    let same_charge = weighed.is_ok_and(|(_, charge)| charge == pool.charge());
+    if amended.is_err() || pool.words() != sheet || !same_charge {
+        return Some(format!("{amended:?}, {weighed:?}, charge {}", pool.charge()));
+    }
+    difference(&independent::weigh(sheet, ROOM as u64), weighed, &results)
 }
 
 /// Whether each of the seven sums is the same.
@@ -195,6 +219,27 @@ mod tests {
         assert_eq!(difference(&admitted, Err((11, 7)), &[]), None);
         assert!(difference(&admitted, Err((11, 8)), &[]).is_some());
         assert!(difference(&admitted, Err((10, 7)), &[]).is_some());
+    }
+
+    /// The plain version's amended deal is held to the sheet with the row replaced: another row, another sheet, and an
+    /// amendment that it refuses are differences.
+    #[test]
+    fn another_amended_deal_is_a_difference() {
+        let (sheet, amendments) = (deals::with_rows(2), deals::amendments(2));
+        let amended = |amendment| {
+            let mut sheet = sheet.clone();
+            replace_row(&mut sheet, amendment);
+            sheet
+        };
+        let pool = || plain_opened(&sheet).expect("the deal is opened");
+        let [first, second, ..] = &amendments[..] else {
+            panic!("there are several amendments")
+        };
+        assert_eq!(plain_difference(&mut pool(), first, &amended(first)), None);
+        for other in [&sheet, &amended(second), &deals::small()] {
+            assert!(plain_difference(&mut pool(), first, other).is_some());
+        }
+        assert!(plain_difference(&mut pool(), &[3, 1, 1, 0, 0], &sheet).is_some());
     }
 
     /// Sums with any one of them changed are not the same.

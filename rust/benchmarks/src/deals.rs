@@ -433,6 +433,20 @@ mod tests {
         }
     }
 
+    /// So it does with three tranches, of which the junior one takes the formula.
+    #[test]
+    fn amended_small_deals_keep_their_approaches() {
+        for count in [1, MOST_ROWS as u64] {
+            let mut sheet = with_rows(count);
+            for amendment in amendments(count) {
+                replace_row(&mut sheet, &amendment);
+                let amended = deal(&sheet);
+                let junior = &amended.lines[2];
+                assert!(needs_formula(junior, amended.charge), "{count} rows: {amendment:?}");
+            }
+        }
+    }
+
     /// Each amendment changes all words of its row but the status, also where the amendments begin anew.
     #[test]
     fn amendments_change_their_rows() {

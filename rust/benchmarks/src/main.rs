@@ -3,8 +3,8 @@
 //! `cargo run --release -p benchmarks` prints, as text that can stand in a README: the time per sheet of the three on
 //! some sheets, with ratios; sheets per second on one core and on all; the time to read a block's sums and to convert a
 //! sheet to the other unit of risk weights; how the time grows with rows and tranches; and the time of an amendment, with
-//! the charge or all lines after it, against that of a fresh load, with ratios. Before a sheet is timed, its answers are
-//! compared. `--quick` takes fewer rounds and shorter runs.
+//! the charge or all lines after it, of the proved one and the plain one, and against that of a fresh load, with ratios.
+//! Before a sheet is timed, its answers are compared. `--quick` takes fewer rounds and shorter runs.
 
 #![forbid(unsafe_code)]
 

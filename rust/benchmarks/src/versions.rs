@@ -43,25 +43,31 @@ pub fn proved_conversion(sheet: &[u64], output: &mut [u64]) {
 pub type Step<Deal> = fn(&mut Deal, &Amendment, &mut [u64]);
 
 /// The opened pool is amended, and its charge worked out, by the proved version. The results are not used.
-pub fn amended_charge(pool: &mut OpenedPool, amendment: &Amendment, _: &mut [u64]) {
+pub fn proved_charge(pool: &mut OpenedPool, amendment: &Amendment, _: &mut [u64]) {
     let _ = black_box(pool.amend_words(black_box(amendment)));
     black_box(black_box(&*pool).charge());
 }
 
+/// The same by the plain version, with an opened pool of its own.
+pub fn plain_charge(pool: &mut plain::OpenedPool, amendment: &Amendment, _: &mut [u64]) {
+    let _ = black_box(pool.amend(black_box(amendment)));
+    black_box(black_box(&*pool).charge());
+}
+
 /// The opened pool is amended, and all its lines worked out, by the proved version.
-pub fn amended_lines(pool: &mut OpenedPool, amendment: &Amendment, results: &mut [u64]) {
+pub fn proved_lines(pool: &mut OpenedPool, amendment: &Amendment, results: &mut [u64]) {
     let _ = black_box(pool.amend_words(black_box(amendment)));
     let _ = black_box(black_box(&*pool).weigh_into(black_box(results)));
+}
+
+/// The same by the plain version.
+pub fn plain_lines(pool: &mut plain::OpenedPool, amendment: &Amendment, results: &mut [u64]) {
+    let _ = black_box(pool.amend(black_box(amendment)));
+    let _ = black_box(black_box(&*pool).weigh(black_box(results)));
 }
 
 /// The row is replaced in the sheet, and the whole of it weighed, by the proved version.
 pub fn proved_load(sheet: &mut Box<[u64]>, amendment: &Amendment, results: &mut [u64]) {
     replace_row(sheet, black_box(amendment));
     proved(sheet, results);
-}
-
-/// The row is replaced in the sheet, and the whole of it weighed, by the plain version.
-pub fn plain_load(sheet: &mut Box<[u64]>, amendment: &Amendment, results: &mut [u64]) {
-    replace_row(sheet, black_box(amendment));
-    plain(sheet, results);
 }

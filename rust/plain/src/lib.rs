@@ -29,6 +29,7 @@ use limits::{refusal, MOST_TRANCHES, TRANCHE_WORDS};
 pub use limits::{LINE_WORDS, SUM_WORDS};
 pub use opened::OpenedPool;
 use points::Points;
+use pool::Pool;
 use sheet::Deal;
 pub use sheet::Refusal;
 use tranche::Terms;
@@ -38,7 +39,12 @@ use tranche::Terms;
 /// The answer is the tranche count and the pool charge, or else the number and the place of the refusal. On a refusal
 /// `results` is left as it was; words after the last line are never written.
 pub fn weigh(sheet: &[u64], results: &mut [u64]) -> Result<(u64, u64), Refusal> {
-    weigh_deal(&sheet::read(sheet)?, results)
+    let mut pool = Pool::default();
+    // The deal is lent as it was read: to move it out of the result takes time that shows on small sheets.
+    match &sheet::read(sheet, &mut pool) {
+        Ok(deal) => weigh_deal(deal, results),
+        Err(refusal) => Err(*refusal),
+    }
 }
 
 /// Weighs a deal that has no bad word.

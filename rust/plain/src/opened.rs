@@ -7,6 +7,7 @@ use crate::sheet::{self, Deal, Facts, Refusal};
 use crate::weigh_deal;
 
 /// A sheet that has no bad word, with its facts and the sums of its pool.
+#[derive(Clone)]
 pub struct OpenedPool {
     words: Vec<u64>,
     facts: Facts,
@@ -19,12 +20,10 @@ impl OpenedPool {
     /// Opens a sheet, or gives the number and the place of its refusal. Neither a tranche without thickness nor results
     /// are judged here.
     pub fn open(words: Vec<u64>) -> Result<Self, Refusal> {
+        let mut pool = Pool::default();
         let Deal {
-            facts,
-            pool,
-            first_tranche,
-            ..
-        } = sheet::read(&words)?;
+            facts, first_tranche, ..
+        } = sheet::read(&words, &mut pool)?;
         Ok(OpenedPool {
             words,
             facts,
@@ -74,7 +73,7 @@ impl OpenedPool {
         let (tranches, section) = self.words[self.first_tranche..].split_at(TRANCHE_WORDS * count);
         Deal {
             facts: self.facts,
-            pool: self.pool,
+            pool: &self.pool,
             tranches: tranches.as_chunks().0,
             first_tranche: self.first_tranche,
             irb: section.last_chunk(),

@@ -20,7 +20,7 @@ pub const CLASS: usize = 1;
 /// A sheet that has no bad word: its facts, the sums of its pool, and its tranches as they stand in the sheet.
 pub struct Deal<'a> {
     pub facts: Facts,
-    pub pool: Pool,
+    pub pool: &'a Pool,
     pub tranches: &'a [[u64; TRANCHE_WORDS]],
     /// Place of the first tranche's amount.
     pub first_tranche: usize,
@@ -134,11 +134,12 @@ pub fn is_rated(ratings: &[u64; RATINGS]) -> bool {
     *ratings != [0; RATINGS]
 }
 
-/// Reads the whole sheet. The first bad word decides; then words that follow the last section are refused.
-pub fn read(sheet: &[u64]) -> Result<Deal<'_>, Refusal> {
+/// Reads the whole sheet, with the sums of its pool into `pool`. The first bad word decides; then words that follow the last
+/// section are refused.
+pub fn read<'a>(sheet: &'a [u64], pool: &'a mut Pool) -> Result<Deal<'a>, Refusal> {
     let mut reader = Reader { sheet, place: 0 };
     let facts = reader.facts()?;
-    let pool = reader.pool(&facts)?;
+    *pool = reader.pool(&facts)?;
     let count = reader.within(1..=MOST_TRANCHES as u64, refusal::COUNT)?;
     let first_tranche = reader.place;
     reader.check_tranches(count, facts.reporting_date)?;

@@ -96,6 +96,7 @@ const UNWRITTEN: u64 = u64::MAX;
 
 /// Lends three separate words for place, count and charge to a call that returns the number, and puts the four
 /// together.
+#[inline]
 fn reply(call: impl FnOnce(&mut u64, &mut u64, &mut u64) -> u64) -> Reply {
     let [mut place, mut count, mut charge] = [UNWRITTEN; 3];
     let number = call(&mut place, &mut count, &mut charge);
@@ -218,6 +219,7 @@ impl Opened {
     }
 
     /// Lends the library the pool to amend, and hands back its answer as it is.
+    #[inline]
     pub(crate) fn amend(&mut self, amendment: &[u64]) -> AmendmentReply {
         let mut place = UNWRITTEN;
         // SAFETY: as for `weigh`, with the words and the sums for reading and writing, the sums' pointer being valid for
@@ -234,6 +236,7 @@ impl Opened {
     }
 
     /// Lends the library the pool, and hands back its charge.
+    #[inline]
     pub(crate) fn charge(&self) -> u64 {
         // SAFETY: as for `is_opened`. What the library requires, that words and sums are an opened pool, holds of every
         // `Opened`, and nothing is written.
@@ -241,6 +244,7 @@ impl Opened {
     }
 
     /// Lends the library the pool and room for the results, and hands back its answer as it is.
+    #[inline]
     pub(crate) fn weigh(&self, results: &mut [u64]) -> Reply {
         // SAFETY: as for `weigh`, with the sums too, for reading, their pointer being valid for the words that sums have.
         // What the library requires, that words and sums are an opened pool, holds of every `Opened`, and neither is

@@ -112,6 +112,7 @@ impl OpenedPool {
 
     /// The pool charge, in millionths, as [`Deal::charge`] is; also of a deal that is not weighed since a tranche is too
     /// thin.
+    #[inline]
     pub fn charge(&self) -> u64 {
         self.opened.charge()
     }
@@ -132,12 +133,14 @@ impl OpenedPool {
     /// # Errors
     ///
     /// The [`Refusal`]: 14 where the results are too short, and then 13; then all words of the results are as they were.
+    #[inline]
     pub fn weigh_into(&self, results: &mut [u64]) -> Result<Weighed, Refusal> {
         self.reply_into(results).outcome()
     }
 
     /// Weighs as [`weigh_into`](Self::weigh_into) does, and gives the four numbers as the C function gives them; number 0
     /// where the deal is weighed.
+    #[inline]
     pub fn reply_into(&self, results: &mut [u64]) -> Reply {
         self.opened.weigh(results)
     }
@@ -180,12 +183,14 @@ impl OpenedPool {
     /// assert_eq!(pool.charge(), 60_000);
     /// # Ok::<(), Box<dyn std::error::Error>>(())
     /// ```
+    #[inline]
     pub fn amend_words(&mut self, amendment: &[u64]) -> Result<(), AmendmentRefusal> {
         self.reply_to_amendment(amendment).outcome()
     }
 
     /// Amends as [`amend_words`](Self::amend_words) does, and gives number and place as the C function gives them; number 0
     /// where the pool is amended.
+    #[inline]
     pub fn reply_to_amendment(&mut self, amendment: &[u64]) -> AmendmentReply {
         self.opened.amend(amendment)
     }
