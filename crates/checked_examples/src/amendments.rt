@@ -35,10 +35,11 @@ fn print_pool(sheet: &[u64], sums: Sums)
 {
     io::write_all(STDOUT_FILENO, b"sums");
     print_sums(sums);
-    print_labelled(b"charge ", deal::opened_charge(sheet, sums));
+    let words = pool::sum_words(sums);
+    print_labelled(b"charge ", deal::opened_charge(sheet, &words));
     io::write_all(STDOUT_FILENO, b"\n");
     let mut results = [0u64; RESULT_ROOM];
-    let answer = deal::weigh_opened(sheet, sums, &mut results);
+    let answer = deal::weigh_opened(sheet, &words, &mut results);
     match answer {
         Answer::Weighed { count, charge: _ } => print_lines(count, &results),
         Answer::Refused(r) => print_refusal(r),

@@ -3,6 +3,7 @@ ghost use lib.ListN.{length};
 ghost use mathlib.Core.Bool.{cond};
 ghost use Rattle.charge.specs.Figures.{poolFigures, mixedFigures};
 ghost use Rattle.charge.specs.SumLimits.{SumLimits, IrbLimits};
+ghost use Rattle.pool.specs.BlockSums.{sumsOf};
 ghost use Rattle.pool.specs.SummedPool.{OpenPool, OpenedPool};
 ghost use Rattle.deal.specs.DemandThree.{KeepsDemandThree, KeepsSeventhWord};
 ghost use Rattle.deal.specs.Lines.{termsFor, terms};
@@ -24,6 +25,7 @@ use judgement::sheet::read_layout;
 use limits::LINE_SIZE;
 use limits::TRANCHES_MOST;
 use pool::Opening;
+use pool::SUM_WORDS;
 use weights::Terms;
 
 // What a sheet gets: all its lines, with their count and the pool charge in millionths; or one refusal.
@@ -122,9 +124,9 @@ fn weigh_pool(sheet: &[u64], l: Layout, sums: Sums, results: &mut [u64]) -> Weig
     }
 }
 
-// The same of an opened pool, whose layout is read of the sheet.
-fn weigh_sums(sheet: &[u64], sums: Sums, results: &mut [u64]) -> Weighing
-    requires { ⌜ OpenedPool (now sheet) sums ⌝ }
+// The same of an opened pool, whose layout is read of the sheet; its sums are lent as words, which costs a caller no copy.
+fn weigh_sums(sheet: &[u64], sums: &[u64; SUM_WORDS], results: &mut [u64]) -> Weighing
+    requires { ⌜ OpenedPool (now sheet) (sumsOf (now sums)) ⌝ }
     ensures { λ r. ⌜ r .charge ≡ terms (now (sheet .entry)) .charge ⌝ }
     ensures { λ r. ⌜ replyOf (r .answer) ≡ replyTo (now (sheet .entry)) (length (now (results .entry))) ⌝ }
     ensures { λ r. ⌜ now (results .exit) ≡ resultsAfter (now (sheet .entry)) (now (results .entry)) ⌝ }
@@ -132,12 +134,13 @@ fn weigh_sums(sheet: &[u64], sums: Sums, results: &mut [u64]) -> Weighing
     ensures { λ r. ⌜ KeepsSeventhWord (now (sheet .entry)) (length (now (results .entry))) (now (results .exit)) ⌝ }
 {
     let l = read_layout(sheet);
-    weigh_pool(sheet, l, sums, results)
+    let q = pool::sums_of(sums);
+    weigh_pool(sheet, l, q, results)
 }
 
-// Weighs every tranche of an opened pool, of which neither words nor sums are worked out anew: what `weigh` gives for its sheet.
-pub fn weigh_opened(sheet: &[u64], sums: Sums, results: &mut [u64]) -> Answer
-    requires { ⌜ OpenedPool (now sheet) sums ⌝ }
+// Weighs every tranche of an opened pool, of which neither words nor sums are worked out anew: what `weigh` gives for its sheet. The sums are lent as words, in the order of pool::sum_words.
+pub fn weigh_opened(sheet: &[u64], sums: &[u64; SUM_WORDS], results: &mut [u64]) -> Answer
+    requires { ⌜ OpenedPool (now sheet) (sumsOf (now sums)) ⌝ }
     ensures { λ r. ⌜ replyOf r ≡ replyTo (now (sheet .entry)) (length (now (results .entry))) ⌝ }
     ensures { λ r. ⌜ now (results .exit) ≡ resultsAfter (now (sheet .entry)) (now (results .entry)) ⌝ }
     ensures { λ r. ⌜ KeepsDemandThree (now (sheet .entry)) (length (now (results .entry))) (now (results .exit)) ⌝ }
@@ -158,15 +161,18 @@ pub fn weigh(sheet: &[u64], results: &mut [u64]) -> Answer
 {
     let opening = pool::open_pool(sheet);
     match opening {
-        Opening::Opened(sums) => weigh_opened(sheet, sums, results),
+        Opening::Opened(sums) => {
+            let words = pool::sum_words(sums);
+            weigh_opened(sheet, &words, results)
+        }
         Opening::Refused(r) => Answer::Refused(r),
     }
 }
 
 // The charge of an opened pool, in millionths, SEC-IRBA included: that of the answer to its sheet where the sheet is weighed, and the same where a tranche is too thin. One word is too few
 // for a line, so that nothing but the charge is worked out.
-pub fn opened_charge(sheet: &[u64], sums: Sums) -> u64
-    requires { ⌜ OpenedPool (now sheet) sums ⌝ }
+pub fn opened_charge(sheet: &[u64], sums: &[u64; SUM_WORDS]) -> u64
+    requires { ⌜ OpenedPool (now sheet) (sumsOf (now sums)) ⌝ }
     ensures { λ r. ⌜ r ≡ terms (now (sheet .entry)) .charge ⌝ }
 {
     let mut no_room = [0u64; 1];

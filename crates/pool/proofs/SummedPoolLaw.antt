@@ -1,6 +1,6 @@
 -- What a sheet is opened to and what a block comes to is settled by the numbers; and what these say of the words and the sums. No axioms.
 use mathlib.Core.List.{List}
-use mathlib.Core.Path.{_≡_, refl, sym, ap, _∙_}
+use mathlib.Core.Path.{_≡_, refl, sym, ap, _∙_, subst}
 use Prim.Native.Nat.{ℕ}
 use Rattle.charge.specs.declared.Sums.{Sums}
 use Rattle.judgement.specs.Outcome.{found, refusedBy}
@@ -13,7 +13,7 @@ use Rattle.judgement.proofs.JudgeSteps.{needed-sound}
 use Rattle.judgement.proofs.ReadLayout.{layout-read}
 use Rattle.judgement.proofs.OutcomeLaws.{same-found, same-refusal, found-not-refused, found-when, refused-when, found-means, refused-means}
 use Rattle.pool.specs.PoolSums.{poolSums}
-use Rattle.pool.specs.BlockSums.{blockSums}
+use Rattle.pool.specs.BlockSums.{blockSums, sumWords, sumsOf}
 use Rattle.pool.specs.SummedBlock.{numbersOf as blockNumbersOf, blockNumbers}
 use Rattle.pool.specs.declared.Block.{Block}
 use Rattle.pool.specs.declared.Block.the-variants as block
@@ -72,3 +72,12 @@ refused-is-not-open s q r e pool = found-not-refused q r (opened-pool s q (pool 
 pub open-read : (s : List ℕ) (l : Layout) (q : Sums) → OpenedPool s q → l ≡ layoutRead s → OpenPool s l q
 open-read s l q pool read =
     record { sound = pool .sound; is-layout = read ∙ layout-read s (needed-sound s (pool .sound)); are-sums = pool .are-sums }
+
+-- ---- sums as words
+
+-- sums that are written as words are read back
+pub read-back : (q : Sums) → sumsOf (sumWords q) ≡ q
+read-back q = refl
+
+pub opened-by-words : (s w : List ℕ) {q : Sums} → w ≡ sumWords q → OpenedPool s q → OpenedPool s (sumsOf w)
+opened-by-words s w {q} written = subst (OpenedPool s) (sym (ap sumsOf written ∙ read-back q))

@@ -99,7 +99,7 @@ pub extern "C" fn tranche_weights_opened_charge_v10(sheet: &[u64], sums: &[u64; 
     requires { ⌜ OpenedPool (now sheet) (sumsOf (now sums)) ⌝ }
     ensures { λ r. ⌜ r ≡ terms (now (sheet .entry)) .charge ⌝ }
 {
-    deal::opened_charge(sheet, pool::sums_of(sums))
+    deal::opened_charge(sheet, sums)
 }
 
 // Weighs every tranche of an opened pool, as deal::weigh_opened does: what tranche_weights_weigh_v10 gives for its sheet.
@@ -118,6 +118,6 @@ pub extern "C" fn tranche_weights_weigh_opened_v10(
     ensures { λ r. ⌜ KeepsDemandThree (now (sheet .entry)) (length (now (results .entry))) (now (results .exit)) ⌝ }
     ensures { λ r. ⌜ KeepsSeventhWord (now (sheet .entry)) (length (now (results .entry))) (now (results .exit)) ⌝ }
 {
-    let answer = deal::weigh_opened(sheet, pool::sums_of(sums), results);
+    let answer = deal::weigh_opened(sheet, sums, results);
     put_answer(answer, place, count, charge)
 }
