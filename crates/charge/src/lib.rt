@@ -1,6 +1,8 @@
 // The charge of a pool and its average risk weight, from the pool's sums and, under SEC-IRBA, from the figures of its IRB section.
 ghost use mathlib.Core.Path.{_≡_};
-ghost use Rattle.charge.specs.PoolCharge.{baseCharge, lateShare, knownCharge, mostlyKnown, poolCharge, mixedCharge, poolAverage};
+ghost use Prim.Native.Nat.{_+_, _*_, _≤_};
+ghost use Rattle.numbers.specs.Rounding.{roundedUp};
+ghost use Rattle.charge.specs.PoolCharge.{baseCharge, lateShare, knownCharge, unknownExposure, mostlyKnown, poolCharge, mixedCharge, poolAverage};
 ghost use Rattle.charge.specs.SumLimits.{TotalsLimits, sumsWithin, SumLimits, irbWithin, IrbLimits};
 ghost use Rattle.charge.specs.Figures.{highestFigures, figures, irbaFigures};
 use irba::IrbFigures;
@@ -99,6 +101,22 @@ fn mostly_known(q: Sums) -> bool
     20 * (q.all.exposure - q.known.exposure) <= q.all.exposure
 }
 
+// The charge of all rows from that of the rows with known status: the others are charged in full. Where there are none, as in most pools, nothing is divided.
+fn with_unknown(q: Sums, charge: u64) -> u64
+    requires { ⌜ SumLimits q × (charge ≤ 1000000) ⌝ }
+    ensures { λ r. ⌜ r ≡ roundedUp (q .known .exposure * charge + unknownExposure q * 1000000) (q .all .exposure) ⌝ }
+{
+    let exposure = q.all.exposure;
+    let unknown = exposure - q.known.exposure;
+    if unknown == 0 {
+        if exposure == 0 {
+            return 0;
+        }
+        return charge;
+    }
+    rounded_up(q.known.exposure * charge + unknown * MILLION, exposure)
+}
+
 // The pool charge: unknown rows up to 5% are charged in full; above that the whole pool is.
 fn pool_charge(q: Sums) -> u64
     requires { ⌜ SumLimits q ⌝ }
@@ -107,11 +125,7 @@ fn pool_charge(q: Sums) -> u64
     if !mostly_known(q) {
         return MILLION;
     }
-    let unknown = q.all.exposure - q.known.exposure;
-    rounded_up(
-        q.known.exposure * known_charge(q) + unknown * MILLION,
-        q.all.exposure,
-    )
+    with_unknown(q, known_charge(q))
 }
 
 // The average risk weight of all rows, which is the senior cap.
