@@ -1,5 +1,5 @@
 -- Amendments worked out by the definition: the row numbers, the limits, and a bad word that is there before one that is missing and before one too many. No axioms.
-use mathlib.Core.Bool.{Bool, true, false}
+use mathlib.Core.Bool.{true, false}
 use mathlib.Core.List.{List, [], ◌∷◌}
 use mathlib.Core.Path.{◌≡◌, refl}
 use Prim.Native.Nat.{ℕ}

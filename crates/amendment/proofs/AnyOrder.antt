@@ -2,12 +2,12 @@
 use mathlib.Core.List.{List, [], ◌∷◌}
 use mathlib.Core.Logic.{⊎_elim}
 use mathlib.Core.Path.{◌≡◌, refl, sym, ap, ◌∙◌}
-use Prim.Native.Nat.{ℕ, ◌+◌, ◌-◌, ◌≤◌, ◌<◌}
+use Prim.Native.Nat.{ℕ, ◌<◌}
 use native.Mathlib.Omega.{arith}
-use lib.ListN.{length, drop}
+use lib.ListN.{drop}
 use lib.Seq.{sets}
 use Rattle.numbers.proofs.SmallerLarger.{le_or_lt}
-use Rattle.judgement.specs.DealSheet.{word, rows, row_at}
+use Rattle.judgement.specs.DealSheet.{word, row_at}
 use Rattle.judgement.specs.Refusals.{words_verdict}
 use Rattle.judgement.specs.declared.Verdict.{Verdict}
 use Rattle.judgement.specs.declared.Verdict.TheVariants.{Sound, Faulty}

@@ -1,14 +1,14 @@
 -- The judgement of an amendment by steps (Amendment) and in plain relations (JudgedAmendment) say the same: of each refusal, and of a good one. No axioms.
 use mathlib.Core.List.{List}
 use mathlib.Core.Path.{◌≡◌}
-use Prim.Native.Nat.{ℕ, zero, suc, ◌≤◌, ◌<◌}
+use Prim.Native.Nat.{ℕ, zero, suc, ◌<◌}
 use native.Mathlib.Omega.{arith}
 use lib.ListN.{length}
 use Rattle.numbers.proofs.Tests.{within_is}
 use Rattle.faults.proofs.FaultLaws.{no_fault_within}
 use Rattle.faults.proofs.GoodWordsLaw as row
 use Rattle.judgement.specs.DealSheet.{word, resecuritisation, in_hundredths, rows}
-use Rattle.judgement.specs.JudgedWords.{GoodWordBy, WordsGoodBy}
+use Rattle.judgement.specs.JudgedWords.{WordsGoodBy}
 use Rattle.judgement.specs.declared.Refusal.{Refusal}
 use Rattle.judgement.specs.declared.Verdict.TheVariants.{Sound, Faulty}
 use Rattle.judgement.proofs.JudgedWords.{why_refused, refused_so, what_accepted, accepted_so}

@@ -1,4 +1,6 @@
 // A pool that is amended: an opened pool is a sheet with its seven sums, and an amendment replaces one row of it and corrects the sums.
+#![tactic(auto)]
+
 ghost use Rattle.std.specs.Prelude.{◌≡◌, ◌+◌, ◌*◌, ◌≤◌, length, drop};
 ghost use Rattle.std.proofs.lemmas.List.Edits.{sets};
 ghost use Rattle.judgement.specs.DealSheet.{word, weight_unit};
@@ -15,7 +17,7 @@ use limits::ROW_SIZE;
 use pool::Opening;
 
 // What became of an amendment: the verdict on it, and the pool's sums after it.
-#[derive(Drop)]
+#[derive(Clone, Copy)]
 pub struct Amended {
     pub verdict: Verdict,
     pub sums: Sums,

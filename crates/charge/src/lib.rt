@@ -1,4 +1,6 @@
 // The charge of a pool and its average risk weight, from the pool's sums and, under SEC-IRBA, from the figures of its IRB section.
+#![tactic(auto)]
+
 ghost use Rattle.std.specs.Prelude.{◌≡◌, ◌+◌, ◌*◌, ◌≤◌};
 ghost use Rattle.numbers.specs.Rounding.{rounded_up};
 ghost use Rattle.charge.specs.PoolCharge.{base_charge, late_share, known_charge, unknown_exposure, mostly_known, pool_charge, mixed_charge, pool_average};
@@ -9,7 +11,7 @@ use irba::IrbFigures;
 use numbers::rounded_up;
 
 // Sums over rows of a pool: exposure, nominal, and exposure × risk weight, the risk weight in hundredths of a percent.
-#[derive(Drop)]
+#[derive(Clone, Copy)]
 pub struct Totals {
     pub exposure: u64,
     pub nominal: u64,
@@ -17,7 +19,7 @@ pub struct Totals {
 }
 
 // A pool's seven sums: over all rows, over the rows with known status, and the nominal of delinquent rows.
-#[derive(Drop)]
+#[derive(Clone, Copy)]
 pub struct Sums {
     pub all: Totals,
     pub known: Totals,
@@ -26,7 +28,7 @@ pub struct Sums {
 
 // What a deal reads of its pool: whether unknown rows are at most 5% of exposure, the pool charge in millionths, and the average risk weight in hundredths of
 // a percent, which is the senior cap.
-#[derive(Drop)]
+#[derive(Clone, Copy)]
 pub struct Figures {
     pub known: bool,
     pub charge: u64,

@@ -1,19 +1,18 @@
 -- A sheet that is converted gets the answer and the lines that it got before, a refusal at the place to which its word has moved, and it is converted back to the sheet whose list of facts is filled. No
 -- axioms.
-use mathlib.Core.Bool.{Bool, true, false, cond, not}
+use mathlib.Core.Bool.{Bool, true, false, not}
 use mathlib.Core.List.{List}
 use mathlib.Core.Logic.{⊎_elim}
-use mathlib.Core.Path.{◌≡◌, refl, sym, ap, ◌∙◌}
-use Prim.Native.Nat.{ℕ, ◌+◌, ◌*◌, ◌-◌, ◌/◌, ◌%◌, ◌≤◌, ◌<◌}
+use mathlib.Core.Path.{◌≡◌, refl, sym, ◌∙◌}
+use Prim.Native.Nat.{ℕ, ◌*◌, ◌-◌, ◌%◌, ◌≤◌, ◌<◌}
 use native.Mathlib.Nat.{eq-zero-or-pos}
 use native.Mathlib.Omega.{arith}
-use lib.Dec.{ltb, leb, eqb}
-use lib.ListN.{length, get_or, get_or-eq_default}
+use lib.Dec.{eqb}
+use lib.ListN.{length, get_or-eq_default}
 use lib.Seq.{ext_get_or}
-use borrow.Author.Tests.{eqb-true, eqb-false, le-ltb, le-leb, eq-eqb, ne_eqb}
+use borrow.Author.Tests.{eqb-true, le-ltb, le-leb, ne_eqb}
 use Rattle.limits.specs.SheetSize.{facts_most}
-use Rattle.judgement.specs.DealSheet.{word, has_fact, fact, unit_at, in_hundredths, pool_at, rows, row_at, weight_at, weight_word, weight_unit, risk_weight, tranches_at, needed}
-use Rattle.judgement.specs.FilledFacts.{filled}
+use Rattle.judgement.specs.DealSheet.{word, has_fact, unit_at, in_hundredths, pool_at, rows, weight_at, weight_word, weight_unit, tranches_at, needed}
 use Rattle.judgement.specs.Refusals.{judged, words_verdict}
 use Rattle.judgement.specs.declared.Verdict.TheVariants.{Sound}
 use Rattle.judgement.proofs.FilledFacts.{count_filled, words_moved, filled_length, filled_same_unit, pool_moved, same_rows, same_row_word, filled_already}
@@ -25,7 +24,6 @@ use Rattle.judgement.proofs.JudgedLaws.{words_accepted, accepted_words}
 use Rattle.judgement.proofs.NeededLaws.{tranches_at_past_rows}
 use Rattle.judgement.proofs.SheetLimits.{fact_there, row_word_there}
 use Rattle.deal.specs.EitherUnit.{EitherUnit}
-use Rattle.deal.specs.SameAnswer.{SameAnswer}
 use Rattle.pool.specs.BlockSums.{block_sums}
 use Rattle.pool.proofs.SameSums.{same_weight, reweighed_blocks}
 use Rattle.deal.proofs.EitherUnit.{good_in_unit, same_blocks_in_unit, either_unit}

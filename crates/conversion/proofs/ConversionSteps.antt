@@ -1,11 +1,11 @@
 -- What the converter's steps come to: the numbers and the output by the first refusal, or by none. No axioms.
 use mathlib.Core.List.{List, ◌++◌}
-use mathlib.Core.Path.{◌≡◌, refl, ap, ◌∙◌}
+use mathlib.Core.Path.{◌≡◌, refl}
 use Prim.Native.Nat.{ℕ, ◌≤◌, ◌<◌}
 use lib.ListN.{length, drop}
 use borrow.Author.Tests.{lt-ltb, le-ltb}
 use Rattle.judgement.specs.Outcome.{found, refused_by}
-use Rattle.judgement.specs.Refusals.{refused, words_verdict}
+use Rattle.judgement.specs.Refusals.{words_verdict}
 use Rattle.judgement.specs.declared.Refusal.{Refusal}
 use Rattle.judgement.specs.declared.Verdict.TheVariants.{Sound, Faulty}
 use Rattle.conversion.specs.RewrittenSheet.{rewritten}

@@ -1,9 +1,9 @@
 -- A sheet is refused a conversion just for the reasons that 02 gives, and is converted where there is none. No axioms.
-use mathlib.Core.Bool.{Bool, true, false, cond}
+use mathlib.Core.Bool.{Bool, true, false}
 use mathlib.Core.List.{List}
 use mathlib.Core.Logic.{⊎_elim}
-use mathlib.Core.Path.{◌≡◌, refl, sym, ap, ◌∙◌}
-use Prim.Native.Nat.{ℕ, ◌+◌, ◌-◌, ◌%◌, ◌≤◌, ◌<◌}
+use mathlib.Core.Path.{◌≡◌, refl, ◌∙◌}
+use Prim.Native.Nat.{ℕ, ◌%◌, ◌≤◌}
 use native.Mathlib.Omega.{arith}
 use lib.Dec.{ltb, eqb}
 use lib.ListN.{length}
@@ -11,10 +11,10 @@ use borrow.Author.Tests.{ltb-true, ltb-false, eqb-true, eqb-false, lt-ltb, le-lt
 use Rattle.limits.specs.SheetSize.{facts_most, word_limit}
 use Rattle.judgement.specs.DealSheet.{in_hundredths, rows, weight_at, weight_word}
 use Rattle.judgement.specs.Judged.{WordsGood}
-use Rattle.judgement.specs.Refusals.{refused, or_else, first_of, words_verdict}
+use Rattle.judgement.specs.Refusals.{words_verdict}
 use Rattle.judgement.specs.declared.Refusal.{Refusal}
 use Rattle.judgement.specs.declared.Verdict.TheVariants.{Sound, Faulty}
-use Rattle.judgement.proofs.FirstFault.{or_else_sound, or_else_faulty, first_of_sound, first_of_all, FirstFault, first_of_faulty, faulty_first_of}
+use Rattle.judgement.proofs.FirstFault.{or_else_sound, or_else_faulty, first_of_sound, first_of_all, first_of_faulty, faulty_first_of}
 use Rattle.judgement.proofs.Judgement.{sound_if}
 use Rattle.judgement.proofs.FilledFacts.{filled_length, words_moved}
 use Rattle.judgement.proofs.JudgeSteps.{needed_sound}
@@ -22,7 +22,7 @@ use Rattle.judgement.proofs.JudgedWords.{sound_not_faulty, states, faulty_unless
 use Rattle.judgement.proofs.JudgedLaws.{words_refused, refused_words, words_accepted, accepted_words, sheet_within}
 use Rattle.conversion.specs.RewrittenSheet.{all_facts, rewritten}
 use Rattle.conversion.specs.Conversion.{percent_verdict, weights_verdict, output_verdict, conversion_verdict}
-use Rattle.conversion.specs.Judged.{rewritten_length, WholePercent, NotWholePercent, AllWhole, OutputShort, WhyNot, by_words, by_weight, by_room, Convertible}
+use Rattle.conversion.specs.Judged.{rewritten_length, WholePercent, NotWholePercent, AllWhole, WhyNot, by_words, by_weight, by_room, Convertible}
 use Rattle.conversion.proofs.RewrittenLaws.{can_fill, rewritten_length_lem}
 
 -- ---- one weight, and all of them

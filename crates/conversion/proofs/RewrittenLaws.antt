@@ -3,20 +3,20 @@ use mathlib.Core.Bool.{Bool, true, false, cond, ◌&&◌}
 use mathlib.Core.List.{List, [], ◌∷◌}
 use mathlib.Core.Path.{◌≡◌, refl, sym, ap, ◌∙◌}
 use Prim.Native.Nat.{ℕ, zero, suc, ◌+◌, ◌*◌, ◌-◌, ◌≤◌, ◌<◌}
-use native.Mathlib.Nat.{add-zero, suc-add, not-suc-le-zero, le_of_suc-le-suc}
+use native.Mathlib.Nat.{add-zero, not-suc-le-zero, le_of_suc-le-suc}
 use native.Mathlib.Omega.{arith}
 use lib.Dec.{ltb, leb, eqb}
 use lib.ListN.{length, get_or}
-use borrow.Author.Tests.{ltb-true, eqb-true, lt-ltb, le-ltb, le-leb, eq-eqb, ne_eqb}
-use Rattle.numbers.proofs.Tests.{both_true, same_ltb, at_cond}
+use borrow.Author.Tests.{ltb-true, eqb-true, lt-ltb, le-leb, ne_eqb}
+use Rattle.numbers.proofs.Tests.{both_true, same_ltb}
 use Rattle.limits.specs.SheetSize.{facts_most}
-use Rattle.judgement.specs.DealSheet.{word, fact, unit_at, in_hundredths, pool_at, rows, row_at, weight_at, weight_word, weight_unit, tranches_at, needed}
-use Rattle.judgement.specs.FilledFacts.{CanFill, filled}
+use Rattle.judgement.specs.DealSheet.{word, fact, unit_at, in_hundredths, pool_at, rows, weight_at, weight_word, weight_unit, tranches_at, needed}
+use Rattle.judgement.specs.FilledFacts.{CanFill}
 use Rattle.judgement.specs.Refusals.{column_of, judged}
 use Rattle.judgement.specs.declared.Verdict.TheVariants.{Sound}
 use Rattle.judgement.proofs.FilledFacts.{filled_length, count_filled, pool_moved, tranches_moved, same_later_fact, same_distance, rest_kept, filled_same_unit}
 use Rattle.judgement.proofs.Judgement.{in_section}
-use Rattle.judgement.proofs.NeededLaws.{pool_at_least, tranches_at_past_rows}
+use Rattle.judgement.proofs.NeededLaws.{tranches_at_past_rows}
 use Rattle.judgement.proofs.SheetLimits.{facts_within, facts_counted, fact_there, risk_weight_most}
 use Rattle.conversion.specs.RewrittenSheet.{all_facts, other_unit, other_weight, is_weight_place, rewritten_word, each_word, in_other_unit, rewritten}
 

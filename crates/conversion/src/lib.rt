@@ -1,4 +1,6 @@
 // The converter: a deal sheet rewritten from either unit of its risk weights, whole percent or hundredths of a percent, to the other.
+#![tactic(auto)]
+
 ghost use Rattle.std.specs.Prelude.{◌≡◌, ◌++◌, ◌≤◌, ◌<◌, length, drop};
 ghost use Rattle.judgement.specs.DealSheet.{word, unit_at};
 ghost use Rattle.judgement.specs.LaidOut.{LaidOut};
@@ -9,7 +11,7 @@ use judgement::{Layout, Refusal, Verdict, Words};
 use limits::{FACTS_MOST, ROW_SIZE};
 
 // What became of a conversion: how many words were written; or the refusal, and nothing was written.
-#[derive(Drop)]
+#[derive(Clone, Copy)]
 pub enum Converted {
     Written(u64),
     Refused(Refusal),

@@ -2,25 +2,24 @@
 use mathlib.Core.Bool.{Bool, true, false}
 use mathlib.Core.List.{List, ◌++◌}
 use mathlib.Core.Path.{◌≡◌, refl, sym, ap, ◌∙◌}
-use Prim.Native.Nat.{ℕ, ◌*◌, ◌/◌, ◌≤◌, ◌<◌}
+use Prim.Native.Nat.{ℕ, ◌*◌, ◌/◌, ◌≤◌}
 use native.Mathlib.Omega.{arith}
 use lib.ListN.{length, take, drop, length-append}
 use lib.Seq.{take_at}
-use borrow.Author.Tests.{leb-true, leb-false, le-leb, lt-leb}
+use borrow.Author.Tests.{leb-true, leb-false}
 use Rattle.limits.specs.SheetSize.{word_limit}
-use Rattle.files.specs.FileForm.{good_length, file_words, file_bytes, bytes_fit, bytes_after}
-use Rattle.files.proofs.FileLaws.{load_takes, store_accepts, store_refuses}
+use Rattle.files.specs.FileForm.{good_length, file_words, bytes_fit, bytes_after}
+use Rattle.files.proofs.FileLaws.{store_accepts, store_refuses}
 use Rattle.judgement.specs.Outcome.{Outcome, found, refused_by}
 use Rattle.judgement.specs.declared.Refusal.{Refusal}
 use Rattle.judgement.specs.declared.Verdict.TheVariants.{Sound, Faulty}
 use Rattle.judgement.proofs.JudgeSteps.{needed_sound}
 use Rattle.judgement.proofs.JudgedLaws.{accepted_words}
-use Rattle.judgement.proofs.OutcomeLaws.{found_means, refused_means, found_when, refused_when}
+use Rattle.judgement.proofs.OutcomeLaws.{found_means, refused_means, refused_when}
 use Rattle.conversion.specs.RewrittenSheet.{rewritten}
 use Rattle.conversion.specs.Conversion.{numbers_of, conversion_verdict, conversion_numbers, output_after}
 use Rattle.conversion.specs.Judged.{Convertible, rewritten_length, by_room}
 use Rattle.conversion.specs.declared.Converted.{Converted}
-use Rattle.conversion.specs.declared.Converted.TheVariants.{Written, Refused}
 use Rattle.conversion.proofs.RewrittenLaws.{rewritten_length_lem}
 use Rattle.conversion.proofs.JudgedLaws as judged
 use Rattle.conversion_file.specs.FileConversion.{file_verdict, file_numbers, bytes_for, bytes_converted, stored_as}

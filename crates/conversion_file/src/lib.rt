@@ -1,4 +1,6 @@
 // The conversion of a deal sheet's file: the bytes of a file in, the bytes of the rewritten sheet's file out.
+#![tactic(auto)]
+
 ghost use Rattle.std.specs.Prelude.{◌≡◌, ◌/◌, length};
 ghost use Rattle.files.specs.FileForm.{bytes_after};
 ghost use Rattle.conversion.specs.Conversion.{numbers_of, conversion_verdict, conversion_numbers};

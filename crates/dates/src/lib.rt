@@ -1,4 +1,6 @@
 // Days as words of a sheet, and the months between two of them. Functions of numbers alone; the open ones take any numbers.
+#![tactic(auto)]
+
 ghost use Rattle.std.specs.Prelude.{◌≡◌, ◌≤◌};
 ghost use Rattle.dates.specs.Calendar.{year_of, month_of, day_of, leap_year, days_of_month, names_day};
 ghost use Rattle.dates.specs.Maturity.{month_count, months_between, maturity_months, maturity_allowed};

@@ -4,22 +4,22 @@ use mathlib.Core.Bool.{Bool, true, false}
 use mathlib.Core.List.{List}
 use mathlib.Core.Logic.{inl}
 use mathlib.Core.Path.{◌≡◌, refl, ap, ◌∙◌}
-use Prim.Native.Nat.{ℕ, ◌+◌, ◌-◌, ◌≤◌, ◌<◌}
+use Prim.Native.Nat.{ℕ, ◌+◌, ◌≤◌, ◌<◌}
 use native.Mathlib.Nat.{add-zero, le_refl}
 use native.Mathlib.Omega.{arith}
 use lib.Dec.{eqb}
 use borrow.Author.Tests.{leb-true, eqb-true, eqb-false}
 use Rattle.numbers.proofs.Tests.{at_cond}
 use Rattle.faults.specs.GoodWords.{GoodFact, GoodTranche}
-use Rattle.judgement.specs.DealSheet.{word, pool_kind, resecuritisation, has_fact, reporting_date, unit_at, in_hundredths, pool_at, rows, row_at, tranches_at, tranche_count, tranche_at, amount, months, held, first_rating, second_rating, third_rating, has_irb, irb_at, irb_place}
-use Rattle.judgement.specs.GoodSheet.{GoodRowOf, GoodTrancheOf, GoodIrbOf, GoodSheet}
+use Rattle.judgement.specs.DealSheet.{word, pool_kind, resecuritisation, has_fact, reporting_date, unit_at, in_hundredths, pool_at, rows, row_at, tranches_at, tranche_count, tranche_at, amount, months, held, first_rating, second_rating, third_rating, irb_at}
+use Rattle.judgement.specs.GoodSheet.{GoodRowOf, GoodTrancheOf, GoodSheet}
 use Rattle.judgement.specs.Refusals.{words_verdict}
 use Rattle.judgement.specs.declared.Verdict.TheVariants.{Sound}
 use Rattle.judgement.proofs.GoodSheetLaw.{good_sheet, good_sheet_words}
 use Rattle.judgement.proofs.JudgedLaws.{words_accepted, accepted_words}
 use Rattle.judgement.proofs.NeededLaws.{tranches_at_past_rows, irb_at_past_tranches}
 use Rattle.judgement.proofs.AlikeSheets.{same_irb_column, same_irb_count, same_irb_row, good_alike}
-use Rattle.judgement.proofs.SameLayout.{SameCounts, same_counts, same_irb_at, same_needed, SameFacts, same_facts, same_unit, same_irb_figures, same_good_row}
+use Rattle.judgement.proofs.SameLayout.{SameCounts, same_counts, same_needed, SameFacts, same_facts, same_unit, same_irb_figures, same_good_row}
 use Rattle.pool.specs.PoolSums.{pool_sums}
 use Rattle.pool.proofs.SameSums.{same_sums_in_order}
 use Rattle.deal.specs.InferredRatings.{infers_ratings}

@@ -1,10 +1,9 @@
 -- Which ratings a tranche's line depends on: two accepted sheets that are the same but for ratings of tranches of a senior class give it the same words; and where it is rated or its deal infers no
 -- rating, so do two that are the same but for other tranches' ratings. No axioms.
-use mathlib.Core.Bool.{Bool, true, false, not, ◌&&◌}
 use mathlib.Core.List.{List}
 use mathlib.Core.Logic.{⊎_elim}
 use mathlib.Core.Path.{◌≡◌, refl, sym, ap, ◌∙◌, subst}
-use Prim.Native.Nat.{ℕ, ◌+◌, ◌*◌, ◌-◌, ◌≤◌, ◌<◌}
+use Prim.Native.Nat.{ℕ, ◌+◌, ◌-◌, ◌≤◌, ◌<◌}
 use native.Mathlib.Nat.{eq-zero-or-pos, le_refl}
 use native.Mathlib.Omega.{arith}
 use Rattle.judgement.specs.DealSheet.{word, pool_kind, reporting_date, unit_at, in_hundredths, pool_at, row_at, tranches_at, tranche_count, tranche_at, class, months, irb_place, needed}

@@ -9,7 +9,7 @@ use lib.Dec.{eqb}
 use borrow.Author.Tests.{not-true, ne_eqb, lt-leb, le-leb, eqb-true}
 use Rattle.numbers.proofs.Tests.{true_not_false, both_true, within_is}
 use Rattle.irba.specs.IrbaDeals.{covers_pool, irba_applies}
-use Rattle.irba.specs.Parameter.{within_limits, parameter as irbaParameter}
+use Rattle.irba.specs.Parameter.{within_limits, parameter as parameter_by_irba}
 use Rattle.irba.specs.ParameterMeans.{IsParameter}
 use Rattle.irba.specs.declared.IrbFigures.{IrbFigures}
 use Rattle.irba.proofs.ParameterMeansLaw.{parameter_means}
@@ -92,11 +92,11 @@ irba_has_section s by = by_kind (eqb (pool_kind s) 0) refl
 
 -- "the exact value read[s] this charge and parameter"
 abbrev pub irba_parameter_of : List ℕ → ℕ → ℕ
-irba_parameter_of s i = irbaParameter (eqb (class s i) 1) (stc s) (terms s).charge (maturity_fifths (months s i)) (irb_figures s)
+irba_parameter_of s i = parameter_by_irba (eqb (class s i) 1) (stc s) (terms s).charge (maturity_fifths (months s i)) (irb_figures s)
 
 read_parameter :
     (s : List ℕ) (i : ℕ) →
-    irbaParameter (tranche s i).senior (terms s).stc (terms s).charge (maturity_fifths (tranche s i).months) (terms s).irb ≡ irba_parameter_of s i
+    parameter_by_irba (tranche s i).senior (terms s).stc (terms s).charge (maturity_fifths (tranche s i).months) (terms s).irb ≡ irba_parameter_of s i
 unfolding terms layout
 read_parameter s i = rw ((keeps_its_own s i).own_class, (keeps_its_own s i).own_months)
 

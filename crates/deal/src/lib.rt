@@ -1,3 +1,5 @@
+#![tactic(auto)]
+
 ghost use Rattle.std.specs.Prelude.{◌≡◌, length, cond};
 ghost use Rattle.charge.specs.Figures.{pool_figures, mixed_figures};
 ghost use Rattle.charge.specs.SumLimits.{SumLimits, IrbLimits};
@@ -21,14 +23,14 @@ use pool::{Opening, SUM_WORDS};
 use weights::Terms;
 
 // What a sheet gets: all its lines, with their count and the pool charge in millionths; or one refusal.
-#[derive(Drop)]
+#[derive(Clone, Copy)]
 pub enum Answer {
     Weighed { count: u64, charge: u64 },
     Refused(Refusal),
 }
 
 // A tranche's line, as its seven words; rwa is the risk-weighted amount, low the low end of the weight.
-#[derive(Drop)]
+#[derive(Clone, Copy)]
 pub(crate) struct Line {
     pub(crate) approach: u64,
     pub(crate) attachment: u64,
@@ -72,7 +74,7 @@ fn terms_of(l: Layout, q: Sums) -> Terms
 }
 
 // What the weighing of an opened pool comes to: the answer, and the pool charge, whatever the answer.
-#[derive(Drop)]
+#[derive(Clone, Copy)]
 struct Weighing {
     answer: Answer,
     charge: u64,

@@ -2,12 +2,11 @@
 use mathlib.Core.Bool.{Bool, true, false, true≢false}
 use mathlib.Core.List.{List}
 use mathlib.Core.Path.{◌≡◌, refl, sym, ap, ◌∙◌}
-use Prim.Native.Nat.{ℕ, ◌/◌, ◌≤◌}
+use Prim.Native.Nat.{ℕ, ◌/◌}
 use native.Mathlib.Omega.{arith}
-use lib.ListN.{length, take, drop, length-append}
-use Rattle.limits.specs.SheetSize.{word_limit}
+use lib.ListN.{length, take}
 use Rattle.files.specs.FileForm.{good_length, file_words, words_after}
-use Rattle.files.proofs.FileLaws.{length_words_to, load_accepts, load_takes}
+use Rattle.files.proofs.FileLaws.{load_takes}
 use Rattle.deal.specs.DemandThree.{KeepsDemandThree, KeepsSeventhWord}
 use Rattle.deal.specs.Results.{Reply, reply_of, reply_to, results_after}
 use Rattle.deal.specs.declared.Answer.{Answer}

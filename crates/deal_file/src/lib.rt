@@ -1,4 +1,6 @@
 // The answer to a deal sheet's file: 15 for a bad length, and else what the file's words get.
+#![tactic(auto)]
+
 ghost use Rattle.std.specs.Prelude.{◌≡◌, length};
 ghost use Rattle.deal.specs.Results.{reply_of};
 ghost use Rattle.deal_file.specs.FileAnswer.{file_reply, file_results, FileKeepsDemandThree, FileKeepsSeventhWord};

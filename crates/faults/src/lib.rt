@@ -1,4 +1,6 @@
 // The fault of one word of a sheet, by its value and its column: the refusal's number in 01 or 02, or 0. Functions of numbers alone, open to all inputs.
+#![tactic(auto)]
+
 ghost use Rattle.std.specs.Prelude.{◌≡◌};
 ghost use Rattle.faults.specs.WordFaults.{unless, count_fault, code_fault, pool_kind_fault, stc_fault, reporting_date_fault, fact_fault, highest_weight_word, status_allowed, row_fault, row_is_good, class_in_order, maturity_fault, tranche_fault, share_allowed, irb_in_limits, irb_fault};
 

@@ -1,6 +1,6 @@
 -- Laws of the file form: the lengths of words and bytes, stored words load back, a file over the limit has a bad length however much of it past the
 -- limit is read, and the words that a load leaves. No axioms.
-use mathlib.Core.Bool.{true, false, and_false}
+use mathlib.Core.Bool.{true, false, and-false}
 use mathlib.Core.List.{List, [], ◌∷◌, ◌++◌}
 use mathlib.Core.Logic.{⊎_elim}
 use mathlib.Core.Path.{◌≡◌, refl, ap, ◌∙◌}
@@ -41,7 +41,7 @@ pub part_word_file : (file : List ℕ) → (length file % 8 ≡ 0 → ⊥) → g
 part_word_file file part = rw (ne_eqb (length file % 8) 0 part)
 
 pub overlong_file : (file : List ℕ) → byte_limit < length file → good_length file ≡ false
-overlong_file file over = rw (lt-leb (length file) byte_limit over) (and_false (eqb (length file % 8) 0))
+overlong_file file over = rw (lt-leb (length file) byte_limit over) (and-false (eqb (length file % 8) 0))
 
 pub overlong : (file : List ℕ) (n : ℕ) → byte_limit < n → n ≤ length file → good_length (take n file) ≡ false
 overlong file n over within = overlong_file (take n file) (omega (arith, length-take-le n file within))

@@ -1,4 +1,6 @@
 // The file form of a sheet: words of eight bytes each, the lowest byte first.
+#![tactic(auto)]
+
 ghost use Rattle.std.specs.Prelude.{◌≡◌, ◌++◌, ◌+◌, ◌/◌, ◌≤◌, ◌<◌, length, take, drop};
 ghost use Rattle.std.proofs.lemmas.List.Edits.{sets};
 ghost use Rattle.files.specs.FileForm.{good_length, lowest_first, file_words, words_after, bytes_of, bytes_fit, bytes_after};

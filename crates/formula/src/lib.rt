@@ -1,3 +1,5 @@
+#![tactic(auto)]
+
 ghost use Rattle.std.specs.Prelude.{◌≡◌, ◌+◌, ◌-◌, ◌/◌, ◌^◌, ◌≤◌, ◌<◌};
 ghost use Rattle.series.specs.DecayTable.{DecayEntry};
 ghost use Rattle.formula.specs.Formula.{numbers_of, IsRawWeight};
@@ -216,7 +218,7 @@ fn within_limits(a: u64, d: u64, k: u64, p: u64) -> bool
 
 // Both numbers of a raw weight in hundredths of a percent, or why there is none: the formula needs a below d (refusal 13 at a = d), and no deal sheet has
 // inputs outside the limits.
-#[derive(Drop)]
+#[derive(Clone, Copy)]
 pub enum RawWeight {
     Weight(Ends),
     NoThickness,

@@ -1,5 +1,7 @@
 // SEC-IRBA (02, S-5): the figures that a pool with an IRB charge adds to a sheet, whether the approach applies to a deal, and its supervisory parameter. Functions of
 // numbers alone, open to all inputs.
+#![tactic(auto)]
+
 ghost use Rattle.std.specs.Prelude.{true, ◌≡◌, ◌*◌, ◌≤◌, ◌<◌, pos, ◌+ℤ◌, ◌*ℤ◌};
 ghost use Rattle.std.specs.Int.Signed.{mag};
 ghost use Rattle.irba.specs.IrbaDeals.{covers_pool, irba_applies};
@@ -10,7 +12,7 @@ use numbers::{rounded_up, within};
 
 // The six words of a sheet's fourth section: the IRB charge and the average loss given default in millionths, the effective number of loans, whether the pool is retail,
 // the share of exposure with an IRB charge in millionths, and the average risk weight by IRB, SA loans at SA weights, in hundredths of a percent.
-#[derive(Drop)]
+#[derive(Clone, Copy)]
 pub struct IrbFigures {
     pub charge: u64,
     pub loss: u64,
@@ -21,7 +23,7 @@ pub struct IrbFigures {
 }
 
 // The coefficients of the parameter's sum, in hundredths: a constant, per 1/number of loans, per charge, per loss given default, per year of tranche maturity.
-#[derive(Drop)]
+#[derive(Clone, Copy)]
 struct Coefficients {
     constant: i64,
     number: i64,

@@ -24,6 +24,11 @@ pub word_judged :
     v ≡ judged s (p + 1)
 word_judged s p sound is e = e ∙ ap (λ (n : ℕ). judge_with (length s) p n) (sym is) ∙ sym (judged_next s p sound)
 
+-- a verdict that is not sound is a fault
+pub faulty_unless_sound : (v : Verdict) → (v ≡ Sound → ⊥) → (r : Refusal) × (v ≡ Faulty r)
+faulty_unless_sound Sound unsound = absurd (unsound refl)
+faulty_unless_sound (Faulty r) unsound = (r, refl)
+
 pub fault_stays :
     (s : List ℕ) (j k : ℕ) {v : Verdict} {r : Refusal} → v ≡ Faulty r → v ≡ judged s j → j ≤ k → v ≡ judged s k
 fault_stays s j k {r = r} faulty e h = faulty ∙ sym (first_of_stays (judge s) j k r h (sym e ∙ faulty))

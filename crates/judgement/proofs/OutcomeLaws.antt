@@ -2,7 +2,7 @@
 use mathlib.Core.Path.{◌≡◌, refl, sym, ap}
 use Prim.Native.Nat.{ℕ}
 use native.Mathlib.Omega.{arith}
-use Rattle.judgement.specs.Outcome.{Outcome, refused_with, found, refused_by, outcome}
+use Rattle.judgement.specs.Outcome.{Outcome, found, refused_by, outcome}
 use Rattle.judgement.specs.declared.Refusal.{Refusal}
 use Rattle.judgement.specs.declared.Verdict.{Verdict}
 use Rattle.judgement.specs.declared.Verdict.TheVariants.{Sound, Faulty}

@@ -1,11 +1,9 @@
 -- What is read of a sheet whose words are not judged: its layout where no count is above its limit, as in every sheet with good words. No axioms.
-use mathlib.Core.Bool.{true}
 use mathlib.Core.List.{List}
-use mathlib.Core.Path.{◌≡◌, sym, ap, ◌∙◌}
+use mathlib.Core.Path.{◌≡◌}
 use Prim.Native.Nat.{ℕ, ◌+◌, ◌*◌, ◌≤◌, ◌<◌}
-use native.Mathlib.Omega.{arith}
 use borrow.Author.Tests.{le-leb, lt-leb}
-use Rattle.limits.specs.SheetSize.{facts_most, rows_most, tranches_most, place_limit}
+use Rattle.limits.specs.SheetSize.{facts_most, rows_most, tranches_most}
 use Rattle.judgement.specs.DealSheet.{word, pool_at, rows, tranches_at, tranche_count, irb_at, needed, layout}
 use Rattle.judgement.specs.ReadLayout.{no_layout, layout_read}
 use Rattle.judgement.specs.Refusals.{judged}

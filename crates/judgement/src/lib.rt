@@ -1,4 +1,6 @@
 // The judgement of a sheet's words, from place 0 upward; then words that follow. It needs no more than the words.
+#![tactic(auto)]
+
 ghost use Rattle.std.specs.Prelude.{◌≡◌, ◌+◌, ◌-◌, ◌<◌, length, true};
 ghost use Rattle.judgement.specs.DealSheet.{pool_at, rows, row_at, tranches_at, tranche_count, tranche_at, class, has_irb, irb_at, needed};
 ghost use Rattle.judgement.specs.Refusals.{judge_with, judged, numbers_of, words_numbers};
@@ -19,14 +21,14 @@ use limits::{
 use numbers::excess;
 
 // A refusal: its number in 01 or 02, and its place.
-#[derive(Drop)]
+#[derive(Clone, Copy)]
 pub struct Refusal {
     pub number: u64,
     pub place: u64,
 }
 
 // What has been judged so far: nothing wrong, or the first fault.
-#[derive(Drop)]
+#[derive(Clone, Copy)]
 pub enum Verdict {
     Sound,
     Faulty(Refusal),
@@ -34,7 +36,7 @@ pub enum Verdict {
 
 // What is read of a sheet whose words are good: its facts, the places of its first pool row and of its first tranche, how many there are of each, and the figures of its
 // IRB section, zeros where it has none.
-#[derive(Drop)]
+#[derive(Clone, Copy)]
 pub struct Layout {
     pub kind: u64,
     pub resecuritisation: bool,
@@ -51,7 +53,7 @@ pub struct Layout {
 }
 
 // What the words of a sheet are found to be: good, with what is read of them; or refused by the first fault.
-#[derive(Drop)]
+#[derive(Clone, Copy)]
 pub enum Words {
     Good(Layout),
     Bad(Refusal),

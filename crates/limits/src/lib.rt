@@ -1,5 +1,6 @@
 // How many words a sheet, its rows and its results have, and how long a sheet's file may be: the limits of 01 and 02, each under one name for all crates. Those that
 // follow from others are worked out from them. specs/SheetSize.antt has the same for the definitions.
+#![tactic(auto)]
 
 // The least and the most facts that a sheet has.
 pub const FACTS_LEAST: usize = 4;

@@ -1,3 +1,5 @@
+#![tactic(auto)]
+
 ghost use Rattle.std.specs.Prelude.{◌≡◌, ◌-◌, min, max};
 ghost use Rattle.numbers.specs.Limits.{within};
 ghost use Rattle.numbers.specs.BothEnds.{rounded};
@@ -47,7 +49,7 @@ pub fn rounded_up(x: u64, y: u64) -> u64
 }
 
 // Two whole numbers between which an exact figure lies: the low end is never above it, the high end never below.
-#[derive(Drop)]
+#[derive(Clone, Copy)]
 pub struct Ends {
     pub low: u64,
     pub high: u64,

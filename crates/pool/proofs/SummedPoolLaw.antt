@@ -14,7 +14,7 @@ use Rattle.judgement.proofs.ReadLayout.{layout_read_lem}
 use Rattle.judgement.proofs.OutcomeLaws.{same_found, same_refusal, found_not_refused, found_when, refused_when, found_means, refused_means}
 use Rattle.pool.specs.PoolSums.{pool_sums}
 use Rattle.pool.specs.BlockSums.{block_sums, sum_words, sums_of}
-use Rattle.pool.specs.SummedBlock.{numbers_of as blockNumbersOf, block_numbers}
+use Rattle.pool.specs.SummedBlock.{numbers_of as block_numbers_of, block_numbers}
 use Rattle.pool.specs.declared.Block.{Block}
 use Rattle.pool.specs.declared.Block.TheVariants as block
 use Rattle.pool.specs.SummedPool.{OpenPool, OpenedPool, numbers_of, opened_numbers}
@@ -27,7 +27,7 @@ opening_settled (Opened q) (Refused r) e = absurd (found_not_refused q r e)
 opening_settled (Refused t) (Opened p) e = absurd (found_not_refused p t (sym e))
 opening_settled (Refused t) (Refused r) e = ap Refused (same_refusal t r e)
 
-pub block_settled : (v w : Block) → blockNumbersOf v ≡ blockNumbersOf w → v ≡ w
+pub block_settled : (v w : Block) → block_numbers_of v ≡ block_numbers_of w → v ≡ w
 block_settled (block.Summed q) (block.Summed p) e = ap block.Summed (same_found q p e)
 block_settled (block.Summed q) (block.Refused r) e = absurd (found_not_refused q r e)
 block_settled (block.Refused t) (block.Summed p) e = absurd (found_not_refused p t (sym e))

@@ -1,4 +1,6 @@
 // The pool of a deal sheet: its seven sums and those of each block of its rows, from the words of the sheet alone.
+#![tactic(auto)]
+
 ghost use Rattle.std.specs.Prelude.{true, ◌≡◌, ◌+◌, ◌≤◌, ◌<◌};
 ghost use Rattle.limits.specs.SheetSize.{rows_most, row_size, block_size, blocks_most};
 ghost use Rattle.judgement.specs.DealSheet.{word, rows, row_at, weight_unit, risk_weight};
@@ -6,7 +8,7 @@ ghost use Rattle.judgement.specs.LaidOut.{LaidOut};
 ghost use Rattle.pool.specs.PoolSums.{pool_sums};
 ghost use Rattle.pool.specs.BlockSums.{block_sums, sum_words, sums_of};
 ghost use Rattle.pool.specs.SummedPool.{numbers_of, opened_numbers};
-ghost use Rattle.pool.specs.SummedBlock.{numbers_of as blockNumbersOf, block_numbers, sums_read};
+ghost use Rattle.pool.specs.SummedBlock.{numbers_of as block_numbers_of, block_numbers, sums_read};
 ghost use Rattle.pool.specs.RowTotals.{totals_from, sums_from, marked_from, with_row, with_marked, totals_added, with_block, TotalsOfRows, MarkedOfRows, SumsOfRows, Subtotals};
 
 use charge::{Sums, Totals};
@@ -15,14 +17,14 @@ use limits::{BLOCK_SIZE, BLOCKS_MOST, ROW_SIZE};
 use numbers::{rounded_up, smaller};
 
 // What a sheet's pool is opened to: its seven sums; or the refusal that the words get, and it is not opened.
-#[derive(Drop)]
+#[derive(Clone, Copy)]
 pub enum Opening {
     Opened(Sums),
     Refused(Refusal),
 }
 
 // What a block of a sheet's pool comes to: its sums; or the refusal that the words get.
-#[derive(Drop)]
+#[derive(Clone, Copy)]
 pub enum Block {
     Summed(Sums),
     Refused(Refusal),
@@ -45,7 +47,7 @@ const NO_SUMS: Sums = Sums {
 pub const SUM_WORDS: usize = 7;
 
 // What is marked of some rows: the totals of those of unknown status, and the nominal of the delinquent ones.
-#[derive(Drop)]
+#[derive(Clone, Copy)]
 struct Marked {
     unknown: Totals,
     late: u64,
@@ -264,9 +266,9 @@ pub fn open_pool(s: &[u64]) -> Opening
 }
 
 // The sums of a block of a sheet's pool, blocks counted from 0; or the refusal that the sheet's words get, whatever the block. Neither the room for results nor the tranches' thickness is
-// judged here. `blockNumbersOf` gives 01's number and place of a refusal, and where there is none the sums.
+// judged here. `block_numbers_of` gives 01's number and place of a refusal, and where there is none the sums.
 pub fn sum_block(s: &[u64], block: u64) -> Block
-    ensures { blockNumbersOf result ≡ block_numbers s.now block }
+    ensures { block_numbers_of result ≡ block_numbers s.now block }
 {
     let words = judgement::judge_words(s);
     match words {
@@ -277,7 +279,7 @@ pub fn sum_block(s: &[u64], block: u64) -> Block
 
 // The sums that a block came to; where the sheet was refused they read 0.
 pub fn sums_read(block: Block) -> Sums
-    ensures { result ≡ sums_read (blockNumbersOf block) }
+    ensures { result ≡ sums_read (block_numbers_of block) }
 {
     match block {
         Block::Summed(q) => q,

@@ -1,4 +1,6 @@
 // Which codes are ratings, and of what kind. A crate of their own, since a sheet's words are judged by the codes alone, whatever the rating table says.
+#![tactic(auto)]
+
 ghost use Rattle.std.specs.Prelude.{◌≡◌, [], ◌∷◌, ◌≤◌, length};
 ghost use Rattle.rating_codes.specs.RatingCodes.{long_term, short_term, present, any_present, listed, ratings_among};
 

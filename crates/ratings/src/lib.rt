@@ -1,4 +1,6 @@
 // The weight by ratings: the rating tables, the tranche maturity, the thickness, and the pick among several ratings.
+#![tactic(auto)]
+
 ghost use Rattle.std.specs.Prelude.{◌≡◌, [], ◌-◌, max, ◌≤◌, ◌<◌, get_or};
 ghost use Rattle.ratings.specs.RatingTable.{figures_of, maturity_fifths, linear, beside_senior, long_term_exact, short_term_exact, exact_weight, weight_by_rating, ends_by_ratings};
 ghost use Rattle.ratings.specs.StoredFigures.{in_percent, row_in_percent, KeptTables};
@@ -159,6 +161,7 @@ fn exact_weight(
 // The weight by a tranche's rating words, and its low end: of three ratings the higher of the two lowest weights, which is the middle one; of fewer the highest weight, a word that is no
 // rating having weight 0, so that it is never the highest. The exact weights are compared and the one that counts is rounded both ways: down, which is where the low end starts
 // from, and up, which gives the same as rounding each before (`pick_then_rounded`).
+#[tactic(auto, using(crate::proofs::TableLaws::fewer_than_three_rounded, crate::proofs::TableLaws::three_ratings_rounded))]
 fn weight_by_tables(
     ordinary: &[[u8; 4]; 18],
     marked: &[[u8; 4]; 18],

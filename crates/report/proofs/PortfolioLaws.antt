@@ -7,7 +7,7 @@ use native.Mathlib.Nat.{zero-add}
 use native.Mathlib.Omega.{arith}
 use lib.ListN.{length, get_or, take, drop, length-append}
 use lib.Seq.{sets}
-use Rattle.limits.specs.SheetSize.{block_size, blocks_most}
+use Rattle.limits.specs.SheetSize.{block_size}
 use Rattle.numbers.specs.Sum.{block_start, block_end}
 use Rattle.files.specs.FileForm.{good_length, file_words}
 use Rattle.charge.specs.declared.Sums.{Sums}

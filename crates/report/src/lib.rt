@@ -1,4 +1,6 @@
 // The texts on a file: the bytes of a deal sheet's file in, the text that a desk reads out, the report on its tranches or its totals by portfolio.
+#![tactic(auto)]
+
 ghost use Rattle.std.specs.Prelude.{◌≡◌, ◌≤◌, length};
 ghost use Rattle.std.proofs.lemmas.List.Edits.{sets};
 ghost use Rattle.report.specs.ReportText.{refusal_line, file_text, written_for, text_after, text_room, refusal_room};
@@ -29,7 +31,7 @@ pub const TOTALS_ROOM: usize = (DIGITS_MOST + 1) * 10 * BLOCKS_MOST + 6 + (DIGIT
 pub const REFUSAL_ROOM: usize = 12 + TWO_NUMBERS;
 
 // What became of a text: it was written whole, or there was no room for it and nothing was written. Both hold the text's length.
-#[derive(Drop)]
+#[derive(Clone, Copy)]
 pub enum Written {
     Whole(u64),
     NoRoom(u64),

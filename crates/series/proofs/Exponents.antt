@@ -53,6 +53,7 @@ scaled a b s (suc m) (suc n) = a * scaled a b (suc s) m n
 
 scaled_step : (a b s m n : ℕ) → n < m → suc (s + n) * b * scaled a b s m (suc n) ≡ a * scaled a b s m n
 unfolding scaled
+scaled_step a b s zero n l = elim l [ ]
 scaled_step a b s (suc m) zero (suc-le-suc l) = omega arith
 scaled_step a b s (suc m) (suc n) (suc-le-suc l) = omega (arith, ap (λ (t : ℕ). a * t) (scaled_step a b (suc s) m n l))
 

@@ -1,5 +1,5 @@
 -- Fractions of whole numbers, compared by multiplying out. A comparison has its meaning where both bottoms are above 0; proofs/EndLaws.antt
--- (upper-bottoms, lower-bottoms) shows that of the ends of a raw weight.
+-- (`upper_bottoms`, `lower_bottoms`) shows that of the ends of a raw weight.
 use Rattle.std.specs.Prelude.{ℕ, ◌+◌, ◌*◌, ◌≤◌, ◌<◌}
 
 pub record Fraction : Type 0 where

@@ -1,6 +1,6 @@
 -- The text that a desk writes a sheet in: words in decimal with white space between them, and comments from `#` to the line's end. What it means: the
 -- bytes of the sheet's file, or the first token that is no word, with its line.
-use Rattle.std.specs.Prelude.{Bool, true, false, cond, not, ◌&&◌, ◌||◌, List, [], ◌∷◌, ◌++◌, ℕ, suc, ◌+◌, ◌*◌, ◌-◌, ◌^◌, min, leb, eqb, length, drop}
+use Rattle.std.specs.Prelude.{Bool, true, false, cond, not, ◌&&◌, ◌||◌, List, [], ◌∷◌, ◌++◌, ℕ, suc, ◌*◌, ◌-◌, ◌^◌, min, leb, eqb, length, drop}
 use Rattle.limits.specs.SheetSize.{byte_limit}
 use Rattle.files.specs.Decimal.{newline, space, all_digits, value_from}
 use Rattle.files.specs.FileForm.{file_bytes}

@@ -1,4 +1,6 @@
 // A sheet written by hand: decimal words with white space between them and comments from `#` to the line's end, turned into the bytes of a file.
+#![tactic(auto)]
+
 ghost use Rattle.std.specs.Prelude.{◌≡◌, length};
 ghost use Rattle.sheet_text.specs.SheetText.{made_of, bytes_for};
 
@@ -9,7 +11,7 @@ use tokens::{Ended, read_words};
 mod tokens;
 
 // Where a token stands in a text: its line, from 1, the place of its first character and the place after its last.
-#[derive(Drop)]
+#[derive(Clone, Copy)]
 pub struct Span {
     pub line: u64,
     pub start: u64,
@@ -18,7 +20,7 @@ pub struct Span {
 
 // What a text makes: so many bytes of a file; or a token that is no decimal number, or one above 64 bits; or so many words, which are more than there is room
 // for or more than a sheet has.
-#[derive(Drop)]
+#[derive(Clone, Copy)]
 pub enum Made {
     Bytes(u64),
     NotDecimal(Span),

@@ -14,7 +14,7 @@ const SPACE: u8 = 32;
 const HASH: u8 = 35;
 
 // What the characters of a token make: a number; a number over 64 bits; no decimal number.
-#[derive(Drop)]
+#[derive(Clone, Copy)]
 enum Numeral {
     Number(u64),
     Over,
@@ -23,7 +23,7 @@ enum Numeral {
 
 // How far a text is read: the place; the newlines and the words before it; the token that is under way there, by its number of characters, 0 where
 // there is none, and what they make.
-#[derive(Drop)]
+#[derive(Clone, Copy)]
 struct Scan {
     at: usize,
     newlines: u64,
@@ -33,7 +33,7 @@ struct Scan {
 }
 
 // After a token: the number of words so far, or what the text makes because of the token.
-#[derive(Drop)]
+#[derive(Clone, Copy)]
 pub(crate) enum Ended {
     Words(usize),
     Refused(Made),

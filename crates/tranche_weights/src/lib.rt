@@ -1,5 +1,7 @@
 // The calculator for programs in C and Rust: the functions that a bank's own system links, with the promises of the functions they call. The header
 // is include/tranche_weights.h. Each name ends in the version of the interface, so that a program built for another version does not link.
+#![tactic(auto)]
+
 ghost use Rattle.std.specs.Prelude.{◌≡◌, ◌≤◌, length};
 ghost use Rattle.deal.specs.DemandThree.{KeepsDemandThree, KeepsSeventhWord};
 ghost use Rattle.deal.specs.Results.{reply_of, reply_to, results_after};
@@ -7,11 +9,11 @@ ghost use Rattle.deal_file.specs.FileAnswer.{file_reply, file_results, FileKeeps
 ghost use Rattle.report.specs.ReportText.{file_text, text_after, text_room};
 ghost use Rattle.pool.specs.SummedBlock.{numbers_of};
 ghost use Rattle.tranche_weights.specs.BlockReply.{block_reply, reply_for, block_reply_to};
-ghost use Rattle.conversion.specs.Conversion.{numbers_of as numbersOfConversion, output_after};
-ghost use Rattle.tranche_weights.specs.ConversionReply.{conversion_reply, reply_for as replyForConversion, conversion_reply_to};
+ghost use Rattle.conversion.specs.Conversion.{numbers_of as conversion_numbers_of, output_after};
+ghost use Rattle.tranche_weights.specs.ConversionReply.{conversion_reply, reply_for as reply_for_conversion, conversion_reply_to};
 ghost use Rattle.tranche_weights.specs.FourNumbers.{four_numbers};
 
-mod opened;
+pub mod opened;
 
 use conversion::Converted;
 use deal::Answer;
@@ -42,8 +44,7 @@ pub(crate) fn put_answer(answer: Answer, place: &mut u64, count: &mut u64, charg
 }
 
 // Weighs every tranche of a deal sheet, as deal::weigh does.
-#[unsafe(no_mangle)]
-pub extern "C" fn tranche_weights_weigh_v10(
+pub fn tranche_weights_weigh_v10(
     sheet: &[u64],
     results: &mut [u64],
     place: &mut u64,
@@ -60,8 +61,7 @@ pub extern "C" fn tranche_weights_weigh_v10(
 }
 
 // Weighs every tranche of the deal sheet that a file's bytes hold, as deal_file::weigh_file does.
-#[unsafe(no_mangle)]
-pub extern "C" fn tranche_weights_weigh_file_v10(
+pub fn tranche_weights_weigh_file_v10(
     file: &[u8],
     results: &mut [u64],
     place: &mut u64,
@@ -79,8 +79,7 @@ pub extern "C" fn tranche_weights_weigh_file_v10(
 
 // Writes the report's text on a file, as report::report does. The answer is the text's length; it was written where that is at most the room lent, and
 // else nothing was.
-#[unsafe(no_mangle)]
-pub extern "C" fn tranche_weights_report_v10(file: &[u8], text: &mut [u8]) -> u64
+pub fn tranche_weights_report_v10(file: &[u8], text: &mut [u8]) -> u64
     ensures value { result ≡ length (file_text file.now) }
     ensures text_after { text.new ≡ text_after (file_text file.now) text.old }
     ensures upper_bound { result ≤ text_room }
@@ -110,8 +109,7 @@ fn put_block(block: Block, place: &mut u64, sums: &mut [u64; SUM_WORDS]) -> u64
 }
 
 // Reads the sums of a block of a deal sheet's pool, as pool::sum_block does: seven words, in the order of pool::sum_words, which read 0 where the sheet is refused.
-#[unsafe(no_mangle)]
-pub extern "C" fn tranche_weights_block_sums_v10(
+pub fn tranche_weights_block_sums_v10(
     sheet: &[u64],
     block: u64,
     place: &mut u64,
@@ -125,7 +123,7 @@ pub extern "C" fn tranche_weights_block_sums_v10(
 
 // A conversion as a program in C gets it: the refusal's number, 0 where there is none; place and the count of words written go through the lent numbers.
 fn put_conversion(converted: Converted, place: &mut u64, count: &mut u64) -> u64
-    ensures { conversion_reply result place.new count.new ≡ replyForConversion (numbersOfConversion converted) }
+    ensures { conversion_reply result place.new count.new ≡ reply_for_conversion (conversion_numbers_of converted) }
 {
     match converted {
         Converted::Written(n) => {
@@ -142,8 +140,7 @@ fn put_conversion(converted: Converted, place: &mut u64, count: &mut u64) -> u64
 }
 
 // Rewrites a deal sheet in the other unit of risk weights into lent output words, as conversion::convert does.
-#[unsafe(no_mangle)]
-pub extern "C" fn tranche_weights_convert_v10(
+pub fn tranche_weights_convert_v10(
     sheet: &[u64],
     output: &mut [u64],
     place: &mut u64,

@@ -2,7 +2,7 @@
 // require is just that the sheet and the sums are an opened pool.
 ghost use Rattle.std.specs.Prelude.{◌≡◌, length};
 ghost use Rattle.pool.specs.BlockSums.{sums_of};
-ghost use Rattle.pool.specs.SummedPool.{OpenedPool, numbers_of as numbersOfOpening, opened_numbers};
+ghost use Rattle.pool.specs.SummedPool.{OpenedPool, numbers_of as opening_numbers_of, opened_numbers};
 ghost use Rattle.deal.specs.DemandThree.{KeepsDemandThree, KeepsSeventhWord};
 ghost use Rattle.deal.specs.Lines.{terms};
 ghost use Rattle.deal.specs.Results.{reply_to, results_after};
@@ -16,8 +16,8 @@ use pool::{Opening, SUM_WORDS};
 
 // What a sheet is opened to as a program in C gets it: the refusal's number, 0 where there is none, and its place; the sums are written where there is none.
 fn put_opening(opening: Opening, place: &mut u64, sums: &mut [u64; SUM_WORDS]) -> u64
-    ensures place_after { refusal_reply result place.new ≡ reply_for (numbersOfOpening opening) }
-    ensures sums_after { sums.new ≡ sums_after (numbersOfOpening opening) sums.old }
+    ensures place_after { refusal_reply result place.new ≡ reply_for (opening_numbers_of opening) }
+    ensures sums_after { sums.new ≡ sums_after (opening_numbers_of opening) sums.old }
 {
     match opening {
         Opening::Opened(q) => {
@@ -33,8 +33,7 @@ fn put_opening(opening: Opening, place: &mut u64, sums: &mut [u64; SUM_WORDS]) -
 }
 
 // Opens a deal sheet's pool, as pool::open_pool does: its seven sums, left as they were where the sheet is refused.
-#[unsafe(no_mangle)]
-pub extern "C" fn tranche_weights_open_pool_v10(
+pub fn tranche_weights_open_pool_v10(
     sheet: &[u64],
     place: &mut u64,
     sums: &mut [u64; SUM_WORDS],
@@ -47,8 +46,7 @@ pub extern "C" fn tranche_weights_open_pool_v10(
 }
 
 // Tells whether a sheet and seven sums are an opened pool, as amendment::is_opened does: 1 where they are, else 0.
-#[unsafe(no_mangle)]
-pub extern "C" fn tranche_weights_is_opened_v10(sheet: &[u64], sums: &[u64; SUM_WORDS]) -> u64
+pub fn tranche_weights_is_opened_v10(sheet: &[u64], sums: &[u64; SUM_WORDS]) -> u64
     ensures { ToldByWord result (OpenedPool sheet.now (sums_of sums.now)) }
 {
     if amendment::is_opened(sheet, pool::sums_of(sums)) {
@@ -75,8 +73,7 @@ fn put_verdict(verdict: Verdict, place: &mut u64) -> u64
 }
 
 // Amends an opened pool, as amendment::amend does: one row of the sheet is replaced, and the sums are corrected.
-#[unsafe(no_mangle)]
-pub extern "C" fn tranche_weights_amend_v10(
+pub fn tranche_weights_amend_v10(
     sheet: &mut [u64],
     sums: &mut [u64; SUM_WORDS],
     amendment: &[u64],
@@ -93,8 +90,7 @@ pub extern "C" fn tranche_weights_amend_v10(
 }
 
 // The pool charge of an opened pool, as deal::opened_charge gives it.
-#[unsafe(no_mangle)]
-pub extern "C" fn tranche_weights_opened_charge_v10(sheet: &[u64], sums: &[u64; SUM_WORDS]) -> u64
+pub fn tranche_weights_opened_charge_v10(sheet: &[u64], sums: &[u64; SUM_WORDS]) -> u64
     requires { OpenedPool sheet.now (sums_of sums.now) }
     ensures { result ≡ (terms sheet.now).charge }
 {
@@ -102,8 +98,7 @@ pub extern "C" fn tranche_weights_opened_charge_v10(sheet: &[u64], sums: &[u64; 
 }
 
 // Weighs every tranche of an opened pool, as deal::weigh_opened does: what tranche_weights_weigh_v10 gives for its sheet.
-#[unsafe(no_mangle)]
-pub extern "C" fn tranche_weights_weigh_opened_v10(
+pub fn tranche_weights_weigh_opened_v10(
     sheet: &[u64],
     sums: &[u64; SUM_WORDS],
     results: &mut [u64],

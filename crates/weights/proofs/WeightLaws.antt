@@ -17,7 +17,7 @@ use Rattle.formula.specs.Formula.{WithinLimits}
 use Rattle.formula.specs.FixedPoint.{formula_weight, within_limits, raw_weight}
 use Rattle.formula.proofs.RawWeightLaw.{formula_at_most, formula_within, under_formula, raw_weight_is}
 use Rattle.formula.proofs.Limits.{limits_of_test}
-use Rattle.irba.specs.Parameter.{parameter as irbaParameter}
+use Rattle.irba.specs.Parameter.{parameter as irba_parameter}
 use Rattle.irba.specs.declared.IrbFigures.{IrbFigures}
 use Rattle.irba.proofs.ParameterLimits.{parameter_least, parameter_most}
 use Rattle.ratings.specs.RatingTable.{maturity_fifths, ordinary_figures, figures_of, pick, ends_by_ratings}
@@ -100,7 +100,7 @@ irba_approach t d held ordinary by = rw (held, ordinary, by)
 
 pub irba_parameter_is :
     (t : Tranche) (d : Terms) → d.resecuritisation ≡ false → d.irba ≡ true →
-    parameter t d ≡ irbaParameter t.senior d.stc d.charge (maturity_fifths t.months) d.irb
+    parameter t d ≡ irba_parameter t.senior d.stc d.charge (maturity_fifths t.months) d.irb
 irba_parameter_is t d ordinary by = rw (ordinary, by)
 
 -- S-5: "ratings ... play no part": two tranches of the same points and months, both senior or neither, have the same approach and weight

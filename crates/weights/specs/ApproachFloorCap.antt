@@ -9,7 +9,7 @@ use Rattle.formula.specs.FixedPoint.{raw_weight}
 use Rattle.formula.specs.Formula.{RawWeightNumbers, IsRawWeight}
 use Rattle.rating_codes.specs.RatingCodes.{any_present}
 use Rattle.ratings.specs.RatingTable.{maturity_fifths, figures_of, ends_by_ratings}
-use Rattle.irba.specs.Parameter.{parameter as irbaParameter}
+use Rattle.irba.specs.Parameter.{parameter as irba_parameter}
 use Rattle.weights.specs.declared.Terms.{Terms}
 use Rattle.weights.specs.declared.Tranche.{Tranche}
 
@@ -48,7 +48,7 @@ by_formula t d = formula_approach (approach t d)
 abbrev pub parameter : Tranche → Terms → ℕ
 parameter t d =
     cond d.resecuritisation 1500000
-    (cond d.irba (irbaParameter t.senior d.stc d.charge (maturity_fifths t.months) d.irb)
+    (cond d.irba (irba_parameter t.senior d.stc d.charge (maturity_fifths t.months) d.irb)
     (cond d.stc 500000 1000000))
 
 abbrev pub floor : Tranche → Terms → ℕ

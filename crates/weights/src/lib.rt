@@ -1,4 +1,6 @@
 // Approach and weight of one tranche, from what it is weighed by and what the deal's tranches share.
+#![tactic(auto)]
+
 ghost use Rattle.std.specs.Prelude.{true, ◌≡◌};
 ghost use Rattle.numbers.specs.BothEnds.{at_both};
 ghost use Rattle.weights.specs.ApproachFloorCap.{approach, formula_approach, by_formula, parameter, floor, cap_applies, after_floor_and_cap, formula_raw_weight, table_weight, weight, WeightByFormula, thin};
@@ -10,7 +12,7 @@ use numbers::{Ends, excess, larger, smaller};
 // What the tranches of a deal share: whether due diligence is held, whether it is a re-securitisation, whether it is simple, transparent and
 // comparable (STC), whether the pool's composition is known, whether SEC-IRBA applies, whether the status of the pool's rows is known but for up to 5% of exposure, its charge
 // in millionths, its average risk weight, and the figures of its IRB section.
-#[derive(Drop)]
+#[derive(Clone, Copy)]
 pub struct Terms {
     pub diligence: bool,
     pub resecuritisation: bool,
@@ -24,7 +26,7 @@ pub struct Terms {
 }
 
 // What a tranche is weighed by: its points, whether it is of the senior class, its months to maturity, the amount held and the three ratings that count for it, its own or inferred ones.
-#[derive(Drop)]
+#[derive(Clone, Copy)]
 pub struct Tranche {
     pub attachment: u64,
     pub detachment: u64,
@@ -37,7 +39,7 @@ pub struct Tranche {
 }
 
 // The kinds of deal, with supervisory parameter in millionths and floor in hundredths of a percent; class 1 of an STC deal has a floor of its own.
-#[derive(Drop)]
+#[derive(Clone, Copy)]
 struct Ordinary {}
 
 impl Ordinary {
@@ -46,7 +48,7 @@ impl Ordinary {
     const FLOOR: u64 = 1500;
 }
 
-#[derive(Drop)]
+#[derive(Clone, Copy)]
 struct Stc {}
 
 impl Stc {
@@ -57,7 +59,7 @@ impl Stc {
     const FLOOR: u64 = 1500;
 }
 
-#[derive(Drop)]
+#[derive(Clone, Copy)]
 struct Resecuritisation {}
 
 impl Resecuritisation {

@@ -1,0 +1,42 @@
+-- `rewritten_fact`: the unit is the other one, and any other fact is the sheet's, 0 where its list is shorter. No axioms.
+-- a fact that the list has is there to be read
+use mathlib.Core.List.{List}
+use mathlib.Core.Path.{◌≡◌, sym, ◌∙◌}
+use Prim.Native.Nat.{ℕ, ◌≤◌, ◌<◌}
+use native.Mathlib.Omega.{arith}
+use borrow.Author.Tests.{le-leb, lt-leb}
+use lib.ListN.{length}
+use Rattle.judgement.specs.DealSheet.{word, unit_at, pool_at, needed}
+use Rattle.judgement.specs.Refusals.{judged}
+use Rattle.judgement.specs.declared.Verdict.TheVariants.{Sound}
+use Rattle.judgement.proofs.LayoutLaws.{hundredths_is}
+use Rattle.judgement.proofs.SheetLimits.{fact_there}
+use Rattle.conversion.proofs.RewrittenLaws.{unit_rewritten, fact_rewritten}
+use Rattle.conversion.proofs.rewritten_fact.Goals as goal
+
+listed_there : (s : List ℕ) (p : ℕ) → judged s (needed s) ≡ Sound → p ≤ word s 0 → p < length s
+unfolding pool_at
+listed_there s p good h = fact_there s p good (omega arith)
+
+pub returns-then-p-eq-UNIT_AT : goal.returns-then-p-eq-UNIT_AT
+returns-then-p-eq-UNIT_AT c =
+    let here : c.args.p ≡ unit_at = omega arith in
+    rw (here, c.other_unit.ensures, hundredths_is _ _ c.requires.0) (sym (unit_rewritten _ c.requires.0.good))
+
+pub bounds-s-0 : goal.bounds-s-0
+bounds-s-0 c =
+    listed_there _ 0 c.requires.0.good (omega arith)
+
+pub returns-then-s-p : goal.returns-then-s-p
+returns-then-s-p c =
+    let s = c.args.s.now in
+    sym (fact_rewritten s c.requires.0.good c.args.p (omega arith) (omega arith) ∙ simp (lt-leb c.args.p (word s 0) (omega arith)))
+
+pub bounds-s-p : goal.bounds-s-p
+bounds-s-p c =
+    listed_there _ c.args.p c.requires.0.good (omega arith)
+
+pub returns : goal.returns
+returns c =
+    let s = c.args.s.now in
+    sym (fact_rewritten s c.requires.0.good c.args.p (omega arith) (omega arith) ∙ simp (le-leb c.args.p (word s 0) (omega arith)))

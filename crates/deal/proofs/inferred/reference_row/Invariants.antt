@@ -1,0 +1,19 @@
+-- `reference_row`: none of the rows before the turn's is a reference, and the turn's is rated; the first reference is the row of 02's words. The measure is what is left of the tranches. No axioms.
+-- the sheet's tranches are few
+-- the table's figure for a row
+-- the turn's row is one of the sheet's
+-- the months of the tranche and of the turn's row, by the layout's reporting date
+-- the next rated row is a later one
+-- the turn's row did not serve: its class is senior to the tranche's, or its maturity shorter
+use mathlib.Core.Bool.{true, false}
+use mathlib.Core.Path.{◌≡◌}
+use Prim.Native.Nat.{ℕ, ◌-◌, ◌≤◌, ◌<◌}
+use Rattle.judgement.specs.DealSheet.{tranche_count}
+use Rattle.deal.specs.InferredRatings.{rated_row, is_reference}
+use Rattle.deal.proofs.inferred.reference_row.Given as goal
+
+abbrev pub invariant-loop-j : goal.invariant-loop-j
+invariant-loop-j l = (l.j ≤ tranche_count l.s) × ((l.j < tranche_count l.s → rated_row l.s l.j ≡ true) × ((k : ℕ) → k < l.j → is_reference l.s l.i k ≡ false))
+
+abbrev pub decreases-loop-j : goal.decreases-loop-j
+decreases-loop-j l = l.tranches - l.j

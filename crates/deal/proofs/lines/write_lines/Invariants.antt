@@ -1,0 +1,16 @@
+-- `write_lines`: after i turns the results are the first i lines and the rest of what was there. No axioms.
+-- the turn's tranche is one of the sheet's
+use mathlib.Core.List.{◌++◌}
+use mathlib.Core.Path.{◌≡◌}
+use Prim.Native.Nat.{◌*◌, ◌-◌, ◌≤◌}
+use lib.ListN.{drop}
+use Rattle.limits.specs.SheetSize.{line_size}
+use Rattle.judgement.specs.DealSheet.{tranche_count}
+use Rattle.deal.specs.Results.{lines}
+use Rattle.deal.proofs.lines.write_lines.Given as goal
+
+abbrev pub invariant-loop-i : goal.invariant-loop-i
+invariant-loop-i l = (l.i ≤ tranche_count l.s) × (l.results ≡ lines l.s l.i ++ drop (line_size * l.i) l.initial.results)
+
+abbrev pub decreases-loop-i : goal.decreases-loop-i
+decreases-loop-i l = l.tranches - l.i

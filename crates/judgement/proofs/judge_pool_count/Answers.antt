@@ -1,0 +1,30 @@
+-- `judge_pool_count`: a fault of the facts stays, and after sound facts the count's verdict decides. No axioms.
+use mathlib.Core.Path.{◌∙◌, sym}
+use native.Mathlib.Omega.{arith}
+use Rattle.judgement.specs.DealSheet.{pool_at}
+use Rattle.judgement.proofs.Judgement.{fault_of_pool_count}
+use Rattle.judgement.proofs.JudgeSteps.{faulty_unless_sound, sound_before, word_judged, fault_stays}
+use Rattle.judgement.proofs.judge_pool_count.Goals as goal
+
+pub returns-in_default : goal.returns-in_default
+returns-in_default c = fault_stays _ _ _ (faulty_unless_sound _ c.in_default.not-Sound).1 c.judge_facts-facts.ensures (omega arith)
+
+pub pool_at-requires : goal.pool_at-requires
+unfolding pool_at
+pool_at-requires c =
+    sound_before _ _ _ (sym c.judge_facts-facts.ensures ∙ c.in-Sound.is) (omega arith)
+
+pub row_count-requires : goal.row_count-requires
+unfolding pool_at
+row_count-requires c =
+    sound_before _ _ _ (sym c.judge_facts-facts.ensures ∙ c.in-Sound.is) (omega arith)
+
+pub returns : goal.returns
+returns c =
+    word_judged _ _ (sym c.judge_facts-facts.ensures ∙ c.in-Sound.is) (fault_of_pool_count _)
+    (c.judge_word.ensures ∙
+    simp (
+      c.count_fault.ensures,
+      c.row_count.ensures,
+      c.pool_at.ensures,
+    ))
