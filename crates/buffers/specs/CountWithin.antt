@@ -5,7 +5,7 @@ use Rattle.std.specs.Prelude.{cond, List, ◌≡◌, ℕ, ◌≤◌, leb, length
 abbrev pub count_within : ℕ → List ℕ → ℕ
 count_within n buffer = cond (leb n (length buffer)) n 0
 
--- the buffer has n bytes: `Counts` of the toolchain's `io`, said here so that this crate reaches no function in C. The second part follows from the first: with
+-- the buffer has n bytes: `IsPrefixLen` of the kit's `io`, said here so that this crate reaches no function in C. The second part follows from the first: with
 -- both, a caller's `&buf[..n]` needs no proof file
 abbrev pub HasBytes : ℕ → List ℕ → Type 0
 HasBytes n buffer = (n ≤ length buffer) × (n ≡ length (take n buffer))

@@ -1,4 +1,6 @@
 // A count of bytes that is held to the buffer that it counts in.
+#![tactic(auto)]
+
 ghost use Rattle.std.specs.Prelude.{◌≡◌};
 ghost use Rattle.buffers.specs.CountWithin.{count_within, HasBytes};
 

@@ -7,51 +7,51 @@ use crate::blocks::print_sums;
 use crate::conversions::{print_words, words_of, words_within};
 use crate::edges::print_refusal;
 use crate::figures::print_labelled;
+use crate::output::{print_number, print_text};
 use charge::Sums;
 use deal::Answer;
 use judgement::Verdict;
-use libc::STDOUT_FILENO;
 use limits::{LINE_SIZE, RESULT_ROOM};
 use pool::Opening;
 
 // Writes a line for each of so many tranches: its number, from 1, and its words.
-fn print_lines(count: u64, results: &[u64]) {
+fn print_lines<O: Print>(out: &O, count: u64, results: &[u64]) {
     for i in 0..results.len() / LINE_SIZE {
         if (i as u64) < count {
             let at = LINE_SIZE * i;
             let end = at + LINE_SIZE;
-            io::print_decimal(STDOUT_FILENO, i as u64 + 1);
-            print_words(&results[at..end]);
+            print_number(out, i as u64 + 1);
+            print_words(out, &results[at..end]);
         }
     }
 }
 
 // Writes what is read of an opened pool: its seven sums, its charge, and the lines of its tranches or 13.
-fn print_pool(sheet: &[u64], sums: Sums)
+fn print_pool<O: Print>(out: &O, sheet: &[u64], sums: Sums)
     requires { OpenedPool sheet.now sums }
 {
-    io::write_all(STDOUT_FILENO, b"sums");
-    print_sums(sums);
+    print_text(out, "sums");
+    print_sums(out, sums);
     let words = pool::sum_words(sums);
-    print_labelled(b"charge ", deal::opened_charge(sheet, &words));
-    io::write_all(STDOUT_FILENO, b"\n");
+    print_labelled(out, "charge ", deal::opened_charge(sheet, &words));
+    print_text(out, "\n");
     let mut results = [0u64; RESULT_ROOM];
     let answer = deal::weigh_opened(sheet, &words, &mut results);
     match answer {
-        Answer::Weighed { count, charge: _ } => print_lines(count, &results),
-        Answer::Refused(r) => print_refusal(r),
+        Answer::Weighed { count, charge: _ } => print_lines(out, count, &results),
+        Answer::Refused(r) => print_refusal(out, r),
     }
 }
 
 // Writes a line: the number of an amendment, from 1, and what became of it.
-fn print_verdict(number: u64, verdict: Verdict) {
-    print_labelled(b"amendment ", number);
-    io::write_all(STDOUT_FILENO, b": ");
+fn print_verdict<O: Print>(out: &O, number: u64, verdict: Verdict) {
+    print_labelled(out, "amendment ", number);
+    print_text(out, ": ");
     match verdict {
         Verdict::Sound => {
-            io::write_all(STDOUT_FILENO, b"row replaced\n");
+            print_text(out, "row replaced\n");
         }
-        Verdict::Faulty(r) => print_refusal(r),
+        Verdict::Faulty(r) => print_refusal(out, r),
     }
 }
 
@@ -69,7 +69,7 @@ fn end_of_part(words: &[u64], at: usize) -> usize
 }
 
 // Amends an opened pool by each amendment of a list, and writes what became of it and what the pool then is, which a refused one leaves as it was.
-fn print_run(sheet: &mut [u64], opened: Sums, list: &[u64])
+fn print_run<O: Print>(out: &O, sheet: &mut [u64], opened: Sums, list: &[u64])
     requires { OpenedPool sheet.old opened }
 {
     let mut sums = opened;
@@ -82,22 +82,22 @@ fn print_run(sheet: &mut [u64], opened: Sums, list: &[u64])
         sums = amended.sums;
         number += 1;
         let verdict = amended.verdict;
-        print_verdict(number, verdict);
-        print_pool(sheet, sums);
+        print_verdict(out, number, verdict);
+        print_pool(out, sheet, sums);
         at = end;
     }
 }
 
 // Opens a sheet, and writes what its pool is and what becomes of it by each amendment of a list; or the refusal.
-fn print_opening(sheet: &mut [u64], list: &[u64]) {
+fn print_opening<O: Print>(out: &O, sheet: &mut [u64], list: &[u64]) {
     let opening = pool::open_pool(sheet);
     match opening {
         Opening::Opened(sums) => {
-            io::write_all(STDOUT_FILENO, b"opened\n");
-            print_pool(sheet, sums);
-            print_run(sheet, sums, list);
+            print_text(out, "opened\n");
+            print_pool(out, sheet, sums);
+            print_run(out, sheet, sums, list);
         }
-        Opening::Refused(r) => print_refusal(r),
+        Opening::Refused(r) => print_refusal(out, r),
     }
 }
 
@@ -112,7 +112,7 @@ pub(crate) fn is_amended(file: &[u8]) -> bool {
 }
 
 // Writes what becomes of the opened pool of such a file.
-pub(crate) fn print_amended(file: &[u8]) {
+pub(crate) fn print_amended<O: Print>(out: &O, file: &[u8]) {
     let words = words_of(file);
     let length = words_within(file.len() as u64 / 8, &words);
     if length < 2 {
@@ -120,5 +120,5 @@ pub(crate) fn print_amended(file: &[u8]) {
     }
     let end = end_of_part(&words[..length], 1);
     let mut sheet = words;
-    print_opening(&mut sheet[2..end], &words[end..length]);
+    print_opening(out, &mut sheet[2..end], &words[end..length]);
 }

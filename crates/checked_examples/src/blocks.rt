@@ -7,8 +7,8 @@ use crate::conversions::{print_converted, words_within};
 use crate::edges::{FIRST_ROW, POOL_AT, THIN, print_refusal};
 use crate::examples::print_texts;
 use crate::figures::print_labelled;
+use crate::output::print_text;
 use charge::{Sums, Totals};
-use libc::STDOUT_FILENO;
 use limits::{BYTE_LIMIT, FACTS_MOST, ROW_SIZE, ROWS_MOST, TRANCHE_SIZE, WORD_LIMIT};
 use pool::Block;
 
@@ -85,111 +85,111 @@ fn different_length(rows: usize, more: usize, sheet: &[u64]) -> usize
 }
 
 // Writes both texts of a sheet of so many different rows, and how it is converted.
-fn print_pool(rows: usize, resecuritisation: u64, unit: u64)
+fn print_pool<O: Print>(out: &O, rows: usize, resecuritisation: u64, unit: u64)
     requires { rows ≤ rows_most }
 {
     let sheet = different_sheet(rows, resecuritisation, unit);
     let length = different_length(rows, 0, &sheet);
     let mut file = [0u8; BYTE_LIMIT];
-    print_labelled(b"different rows ", rows as u64);
-    print_labelled(b", re-securitisation ", resecuritisation);
-    print_labelled(b", unit ", unit);
-    io::write_all(STDOUT_FILENO, b"\n");
+    print_labelled(out, "different rows ", rows as u64);
+    print_labelled(out, ", re-securitisation ", resecuritisation);
+    print_labelled(out, ", unit ", unit);
+    print_text(out, "\n");
     if files::store(&sheet[..length], &mut file) {
         let size = buffers::within(8 * length as u64, &file);
-        print_texts(&file[..size]);
+        print_texts(out, &file[..size]);
     }
-    print_converted(&sheet[..length], true);
+    print_converted(out, &sheet[..length], true);
 }
 
 // Writes both texts of the smallest pool, of pools that end before, at and just past the end of a block, of the largest one, of one in a re-securitisation and
 // of some in hundredths of a percent; and how each is converted.
-pub(crate) fn print_pools() {
-    print_pool(1, 0, 0);
-    print_pool(49, 0, 0);
-    print_pool(50, 0, 0);
-    print_pool(51, 0, 0);
-    print_pool(99, 0, 0);
-    print_pool(100, 0, 0);
-    print_pool(101, 0, 0);
-    print_pool(1000, 0, 0);
-    print_pool(101, 1, 0);
-    print_pool(1, 0, 1);
-    print_pool(101, 0, 1);
-    print_pool(1000, 0, 1);
+pub(crate) fn print_pools<O: Print>(out: &O) {
+    print_pool(out, 1, 0, 0);
+    print_pool(out, 49, 0, 0);
+    print_pool(out, 50, 0, 0);
+    print_pool(out, 51, 0, 0);
+    print_pool(out, 99, 0, 0);
+    print_pool(out, 100, 0, 0);
+    print_pool(out, 101, 0, 0);
+    print_pool(out, 1000, 0, 0);
+    print_pool(out, 101, 1, 0);
+    print_pool(out, 1, 0, 1);
+    print_pool(out, 101, 0, 1);
+    print_pool(out, 1000, 0, 1);
 }
 
 // Writes three sums, with a space before each.
-fn print_three(t: Totals) {
-    print_labelled(b" ", t.exposure);
-    print_labelled(b" ", t.nominal);
-    print_labelled(b" ", t.weighted);
+fn print_three<O: Print>(out: &O, t: Totals) {
+    print_labelled(out, " ", t.exposure);
+    print_labelled(out, " ", t.nominal);
+    print_labelled(out, " ", t.weighted);
 }
 
 // Writes a line: the seven sums of a block.
-pub(crate) fn print_sums(q: Sums) {
-    print_three(q.all);
-    print_three(q.known);
-    print_labelled(b" ", q.late);
-    io::write_all(STDOUT_FILENO, b"\n");
+pub(crate) fn print_sums<O: Print>(out: &O, q: Sums) {
+    print_three(out, q.all);
+    print_three(out, q.known);
+    print_labelled(out, " ", q.late);
+    print_text(out, "\n");
 }
 
 // Writes the name of a sheet with its number of rows, the number of a block, and what a caller reads of it.
-fn print_block(name: &[u8], rows: u64, sheet: &[u64], block: u64) {
-    print_labelled(name, rows);
-    print_labelled(b", block ", block);
-    io::write_all(STDOUT_FILENO, b":");
+fn print_block<O: Print>(out: &O, name: &str, rows: u64, sheet: &[u64], block: u64) {
+    print_labelled(out, name, rows);
+    print_labelled(out, ", block ", block);
+    print_text(out, ":");
     let read = pool::sum_block(sheet, block);
     match read {
-        Block::Summed(q) => print_sums(q),
+        Block::Summed(q) => print_sums(out, q),
         Block::Refused(r) => {
-            io::write_all(STDOUT_FILENO, b" ");
-            print_refusal(r);
+            print_text(out, " ");
+            print_refusal(out, r);
         }
     }
 }
 
 // Writes some blocks of a sheet.
-fn print_blocks(name: &[u8], rows: u64, sheet: &[u64]) {
-    print_block(name, rows, sheet, 0);
-    print_block(name, rows, sheet, 1);
-    print_block(name, rows, sheet, 2);
-    print_block(name, rows, sheet, 19); // the last of the largest pool
-    print_block(name, rows, sheet, 20);
-    print_block(name, rows, sheet, 4294967296); // 2^32, cut to 32 bits block 0
-    print_block(name, rows, sheet, 368934881474191033); // times 50 it is 2^64 + 34, cut to 64 bits row 34
-    print_block(name, rows, sheet, 9223372036854775808); // 2^63, times 50 and cut to 64 bits row 0
-    print_block(name, rows, sheet, 18446744073709551615); // 2^64 - 1, whose end, cut to 64 bits, is row 0
+fn print_blocks<O: Print>(out: &O, name: &str, rows: u64, sheet: &[u64]) {
+    print_block(out, name, rows, sheet, 0);
+    print_block(out, name, rows, sheet, 1);
+    print_block(out, name, rows, sheet, 2);
+    print_block(out, name, rows, sheet, 19); // the last of the largest pool
+    print_block(out, name, rows, sheet, 20);
+    print_block(out, name, rows, sheet, 4294967296); // 2^32, cut to 32 bits block 0
+    print_block(out, name, rows, sheet, 368934881474191033); // times 50 it is 2^64 + 34, cut to 64 bits row 34
+    print_block(out, name, rows, sheet, 9223372036854775808); // 2^63, times 50 and cut to 64 bits row 0
+    print_block(out, name, rows, sheet, 18446744073709551615); // 2^64 - 1, whose end, cut to 64 bits, is row 0
 }
 
 // Writes some blocks of a sheet of so many different rows.
-fn print_different(name: &[u8], rows: usize, unit: u64)
+fn print_different<O: Print>(out: &O, name: &str, rows: usize, unit: u64)
     requires { rows ≤ rows_most }
 {
     let sheet = different_sheet(rows, 0, unit);
     let length = different_length(rows, 0, &sheet);
-    print_blocks(name, rows as u64, &sheet[..length]);
+    print_blocks(out, name, rows as u64, &sheet[..length]);
 }
 
 // Writes some blocks of two sheets of 51 different rows that are refused: with 3, and with 6 for the risk weight of the last row, which block 1 has alone.
-fn print_refused() {
+fn print_refused<O: Print>(out: &O) {
     let longer = different_sheet(51, 0, 0);
     let length = different_length(51, 1, &longer);
-    print_blocks(b"a word too many, rows ", 51, &longer[..length]);
+    print_blocks(out, "a word too many, rows ", 51, &longer[..length]);
     let mut bad = longer;
     bad[FIRST_ROW + ROW_SIZE * 50 + 2] = 1251;
     let size = different_length(51, 0, &bad);
-    print_blocks(b"the last risk weight 1251, rows ", 51, &bad[..size]);
+    print_blocks(out, "the last risk weight 1251, rows ", 51, &bad[..size]);
 }
 
 // Writes single blocks of accepted sheets, of refused ones, and of one that is refused where it is weighed, with 13, which no block gets.
-pub(crate) fn print_single_blocks() {
-    print_different(b"different rows ", 50, 0);
-    print_different(b"different rows ", 51, 0);
-    print_different(b"different rows ", 1000, 0);
-    print_different(b"hundredths, different rows ", 51, 1);
-    print_different(b"hundredths, different rows ", 1000, 1);
-    print_refused();
+pub(crate) fn print_single_blocks<O: Print>(out: &O) {
+    print_different(out, "different rows ", 50, 0);
+    print_different(out, "different rows ", 51, 0);
+    print_different(out, "different rows ", 1000, 0);
+    print_different(out, "hundredths, different rows ", 51, 1);
+    print_different(out, "hundredths, different rows ", 1000, 1);
+    print_refused(out);
     let thin = THIN;
-    print_blocks(b"thin tranche, rows ", 2, &thin);
+    print_blocks(out, "thin tranche, rows ", 2, &thin);
 }

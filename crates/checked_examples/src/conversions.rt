@@ -3,8 +3,8 @@ ghost use Rattle.buffers.specs.CountWithin.{HasBytes};
 
 use crate::edges::{THIN, print_refusal};
 use crate::figures::print_labelled;
+use crate::output::print_text;
 use conversion::Converted;
-use libc::STDOUT_FILENO;
 use limits::WORD_LIMIT;
 
 // The smallest deal, of four facts and in whole percent: 18 words, and 21 in the other unit. The last word is one too many.
@@ -21,11 +21,11 @@ const HUNDREDTHS: [u64; 21] = [
 const UNTOUCHED: u64 = 999;
 
 // Writes a line: words, with a space before each.
-pub(crate) fn print_words(words: &[u64]) {
+pub(crate) fn print_words<O: Print>(out: &O, words: &[u64]) {
     for i in 0..words.len() {
-        print_labelled(b" ", words[i]);
+        print_labelled(out, " ", words[i]);
     }
-    io::write_all(STDOUT_FILENO, b"\n");
+    print_text(out, "\n");
 }
 
 // A checksum of words, in which the place of each counts.
@@ -49,25 +49,25 @@ pub(crate) fn words_within(n: u64, words: &[u64]) -> usize
 }
 
 // Writes a line: how many words were written to the start of the output, and they, or their checksum where they are many.
-fn print_written(n: u64, output: &[u64], many: bool) {
-    print_labelled(b"converted ", n);
+fn print_written<O: Print>(out: &O, n: u64, output: &[u64], many: bool) {
+    print_labelled(out, "converted ", n);
     let length = words_within(n, output);
     if many {
-        print_labelled(b", checksum ", checksum(&output[..length]));
-        io::write_all(STDOUT_FILENO, b"\n");
+        print_labelled(out, ", checksum ", checksum(&output[..length]));
+        print_text(out, "\n");
     } else {
-        io::write_all(STDOUT_FILENO, b":");
-        print_words(&output[..length]);
+        print_text(out, ":");
+        print_words(out, &output[..length]);
     }
 }
 
 // Writes a line: how a sheet is converted where there is room for every sheet.
-pub(crate) fn print_converted(sheet: &[u64], many: bool) {
+pub(crate) fn print_converted<O: Print>(out: &O, sheet: &[u64], many: bool) {
     let mut output = [0u64; WORD_LIMIT];
     let converted = conversion::convert(sheet, &mut output);
     match converted {
-        Converted::Written(n) => print_written(n, &output, many),
-        Converted::Refused(r) => print_refusal(r),
+        Converted::Written(n) => print_written(out, n, &output, many),
+        Converted::Refused(r) => print_refusal(out, r),
     }
 }
 
@@ -79,67 +79,67 @@ pub(crate) fn words_of(file: &[u8]) -> [u64; WORD_LIMIT] {
 }
 
 // Writes a line: how the sheet of a file is converted.
-pub(crate) fn print_file_converted(file: &[u8]) {
+pub(crate) fn print_file_converted<O: Print>(out: &O, file: &[u8]) {
     let words = words_of(file);
     let length = words_within(file.len() as u64 / 8, &words);
-    print_converted(&words[..length], false);
+    print_converted(out, &words[..length], false);
 }
 
 // Writes the name of a sheet, how many words are lent for its conversion, the answer, and the lent words as they are after it.
-fn print_lent(name: &[u8], sheet: &[u64], output: &mut [u64]) {
-    io::write_all(STDOUT_FILENO, name);
-    print_labelled(b", output of ", output.len() as u64);
-    io::write_all(STDOUT_FILENO, b" words: ");
+fn print_lent<O: Print>(out: &O, name: &str, sheet: &[u64], output: &mut [u64]) {
+    print_text(out, name);
+    print_labelled(out, ", output of ", output.len() as u64);
+    print_text(out, " words: ");
     let converted = conversion::convert(sheet, &mut *output);
     match converted {
         Converted::Written(n) => {
-            print_labelled(b"converted ", n);
-            io::write_all(STDOUT_FILENO, b"\n");
+            print_labelled(out, "converted ", n);
+            print_text(out, "\n");
         }
-        Converted::Refused(r) => print_refusal(r),
+        Converted::Refused(r) => print_refusal(out, r),
     }
-    io::write_all(STDOUT_FILENO, b"output:");
-    print_words(output);
+    print_text(out, "output:");
+    print_words(out, output);
 }
 
 // Writes how a sheet that needs 21 words is converted with none, with one too few, with an exact fit and with two to spare.
-fn print_rooms(name: &[u8], sheet: &[u64]) {
+fn print_rooms<O: Print>(out: &O, name: &str, sheet: &[u64]) {
     let mut none = [UNTOUCHED; 23];
-    print_lent(name, sheet, &mut none[..0]);
+    print_lent(out, name, sheet, &mut none[..0]);
     let mut short = [UNTOUCHED; 23];
-    print_lent(name, sheet, &mut short[..20]);
+    print_lent(out, name, sheet, &mut short[..20]);
     let mut exact = [UNTOUCHED; 23];
-    print_lent(name, sheet, &mut exact[..21]);
+    print_lent(out, name, sheet, &mut exact[..21]);
     let mut spare = [UNTOUCHED; 23];
-    print_lent(name, sheet, &mut spare);
+    print_lent(out, name, sheet, &mut spare);
 }
 
 // Writes how a sheet of four facts, which needs more words than it has, is converted; 3 and the refusals of the words come before 14.
-fn print_rooms_from_percent() {
+fn print_rooms_from_percent<O: Print>(out: &O) {
     let percent = PERCENT;
-    print_rooms(b"four facts", &percent[..18]);
-    print_rooms(b"four facts, a word too many", &percent);
+    print_rooms(out, "four facts", &percent[..18]);
+    print_rooms(out, "four facts, a word too many", &percent);
     let mut bad = PERCENT;
     bad[8] = 1251;
-    print_rooms(b"four facts, risk weight 1251", &bad[..18]);
+    print_rooms(out, "four facts, risk weight 1251", &bad[..18]);
 }
 
 // Writes how a sheet in hundredths is converted; 19 comes before 14.
-fn print_rooms_from_hundredths() {
+fn print_rooms_from_hundredths<O: Print>(out: &O) {
     let hundredths = HUNDREDTHS;
-    print_rooms(b"hundredths", &hundredths);
+    print_rooms(out, "hundredths", &hundredths);
     let mut uneven = HUNDREDTHS;
     uneven[11] = 12550;
-    print_rooms(b"hundredths, risk weight 12550", &uneven);
+    print_rooms(out, "hundredths, risk weight 12550", &uneven);
 }
 
 // Writes how sheets are converted with too few words, an exact fit and more; and the deal that 13 refuses where it is weighed, which no conversion gets.
-pub(crate) fn print_outputs() {
-    print_rooms_from_percent();
-    print_rooms_from_hundredths();
+pub(crate) fn print_outputs<O: Print>(out: &O) {
+    print_rooms_from_percent(out);
+    print_rooms_from_hundredths(out);
     let thin = THIN;
     let mut short = [UNTOUCHED; 39];
-    print_lent(b"thin tranche", &thin, &mut short[..38]);
+    print_lent(out, "thin tranche", &thin, &mut short[..38]);
     let mut exact = [UNTOUCHED; 39];
-    print_lent(b"thin tranche", &thin, &mut exact);
+    print_lent(out, "thin tranche", &thin, &mut exact);
 }

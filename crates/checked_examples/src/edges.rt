@@ -2,9 +2,9 @@
 use crate::conversions::print_converted;
 use crate::examples::print_texts;
 use crate::figures::print_labelled;
+use crate::output::{print_number, print_text};
 use deal::Answer;
 use judgement::Refusal;
-use libc::STDOUT_FILENO;
 use limits::{
     BYTE_LIMIT, FACTS_MOST, LINE_SIZE, ROW_SIZE, ROWS_MOST, TRANCHE_SIZE, TRANCHES_MOST, WORD_LIMIT,
 };
@@ -24,35 +24,35 @@ const CHECKED: [u64; 36] = [
 ];
 
 // Writes a line: a refusal.
-pub(crate) fn print_refusal(r: Refusal) {
-    io::write_all(STDOUT_FILENO, b"refused ");
-    io::print_decimal(STDOUT_FILENO, r.number);
-    io::write_all(STDOUT_FILENO, b" at ");
-    io::print_decimal(STDOUT_FILENO, r.place);
-    io::write_all(STDOUT_FILENO, b"\n");
+pub(crate) fn print_refusal<O: Print>(out: &O, r: Refusal) {
+    print_text(out, "refused ");
+    print_number(out, r.number);
+    print_text(out, " at ");
+    print_number(out, r.place);
+    print_text(out, "\n");
 }
 
 // Writes the answer to a deal with the results that are lent for it.
-fn print_answer(sheet: &[u64], results: &mut [u64]) {
+fn print_answer<O: Print>(out: &O, sheet: &[u64], results: &mut [u64]) {
     let answer = deal::weigh(sheet, results);
     match answer {
         Answer::Weighed {
             count: _,
             charge: _,
         } => {
-            io::write_all(STDOUT_FILENO, b"weighed\n");
+            print_text(out, "weighed\n");
         }
-        Answer::Refused(r) => print_refusal(r),
+        Answer::Refused(r) => print_refusal(out, r),
     }
 }
 
 // Writes the name of a deal, how many words are lent to it, and the answer to it.
-fn print_lent(name: &[u8], sheet: &[u64], results: &mut [u64]) {
-    io::write_all(STDOUT_FILENO, name);
-    io::write_all(STDOUT_FILENO, b", results of ");
-    io::print_decimal(STDOUT_FILENO, results.len() as u64);
-    io::write_all(STDOUT_FILENO, b" words: ");
-    print_answer(sheet, results);
+fn print_lent<O: Print>(out: &O, name: &str, sheet: &[u64], results: &mut [u64]) {
+    print_text(out, name);
+    print_text(out, ", results of ");
+    print_number(out, results.len() as u64);
+    print_text(out, " words: ");
+    print_answer(out, sheet, results);
 }
 
 // The words of three lines, and as many with one word fewer in each line.
@@ -61,42 +61,42 @@ const THREE_LINES: usize = 3 * LINE_SIZE;
 const THREE_SHORT_LINES: usize = 3 * (LINE_SIZE - 1);
 
 // Writes the answers to a deal of three tranches with a word too few for each line, with one too few in all, and with enough.
-fn print_rooms(name: &[u8], sheet: &[u64]) {
+fn print_rooms<O: Print>(out: &O, name: &str, sheet: &[u64]) {
     let mut shorter = [0u64; THREE_SHORT_LINES];
-    print_lent(name, sheet, &mut shorter);
+    print_lent(out, name, sheet, &mut shorter);
     let mut short = [0u64; THREE_LINES - 1];
-    print_lent(name, sheet, &mut short);
+    print_lent(out, name, sheet, &mut short);
     let mut enough = [0u64; THREE_LINES];
-    print_lent(name, sheet, &mut enough);
+    print_lent(out, name, sheet, &mut enough);
 }
 
 // With fewer words than its lines need a deal gets 14, which comes before 13; with all of them the thin deal gets 13 and the other is weighed.
-pub(crate) fn print_short_results() {
+pub(crate) fn print_short_results<O: Print>(out: &O) {
     let thin = THIN;
-    print_rooms(b"thin tranche", &thin);
+    print_rooms(out, "thin tranche", &thin);
     let checked = CHECKED;
-    print_rooms(b"checked deal", &checked);
+    print_rooms(out, "checked deal", &checked);
 }
 
 // Writes both texts of a file of that many bytes, all of them 0.
-fn print_length(n: u64) {
+fn print_length<O: Print>(out: &O, n: u64) {
     let file = [0u8; BYTE_LIMIT + 8];
     let length = buffers::within(n, &file);
-    io::write_all(STDOUT_FILENO, b"file of zeros, bytes ");
-    io::print_decimal(STDOUT_FILENO, n);
-    io::write_all(STDOUT_FILENO, b": ");
-    print_texts(&file[..length]);
+    print_text(out, "file of zeros, bytes ");
+    print_number(out, n);
+    print_text(out, ": ");
+    print_texts(out, &file[..length]);
 }
 
 // The empty file lacks its first word. Of the other lengths only that of the longest sheet gets past 15; a fact count of 0 is then the fault.
-pub(crate) fn print_lengths() {
+pub(crate) fn print_lengths<O: Print>(out: &O) {
     let longest = BYTE_LIMIT as u64;
-    print_length(0);
-    print_length(7);
-    print_length(longest - 1);
-    print_length(longest);
-    print_length(longest + 1);
-    print_length(longest + 8);
+    print_length(out, 0);
+    print_length(out, 7);
+    print_length(out, longest - 1);
+    print_length(out, longest);
+    print_length(out, longest + 1);
+    print_length(out, longest + 8);
 }
 
 // The place of the pool's count in sheets with the most facts, and in the largest sheets that of the tranches' count.
@@ -152,7 +152,7 @@ fn with_irb_section(sheet: [u64; WORD_LIMIT], share: u64) -> [u64; WORD_LIMIT] {
 
 // Writes both texts of the largest deal, as many words as a sheet has, of a mixed pool with that risk weight of all rows in that unit, that STC mark and that
 // share; and how it is converted.
-pub(crate) fn print_largest(weight: u64, unit: u64, stc: u64, share: u64) {
+pub(crate) fn print_largest<O: Print>(out: &O, weight: u64, unit: u64, stc: u64, share: u64) {
     let mut facts = [0u64; WORD_LIMIT];
     facts[0] = FACTS_MOST as u64;
     facts[1] = 2;
@@ -162,13 +162,13 @@ pub(crate) fn print_largest(weight: u64, unit: u64, stc: u64, share: u64) {
     facts[7] = unit;
     let sheet = with_irb_section(with_tranches(with_rows(facts, weight)), share);
     let mut file = [0u8; BYTE_LIMIT];
-    print_labelled(b"largest deal, risk weight ", weight);
-    print_labelled(b", unit ", unit);
-    print_labelled(b", STC mark ", stc);
-    print_labelled(b", share ", share);
-    io::write_all(STDOUT_FILENO, b"\n");
+    print_labelled(out, "largest deal, risk weight ", weight);
+    print_labelled(out, ", unit ", unit);
+    print_labelled(out, ", STC mark ", stc);
+    print_labelled(out, ", share ", share);
+    print_text(out, "\n");
     if files::store(&sheet, &mut file) {
-        print_texts(&file);
+        print_texts(out, &file);
     }
-    print_converted(&sheet, true);
+    print_converted(out, &sheet, true);
 }
