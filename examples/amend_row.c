@@ -1,7 +1,7 @@
 /*
  * Opens the pool of a sheet's file, amends a row and prints charge and weights before and after; the file stays as it is. From the repository's root:
  *
- *     rt staticlib tranche_weights && cc -std=c99 -Iinclude examples/amend_row.c target/staticlib/libtranche_weights.a -o target/amend_row
+ *     sh tests/archive.sh && mkdir -p target && cc -std=c99 -Iinclude examples/amend_row.c crates/tranche_weights_c/out/libtranche_weights.a -o target/amend_row
  *
  * Status 0: the amended deal is weighed. 1: sheet, amendment or amended deal is refused, which is printed; or one line on standard error says what else is wrong.
  */

@@ -1,7 +1,7 @@
 /*
  * Loads a deal sheet's file, weighs it and prints a line for each tranche. From the repository's root:
  *
- *     rt staticlib tranche_weights && cc -std=c99 -Iinclude examples/print_lines.c target/staticlib/libtranche_weights.a -o target/print_lines
+ *     sh tests/archive.sh && mkdir -p target && cc -std=c99 -Iinclude examples/print_lines.c crates/tranche_weights_c/out/libtranche_weights.a -o target/print_lines
  *
  * Status 0: the lines are printed. 1: the sheet is refused, and the refusal is printed. 2: the file can't be read, or the output can't be written.
  */

@@ -1,8 +1,8 @@
 /*
  * Risk weights of securitisation tranches: the proved calculator for programs in C99 or later and C++ (x86-64 Linux).
  *
- * The archive is made from the repository's root by `rt staticlib tranche_weights`, which proves it first and writes
- * target/staticlib/libtranche_weights.a. Link it as it is; it needs nothing but memcpy and memset of the C library.
+ * The archive is made in the repository's folder by `sh tests/archive.sh`, which proves it first and writes
+ * crates/tranche_weights_c/out/libtranche_weights.a. Link it as it is; it needs nothing but memcpy and memset of the C library.
  *
  * What holds of all ten functions
  * - The caller owns all memory. Nothing is allocated, kept or freed, and no pointer outlives the call.

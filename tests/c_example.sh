@@ -1,16 +1,16 @@
 #!/bin/sh
 # Builds the examples in C, tests/calls.c, tests/opened_calls.c and tests/null_lists.c, with every warning an error, and holds what they print to what is due. The
-# programs and the static library are built first: rt check sheet_words tranche_report, rt staticlib tranche_weights.
+# programs and the static library are built first: rt run in crates/sheet_words and crates/tranche_report, or rt ci, and tests/archive.sh.
 set -eu
 cd "$(dirname "$0")/.."
 room=$(mktemp -d)
 trap 'rm -rf "$room"' EXIT
 build="cc -O2 -Wall -Wextra -Wpedantic -Werror -Iinclude"
 for name in print_lines amend_row; do
-    $build -std=c99 "examples/$name.c" target/staticlib/libtranche_weights.a -o "$room/$name"
+    $build -std=c99 "examples/$name.c" crates/tranche_weights_c/out/libtranche_weights.a -o "$room/$name"
 done
 for name in calls opened_calls; do
-    $build -std=c11 -pthread "tests/$name.c" target/staticlib/libtranche_weights.a -o "$room/$name"
+    $build -std=c11 -pthread "tests/$name.c" crates/tranche_weights_c/out/libtranche_weights.a -o "$room/$name"
 done
 $build -std=c99 tests/null_lists.c -o "$room/null_lists"
 "$room/null_lists"
@@ -41,7 +41,7 @@ held() {
 
 examples="ordinary stc irba dated hundredths resecuritisation refused"
 for name in $examples; do
-    target/bin/sheet_words "examples/$name.txt" > "$room/$name"
+    crates/sheet_words/out/sheet_words "examples/$name.txt" > "$room/$name"
 done
 cp crates/tranche_report/data/deal "$room/checked"
 printf 'half' > "$room/half"
@@ -61,7 +61,7 @@ tranche 3: SEC-IRBA from 6.1876%% to 11.1776%%, weight 708.73%%, risk-weighted a
 tranche 4: SEC-IRBA from 2.1956%% to 6.1876%%, weight 1246.43%%, risk-weighted amount 124643000, capital 9971440, least weight 1246.42%%
 tranche 5: SEC-IRBA from 0.1996%% to 2.1956%%, weight 1250.00%%, risk-weighted amount 125000000, capital 10000000, least weight 1250.00%%
 pool charge 5.8160%%\n" ""
-held "refused sheet" "$room/refused" 1 "$(target/bin/tranche_report "$room/refused")\n" ""
+held "refused sheet" "$room/refused" 1 "$(crates/tranche_report/out/tranche_report "$room/refused")\n" ""
 held "cut within a word" "$room/half" 1 "refused 15 at 0\n" ""
 held "longest file" "$room/longest" 1 "refused 2 at 0\n" ""
 held "file too long" "$room/longer" 1 "refused 15 at 0\n" ""
@@ -110,7 +110,7 @@ if "$room/amend_row" "$room/checked" 1 950 950 20 0 > /dev/full 2> "$room/err"; 
 fi
 echo "amend_row: the output can't be written" | cmp - "$room/err"
 echo "full disk: ok"
-tried "amendment of a refused sheet" 1 "sheet: $(target/bin/tranche_report "$room/refused")\n" "" amend_row "$room/refused" 1 950 950 20 0
+tried "amendment of a refused sheet" 1 "sheet: $(crates/tranche_report/out/tranche_report "$room/refused")\n" "" amend_row "$room/refused" 1 950 950 20 0
 cat "$room/checked" "$room/longest" > "$room/words_follow"
 tried "amendment of a file too long" 1 "sheet: refused 3 at 36\n" "" amend_row "$room/words_follow" 1 950 950 20 0
 for name in none half longer .; do
@@ -120,7 +120,7 @@ done
 # The report by way of C is that of the program.
 for name in $examples checked half longest longer; do
     "$room/calls" "$room/$name" > "$room/out"
-    target/bin/tranche_report "$room/$name" > "$room/due.out"
+    crates/tranche_report/out/tranche_report "$room/$name" > "$room/due.out"
     cmp "$room/due.out" "$room/out"
     [ -s "$room/out" ]
     echo "calls from C, $name: ok"

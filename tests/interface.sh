@@ -1,12 +1,12 @@
 #!/bin/sh
 # The version of the interface: the archive has just the header's functions, by the header's version, the header has the README's refusals and the Rust crate's
 # sizes, and neither the C example nor the Rust crate links with an archive of another version. Such an archive is made of the real one by renaming. Last, the header
-# alone, and the Rust crate with no archive. The static library is built first: rt staticlib tranche_weights.
+# alone, and the Rust crate with no archive. The static library is built first: tests/archive.sh.
 set -eu
 cd "$(dirname "$0")/.."
 room=$(mktemp -d)
 trap 'rm -rf "$room"' EXIT
-archive=target/staticlib/libtranche_weights.a
+archive=crates/tranche_weights_c/out/libtranche_weights.a
 version=$(sed -n 's/^#define TRANCHE_WEIGHTS_INTERFACE \([0-9]*\)$/\1/p' include/tranche_weights.h)
 [ -n "$version" ] || { echo "the header has no version"; exit 1; }
 names=$(sed -n "s/^uint64_t \(tranche_weights_[a-z_]*\)_v$version(.*/\1/p" include/tranche_weights.h)

@@ -1,15 +1,19 @@
 #!/bin/sh
 # Runs tranche_report, portfolio_totals, convert_sheet and sheet_words as a desk does, and holds standard output, standard error and the exit status of each run to
-# what is due. Prints a line for each case, and stops with 1 at the first difference. The programs are built first: rt check tranche_report portfolio_totals
-# convert_sheet sheet_words. An input that fails midway is made by tests/failing_input.c, which is built here, with every warning an error.
+# what is due. Prints a line for each case, and stops with 1 at the first difference. The programs are built first: rt run in the folder of each crate, or rt ci.
+# An input that fails midway is made by tests/failing_input.c, which is built here, with every warning an error.
 set -u
 
 root=$(cd "$(dirname "$0")/.." && pwd) || exit 1
-bin=$root/target/bin
 . "$root/tests/limits.sh"
 room=$(mktemp -d) || exit 1
 trap 'rm -rf "$room"' EXIT
 cd "$room" || exit 1
+bin=$room/bin
+mkdir bin
+for name in tranche_report portfolio_totals convert_sheet sheet_words; do
+    cp "$root/crates/$name/out/$name" bin || exit 1
+done
 
 # One run: run PROGRAM ARGUMENT..
 run() {
@@ -101,6 +105,13 @@ cp "$root/crates/tranche_report/data/deal" deal
 cp "$root/crates/sheet_words/data/deal" deal.txt
 mkdir folder
 cc -O2 -std=c11 -Wall -Wextra -Wpedantic -Werror "$root/tests/failing_input.c" -o failing_input || exit 1
+
+# ---- that all programs read by the same code
+
+for name in portfolio_totals convert_sheet sheet_words checked_examples; do
+    cmp "$root/crates/tranche_report/src/reading.rt" "$root/crates/$name/src/reading.rt" || exit 1
+    echo "$name: reads as tranche_report does: ok"
+done
 
 # ---- what all programs say of their arguments and of a file that can't be read
 

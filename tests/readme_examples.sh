@@ -1,13 +1,13 @@
 #!/bin/sh
 # The README's examples: the C program is taken out of it, built and run, the Rust program is the file that it names, and what they, the programs of the report and
 # of the totals and the C example print stands in it, line for line; the report on the converted sheet is that on the sheet. The programs and the static library are built first:
-# rt check sheet_words tranche_report portfolio_totals convert_sheet, rt staticlib tranche_weights.
+# rt run in the folders of the four crates, or rt ci, and tests/archive.sh.
 set -eu
 cd "$(dirname "$0")/.."
 room=$(mktemp -d)
 trap 'rm -rf "$room"' EXIT
 build="cc -std=c99 -Wall -Wextra -Wpedantic -Werror -Iinclude"
-archive=target/staticlib/libtranche_weights.a
+archive=crates/tranche_weights_c/out/libtranche_weights.a
 
 # The README's block of a language: block LANGUAGE
 block() {
@@ -25,13 +25,13 @@ stands() {
         END { if (!found || lines == 0) { print name ": not what stands in the README"; exit 1 } print name ": ok" }' "$2" README.md
 }
 
-target/bin/sheet_words examples/ordinary.txt > "$room/deal"
-target/bin/tranche_report "$room/deal" > "$room/out"
+crates/sheet_words/out/sheet_words examples/ordinary.txt > "$room/deal"
+crates/tranche_report/out/tranche_report "$room/deal" > "$room/out"
 stands "report on examples/ordinary.txt" "$room/out"
-target/bin/portfolio_totals "$room/deal" > "$room/out"
+crates/portfolio_totals/out/portfolio_totals "$room/deal" > "$room/out"
 stands "totals of examples/ordinary.txt" "$room/out"
-target/bin/convert_sheet "$room/deal" > "$room/converted"
-target/bin/tranche_report "$room/converted" > "$room/out"
+crates/convert_sheet/out/convert_sheet "$room/deal" > "$room/converted"
+crates/tranche_report/out/tranche_report "$room/converted" > "$room/out"
 stands "report on examples/ordinary.txt in hundredths" "$room/out"
 
 $build examples/print_lines.c "$archive" -o "$room/print_lines"

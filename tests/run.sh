@@ -1,6 +1,6 @@
 #!/bin/sh
-# All tests. Everything is proved from nothing, every wrong program is tried, and every program's output is compared with its stored text; what was proved is
-# then tried as a desk and a bank's own system use it: from the shell, from C and from Rust, there against an independent implementation. The time of each part
+# All tests. Everything is proved, every wrong program is tried (`rt ci` keeps what it passed before on this machine), and every program's output is compared with its
+# stored text; what was proved is then tried as a desk and a bank's own system use it: from the shell, from C and from Rust, there against an independent implementation. The time of each part
 # is printed; the last line is `N passed, 0 failed` where all passed, and else says what failed.
 #
 #   sh tests/run.sh         all of it: the gate
@@ -41,29 +41,57 @@ all_but_last() {
     printf '%s\n' "$last" > "$1"
 }
 
-# The toolchain's gate. Its last line is held back where it passes, so that it comes after all other parts.
+# The toolchain's gate, which also fails where a wrong program can't be tried. Its last line is held back where it passes, so that it comes after all other parts.
 gate() {
-    { rt ci 2>&1 && echo 0 > "$held/status" || echo 1 > "$held/status"; } | all_but_last "$held/last"
-    if [ "$(cat "$held/status")" = 0 ] && grep -Eqx '[0-9]+ passed, 0 failed' "$held/last"; then
-        return 0
+    { rt ci 2>&1 && echo 0 > "$held/status" || echo 1 > "$held/status"; } | tee "$held/log" | all_but_last "$held/last"
+    if [ "$(cat "$held/status")" != 0 ] || ! grep -Eqx '[0-9]+ passed, 0 failed' "$held/last"; then
+        cat "$held/last"
+        return 1
     fi
-    cat "$held/last"
-    return 1
+    if ! grep -q '^rt: ok;' "$held/log" || grep -Eq '^rt: ok;.*, [1-9][0-9]* bad' "$held/log"; then
+        echo "wrong programs that can't be tried"
+        return 1
+    fi
 }
 
-# The same with no wrong program, and without what is proved already. What rt has proved it takes for unchanged where only a file behind a link has changed, so
-# the programs with a link are proved anew.
+# The same with no wrong program, and without what is proved already.
 check() {
-    rm -f target/stamp/sheet_words target/stamp/portfolio_totals target/stamp/convert_sheet target/stamp/checked_examples
-    rt check && echo "all parts passed; the wrong programs were not tried" > "$held/last"
+    rt all check && echo "all parts passed; the wrong programs were not tried" > "$held/last"
+}
+
+# Builds a program over what is proved, and holds its output to its stored text, as the gate does: built PROGRAM
+built() {
+    (
+        cd "crates/$1" || exit 1
+        if ! rt run > "$held/log" 2>&1; then
+            cat "$held/log"
+            exit 1
+        fi
+        crate=$PWD
+        [ ! -d data ] || cd data || exit 1
+        # shellcheck disable=SC2046 # one argument a word
+        set -- "$1" $([ ! -f ../args ] || cat ../args)
+        program=$crate/out/$1
+        shift
+        "$program" "$@" | cmp - "$crate/stdout"
+    )
+}
+
+# The same of each program.
+all_built() {
+    for main in crates/*/src/main.rt; do
+        program=${main#crates/}
+        built "${program%/src/main.rt}" || return 1
+    done
 }
 
 if [ "$mode" = all ]; then
-    part "proofs from nothing and wrong programs" gate
+    part "proofs and wrong programs" gate
 else
     part "proofs of what changed" check
+    part "programs built" all_built
 fi
-part "library built" rt staticlib tranche_weights
+part "library built" sh tests/archive.sh
 part "programs tried" sh tests/programs.sh
 part "C example" sh tests/c_example.sh
 part "calendar" sh tests/calendar.sh

@@ -8,7 +8,7 @@ use std::path::{Path, PathBuf};
 const FOLDER_VARIABLE: &str = "TRANCHE_WEIGHTS_LIB";
 
 /// The archive's folder where the variable is not set: the repository's own, from the crate's folder.
-const OWN_FOLDER: &str = "../../target/staticlib";
+const OWN_FOLDER: &str = "../../crates/tranche_weights_c/out";
 
 /// Checks target and archive, then tells Cargo what to link and when to look again.
 fn main() {
@@ -58,8 +58,8 @@ pub fn missing_archive(archive: &Path) -> Option<String> {
     let place = archive.display();
     (!archive.is_file()).then(|| {
         format!(
-            "{place} is not there, and nothing can be linked without it: run `rt staticlib tranche_weights` from the \
-             repository's root, or name the archive's folder in {FOLDER_VARIABLE}"
+            "{place} is not there, and nothing can be linked without it: run `sh tests/archive.sh` in the \
+             repository's folder, or name the archive's folder in {FOLDER_VARIABLE}"
         )
     })
 }

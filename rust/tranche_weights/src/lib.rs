@@ -95,8 +95,8 @@
 //!
 //! # Linking
 //!
-//! The library is for x86-64 Linux only. `rt staticlib tranche_weights`, run from the repository's root, makes
-//! `target/staticlib/libtranche_weights.a`, and the crate links it from there. The environment variable
+//! The library is for x86-64 Linux only. `sh tests/archive.sh`, run in the repository's folder, makes
+//! `crates/tranche_weights_c/out/libtranche_weights.a`, and the crate links it from there. The environment variable
 //! `TRANCHE_WEIGHTS_LIB` names another folder; a relative one counts from the crate's folder. Without the archive,
 //! checking and documenting work, with a warning; building does not.
 //!

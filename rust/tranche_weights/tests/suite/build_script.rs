@@ -35,7 +35,7 @@ fn a_missing_archive_is_said_in_one_line() {
             line.starts_with(&format!("{} is not there", missing.display())),
             "{line}"
         );
-        assert!(line.contains("run `rt staticlib tranche_weights`"), "{line}");
+        assert!(line.contains("run `sh tests/archive.sh`"), "{line}");
         assert_eq!(line.lines().count(), 1);
     }
 }
