@@ -128,6 +128,10 @@ for name in tranche_report portfolio_totals convert_sheet sheet_words; do
     run "$name" "$(bytes 5000 a)"
     held "$name: an argument that is too long"
 
+    due '' 'the argument: not UTF-8\n'
+    run "$name" "$(printf 'a\377')"
+    held "$name: an argument that is not UTF-8"
+
     due '' 'missing: No such file or directory\n'
     run "$name" missing
     held "$name: no such file"

@@ -1,5 +1,5 @@
-// The calculator for programs in C and Rust: the functions that a bank's own system links, with the promises of the functions they call. The header
-// is include/tranche_weights.h. Each name ends in the version of the interface, so that a program built for another version does not link.
+// The calculator for programs in C and Rust: the functions that a bank's own system links, with the promises of the functions they call. tranche_weights_c exports
+// them under these names, which end in the version of the interface.
 #![tactic(auto)]
 
 ghost use Rattle.std.specs.Prelude.{◌≡◌, ◌≤◌, length};

@@ -1,5 +1,4 @@
 -- `amend_rows`: a refused amendment is handed back with the sums as they were; of a good one the row is there. No axioms.
--- what was read and judged
 use Prim.Native.Nat.{◌+◌}
 use native.Mathlib.Omega.{arith}
 use Rattle.judgement.proofs.JudgeSteps.{faulty_unless_sound}
@@ -7,6 +6,7 @@ use Rattle.amendment.proofs.AmendSteps.{JudgedHere, few_facts, judged_here, refu
 use Rattle.amendment.proofs.amend_rows.Goals.{After-judge_amendment-verdict}
 use Rattle.amendment.proofs.amend_rows.Goals as goal
 
+-- what was read and judged
 judged : (c : After-judge_amendment-verdict) →
     JudgedHere c.args.sheet.now c.args.amendment.now c.args.sums (1 + c.word_at-pool.result) c.in_hundredths-hundredths.result c.judge_amendment-verdict.result
 judged c =

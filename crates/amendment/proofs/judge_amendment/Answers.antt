@@ -1,5 +1,4 @@
 -- `judge_amendment`: before each turn the words before its place are sound. No axioms.
--- a word's verdict is that on the words up to it
 use mathlib.Core.Path.{◌≡◌, ◌∙◌, sym}
 use Prim.Native.Nat.{◌+◌}
 use native.Mathlib.Omega.{arith}
@@ -8,6 +7,7 @@ use Rattle.amendment.proofs.AmendmentSteps.{words_to, none_judged, next_judged, 
 use Rattle.amendment.proofs.judge_amendment.Goals.{After-judge_word-verdict}
 use Rattle.amendment.proofs.judge_amendment.Goals as goal
 
+-- a word's verdict is that on the words up to it
 word_judged :
     (c : After-judge_word-verdict) →
     let x = c.args in

@@ -1,5 +1,4 @@
 -- `judge_amendment`: before each turn the words before its place are sound. No axioms.
--- a word's verdict is that on the words up to it
 use mathlib.Core.Path.{◌≡◌}
 use Prim.Native.Nat.{◌-◌, ◌≤◌}
 use Rattle.judgement.specs.declared.Verdict.TheVariants.{Sound}

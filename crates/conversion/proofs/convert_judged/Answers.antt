@@ -1,5 +1,4 @@
 -- `convert_judged`: the first of 19 and 14 refuses and leaves the output; where there is neither, all is written and counted. No axioms.
--- past the first test every weight is a whole percent
 use mathlib.Core.Path.{◌≡◌, sym, ◌∙◌}
 use Prim.Native.Nat.{◌≤◌, ◌<◌}
 use native.Mathlib.Omega.{arith}
@@ -13,6 +12,7 @@ use Rattle.conversion.proofs.ConversionSteps.{weights_refused, weights_leave, ro
 use Rattle.conversion.proofs.convert_judged.Goals.{In_default}
 use Rattle.conversion.proofs.convert_judged.Goals as goal
 
+-- past the first test every weight is a whole percent
 whole : (c : In_default) → weights_verdict c.args.s.now ≡ Sound
 whole c = sym c.judge_weights-weights.ensures ∙ c.in_default.is
 

@@ -1,8 +1,4 @@
 -- `judge_weights`: as long as the loop runs every weight passed is a whole percent; the first that is none decides. No axioms.
--- ---- the next weight, where all before it are whole percents
--- past the first test the sheet is in hundredths
--- the turn's row is one of the sheet's
--- the place of its weight, as a low number
 use mathlib.Core.Bool.{true}
 use mathlib.Core.List.{List}
 use mathlib.Core.Path.{◌≡◌, refl, sym, ◌∙◌}
@@ -32,12 +28,16 @@ next_not_whole s i place part before row place_is =
     (first_of_stays (λ i. percent_verdict s i) (i + 1) (rows s) (record { number = 19; place = place }) (omega arith)
     (first_of_next (λ i. percent_verdict s i) i before ∙ rw (ne_eqb (weight_word s i % 100) 0 part, place_is)))
 
+-- ---- the next weight, where all before it are whole percents
+-- past the first test the sheet is in hundredths
 fine : (c : Else-not-l) → in_hundredths c.args.s.now ≡ true
 fine c = sym (hundredths_is _ _ c.requires) ∙ not-false _ c.if-not-l.false
 
+-- the turn's row is one of the sheet's
 row : (c : In-loop-i) → c.loop-i.i < rows c.args.s.now
 row c = omega (arith, rows_is _ _ c.requires)
 
+-- the place of its weight, as a low number
 place :
     (c : In-loop-i) →
     let s = c.args.s.now in

@@ -1,8 +1,4 @@
 -- `judge_weights`: as long as the loop runs every weight passed is a whole percent; the first that is none decides. No axioms.
--- ---- the next weight, where all before it are whole percents
--- past the first test the sheet is in hundredths
--- the turn's row is one of the sheet's
--- the place of its weight, as a low number
 use mathlib.Core.Path.{◌≡◌}
 use Prim.Native.Nat.{◌-◌, ◌≤◌}
 use Rattle.judgement.specs.DealSheet.{rows}

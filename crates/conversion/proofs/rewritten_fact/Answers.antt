@@ -1,5 +1,4 @@
 -- `rewritten_fact`: the unit is the other one, and any other fact is the sheet's, 0 where its list is shorter. No axioms.
--- a fact that the list has is there to be read
 use mathlib.Core.List.{List}
 use mathlib.Core.Path.{◌≡◌, sym, ◌∙◌}
 use Prim.Native.Nat.{ℕ, ◌≤◌, ◌<◌}
@@ -14,6 +13,7 @@ use Rattle.judgement.proofs.SheetLimits.{fact_there}
 use Rattle.conversion.proofs.RewrittenLaws.{unit_rewritten, fact_rewritten}
 use Rattle.conversion.proofs.rewritten_fact.Goals as goal
 
+-- a fact that the list has is there to be read
 listed_there : (s : List ℕ) (p : ℕ) → judged s (needed s) ≡ Sound → p ≤ word s 0 → p < length s
 unfolding pool_at
 listed_there s p good h = fact_there s p good (omega arith)

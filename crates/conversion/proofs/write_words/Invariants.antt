@@ -1,7 +1,4 @@
 -- `write_words`: after p turns the output is the first p words of the rewritten sheet and the rest of what was there. No axioms.
--- one word more
--- the last one
--- there is room for the turn's word
 use mathlib.Core.List.{◌++◌}
 use mathlib.Core.Path.{◌≡◌}
 use Prim.Native.Nat.{◌-◌, ◌≤◌}

@@ -1,5 +1,4 @@
 -- `convert_file`: a bad length is refused; else the words that were loaded are converted. No axioms.
--- behind the first test
 use mathlib.Core.Bool.{true}
 use mathlib.Core.Path.{◌≡◌, sym, ap, ◌∙◌}
 use Prim.Native.Nat.{◌/◌}
@@ -10,6 +9,7 @@ use Rattle.conversion_file.proofs.FileConversionLaws.{bad_length_refused, words_
 use Rattle.conversion_file.proofs.convert_file.Goals.{Else-not-loaded}
 use Rattle.conversion_file.proofs.convert_file.Goals as goal
 
+-- behind the first test
 good : (c : Else-not-loaded) → good_length c.args.file.now ≡ true
 good c = sym c.load-loaded.ensures.value ∙ c.if-not-loaded.false
 

@@ -1,8 +1,4 @@
 -- `weigh_pool`: the charge is that of the sheet's terms; each refusal is the sheet's verdict and leaves the results; where there is none, the lines are written. No axioms.
--- ---- what an opened pool gives
--- the layout's number of tranches is the sheet's, and small
--- what the tranches take is by the sheet's terms
--- what the terms are
 use mathlib.Core.List.{List}
 use mathlib.Core.Path.{◌≡◌, refl, ◌∙◌, ap, subst}
 use Prim.Native.Nat.{ℕ, ◌≤◌}
@@ -32,18 +28,22 @@ irb : (c : Start) → IrbLimits c.args.l.irb
 unfolding layout
 irb c = rw c.requires.is_layout (irb_limits c.args.sheet.now (laid c).good)
 
+-- ---- what an opened pool gives
+-- the layout's number of tranches is the sheet's, and small
 counted : (c : Start) → c.args.l.tranches ≡ tranche_count c.args.sheet.now
 counted c = tranches_is _ _ (laid c)
 
 few : (c : Start) → tranche_count c.args.sheet.now ≤ 32
 few c = (tranches_within _ (tranches_counted _ (laid c).good)).1
 
+-- what the tranches take is by the sheet's terms
 taken_of :
     (c : Start) {d : Terms} {taken : List ℕ} → let s = c.args.sheet.now in
     d ≡ terms_for c.args.l c.args.sums → TakenRows d s taken → TakenRows (terms s) s taken
 taken_of c {taken = taken} e table =
     subst (λ (d : Terms). TakenRows d c.args.sheet.now taken) (e ∙ open_terms _ _ _ c.requires) table
 
+-- what the terms are
 terms_are : (c : After-terms_of-terms) → c.terms_of-terms.result ≡ terms c.args.sheet.now
 terms_are c = c.terms_of-terms.ensures ∙ open_terms _ _ _ c.requires
 

@@ -1,5 +1,4 @@
 -- `weigh_file`: a bad length is refused; else the words that were loaded are weighed. No axioms.
--- behind the first test
 use mathlib.Core.Bool.{true}
 use mathlib.Core.Path.{◌≡◌, refl, sym, ◌∙◌}
 use Rattle.files.specs.FileForm.{good_length}
@@ -7,6 +6,7 @@ use Rattle.deal_file.proofs.FileAnswerLaws.{bad_length_refused, words_weighed}
 use Rattle.deal_file.proofs.weigh_file.Goals.{Else-not-loaded}
 use Rattle.deal_file.proofs.weigh_file.Goals as goal
 
+-- behind the first test
 good : (c : Else-not-loaded) → good_length c.args.file.now ≡ true
 good c = sym c.load-loaded.ensures.value ∙ c.if-not-loaded.false
 

@@ -1,6 +1,4 @@
 -- `judge_facts`: the count of facts is judged first, and before each turn the words before place p are sound. No axioms.
--- the count's verdict is that on the first word
--- a fact's verdict is that on the words up to it
 use mathlib.Core.Path.{◌≡◌, ◌∙◌, sym}
 use Prim.Native.Nat.{◌+◌}
 use native.Mathlib.Omega.{arith}
@@ -11,12 +9,14 @@ use Rattle.judgement.proofs.JudgeSteps.{faulty_unless_sound, none_judged, word_j
 use Rattle.judgement.proofs.judge_facts.Goals.{After-judge_word-count, After-judge_word-fact}
 use Rattle.judgement.proofs.judge_facts.Goals as goal
 
+-- the count's verdict is that on the first word
 count_judged : (c : After-judge_word-count) → c.judge_word-count.result ≡ judged c.args.s.now 1
 count_judged c =
     let s = c.args.s.now in
     word_judged s 0 (none_judged s) (fault_of_fact_count s)
     (c.judge_word-count.ensures ∙ simp (c.count_fault.ensures, c.word_at.ensures))
 
+-- a fact's verdict is that on the words up to it
 fact_judged :
     (c : After-judge_word-fact) →
     c.judge_word-fact.result ≡ judged c.args.s.now (c.loop-p.p + 1)

@@ -1,6 +1,4 @@
 -- `judge_facts`: the count of facts is judged first, and before each turn the words before place p are sound. No axioms.
--- the count's verdict is that on the first word
--- a fact's verdict is that on the words up to it
 use mathlib.Core.Path.{◌≡◌}
 use Prim.Native.Nat.{◌-◌, ◌≤◌}
 use Rattle.judgement.specs.Refusals.{judged}

@@ -1,7 +1,4 @@
 -- `judge_irb_row`: before each turn the words before the row's column are sound. No axioms.
--- the tranches' count is before the section
--- a column's verdict is that on the words up to it
--- the section's last word is the last that the sheet needs
 use mathlib.Core.Path.{◌≡◌, ◌∙◌, sym}
 use Prim.Native.Nat.{◌+◌}
 use native.Mathlib.Omega.{arith}
@@ -15,9 +12,11 @@ use Rattle.judgement.proofs.JudgeSteps.{faulty_unless_sound, sound_before, word_
 use Rattle.judgement.proofs.judge_irb_row.Goals.{After-judge_word-verdict, Start}
 use Rattle.judgement.proofs.judge_irb_row.Goals as goal
 
+-- the tranches' count is before the section
 counted : (c : Start) → judged c.args.s.now (tranches_at c.args.s.now + 1) ≡ Sound
 counted c = sound_before _ _ _ c.requires.0 (omega (arith, irb_at_past_tranches c.args.s.now))
 
+-- a column's verdict is that on the words up to it
 column_judged :
     (c : After-judge_word-verdict) →
     c.judge_word-verdict.result ≡ judged c.args.s.now (irb_place c.args.s.now c.loop-column.column + 1)
@@ -32,6 +31,7 @@ column_judged c =
       c.word_at-kind.ensures,
     ))
 
+-- the section's last word is the last that the sheet needs
 ends : (c : Start) → needed c.args.s.now ≡ irb_place c.args.s.now 6
 ends c = let s = c.args.s.now in omega (arith, needed_is s, irb_words_lem s c.requires.1)
 

@@ -1,7 +1,4 @@
 -- `judge_irb_row`: before each turn the words before the row's column are sound. No axioms.
--- the tranches' count is before the section
--- a column's verdict is that on the words up to it
--- the section's last word is the last that the sheet needs
 use mathlib.Core.Path.{◌≡◌}
 use Prim.Native.Nat.{◌-◌, ◌≤◌}
 use Rattle.judgement.specs.DealSheet.{irb_place}

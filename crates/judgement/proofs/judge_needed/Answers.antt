@@ -1,7 +1,4 @@
 -- `judge_needed`: a fault up to the tranches stays; where they are sound the kind decides whether they end the sheet, and else the section's count and row. No axioms.
--- behind the first test the words before the section are sound
--- behind the second the sheet has the section
--- the count's verdict is that on the words up to it
 use mathlib.Core.Bool.{true}
 use mathlib.Core.Path.{◌≡◌, ◌∙◌, sym}
 use Prim.Native.Nat.{◌+◌}
@@ -15,6 +12,7 @@ use Rattle.judgement.proofs.JudgeSteps.{faulty_unless_sound, sound_before, word_
 use Rattle.judgement.proofs.judge_needed.Goals.{After-judge_word-count, Else-word_at-eq0, In-Sound}
 use Rattle.judgement.proofs.judge_needed.Goals as goal
 
+-- behind the first test the words before the section are sound
 sound : (c : In-Sound) →
     let s = c.args.s.now in
     judged s (irb_at s) ≡ Sound
@@ -22,10 +20,12 @@ sound c =
     let s = c.args.s.now in
     sound_before s (irb_at s) _ (sym c.judge_tranches-tranches.ensures ∙ c.in-Sound.is) (omega (arith, irb_at_past_tranches s))
 
+-- behind the second the sheet has the section
 has : (c : Else-word_at-eq0) → has_irb c.args.s.now ≡ true
 has c =
     has_irb_lem c.args.s.now (λ none. c.if-word_at-eq0.false (c.word_at.ensures ∙ none))
 
+-- the count's verdict is that on the words up to it
 count_judged :
     (c : After-judge_word-count) →
     let s = c.args.s.now in

@@ -1,5 +1,4 @@
 -- `judge_tranche`: before each turn the words before the tranche's column are sound. No axioms.
--- a column's verdict is that on the words up to it
 use mathlib.Core.Path.{◌≡◌, ◌∙◌, sym}
 use Prim.Native.Nat.{◌+◌}
 use native.Mathlib.Omega.{arith}
@@ -11,6 +10,7 @@ use Rattle.judgement.proofs.JudgeSteps.{faulty_unless_sound, sound_before, word_
 use Rattle.judgement.proofs.judge_tranche.Goals.{After-judge_word-verdict}
 use Rattle.judgement.proofs.judge_tranche.Goals as goal
 
+-- a column's verdict is that on the words up to it
 column_judged :
     (c : After-judge_word-verdict) →
     c.judge_word-verdict.result ≡ judged c.args.s.now (tranche_at c.args.s.now c.args.i + c.loop-column.column + 1)

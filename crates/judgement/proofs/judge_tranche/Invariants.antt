@@ -1,5 +1,4 @@
 -- `judge_tranche`: before each turn the words before the tranche's column are sound. No axioms.
--- a column's verdict is that on the words up to it
 use mathlib.Core.Path.{◌≡◌}
 use Prim.Native.Nat.{◌+◌, ◌-◌, ◌≤◌}
 use Rattle.judgement.specs.DealSheet.{tranche_at}

@@ -1,6 +1,4 @@
 -- `judge_words`: a fault of a needed word decides, and where they are sound the test of words that follow. No axioms.
--- what equals the numbers of the words also means what they mean
--- behind the first test every word that the sheet needs is good
 use mathlib.Core.List.{List}
 use mathlib.Core.Path.{◌≡◌, ◌∙◌, sym}
 use Prim.Native.Nat.{ℕ, ◌≤◌, ◌<◌}
@@ -20,6 +18,7 @@ use Rattle.judgement.proofs.WordsLaw.{numbers_mean}
 use Rattle.judgement.proofs.judge_words.Goals.{In_default}
 use Rattle.judgement.proofs.judge_words.Goals as goal
 
+-- what equals the numbers of the words also means what they mean
 kept : (s : List ℕ) (n : Outcome Layout) → n ≡ words_numbers s → (n ≡ words_numbers s) × NumbersMean s n
 kept s n e = (e, numbers_mean s n e)
 
@@ -35,6 +34,7 @@ good_words : (s : List ℕ) (l : Layout) → judged s (needed s) ≡ Sound → l
 unfolding words_numbers words_verdict
 good_words s l sound none is = simp (sound, le-ltb (needed s) (length s) none, is)
 
+-- behind the first test every word that the sheet needs is good
 sound : (c : In_default) →
     let s = c.args.s.now in
     judged s (needed s) ≡ Sound

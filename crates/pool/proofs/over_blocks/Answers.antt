@@ -1,5 +1,4 @@
 -- `over_blocks`: after b turns the sums are those of the first b blocks; the blocks are at most 20 and reach the last row, so over all of them the sums are the pool's. No axioms.
--- what was made before the loop: the sums of all blocks
 use mathlib.Core.List.{List}
 use mathlib.Core.Path.{◌≡◌, ◌∙◌}
 use Prim.Native.Nat.{ℕ, ◌≤◌, ◌<◌}
@@ -14,6 +13,7 @@ use Rattle.pool.proofs.BlockLaws.{over_none, over_next, over_limits, blocks_coun
 use Rattle.pool.proofs.over_blocks.Goals.{After-subtotals-each}
 use Rattle.pool.proofs.over_blocks.Goals as goal
 
+-- what was made before the loop: the sums of all blocks
 module _ (c : After-subtotals-each) where
   abbrev n : ℕ
   n = c.rounded_up-n.result

@@ -1,6 +1,4 @@
 -- `over_blocks`: after b turns the sums are those of the first b blocks; the blocks are at most 20 and reach the last row, so over all of them the sums are the pool's. No axioms.
--- the blocks that are summed are the sheet's, and at most 20
--- what was made before the loop: the sums of all blocks
 use mathlib.Core.Path.{◌≡◌}
 use Prim.Native.Nat.{◌-◌, ◌≤◌}
 use lib.ListN.{get_or}

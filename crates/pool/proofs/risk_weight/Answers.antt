@@ -1,5 +1,4 @@
 -- `risk_weight`: the weight's word is read at its place, and its weight in hundredths is at most 125,000. No axioms.
--- the unit times the word
 use mathlib.Core.Path.{◌≡◌}
 use Prim.Native.Nat.{◌*◌}
 use native.Mathlib.Omega.{arith}
@@ -9,6 +8,7 @@ use Rattle.judgement.proofs.SheetLimits.{risk_weight_most}
 use Rattle.pool.proofs.risk_weight.Goals.{After-row_word}
 use Rattle.pool.proofs.risk_weight.Goals as goal
 
+-- the unit times the word
 product_is :
     (c : After-row_word) →
     c.weight_unit.result * c.row_word.result ≡ risk_weight c.args.s.now c.args.i

@@ -1,5 +1,4 @@
 -- `sums_from`: rows of unknown status are among all rows, and what is left without them is the rows of known status. No axioms.
--- the totals of all rows and of those of unknown status
 use mathlib.Core.List.{List}
 use mathlib.Core.Path.{◌≡◌, ap}
 use Prim.Native.Nat.{ℕ, ◌≤◌}
@@ -10,6 +9,7 @@ use Rattle.pool.proofs.TotalsLaws.{unknown_among_all, sums_made}
 use Rattle.pool.proofs.sums_from.Goals.{After-totals_from-all}
 use Rattle.pool.proofs.sums_from.Goals as goal
 
+-- the totals of all rows and of those of unknown status
 module _ (c : After-totals_from-all) where
   abbrev s : List ℕ
   s = c.args.s.now

@@ -1,5 +1,4 @@
 -- `with_row`: the row's words are read at their places; each sum is at most 1.25 × 10^15 a row, so nothing wraps. No axioms.
--- the row's terms and the number of rows are small
 use mathlib.Core.Path.{◌≡◌}
 use Prim.Native.Nat.{ℕ, ◌*◌, ◌≤◌}
 use native.Mathlib.Nat.{mul-le-mul, add-zero}
@@ -23,6 +22,7 @@ weight_read :
     c.risk_weight.result ≡ risk_weight c.args.s.now c.args.i
 weight_read c = c.risk_weight.ensures
 
+-- the row's terms and the number of rows are small
 record Small (i e n w : ℕ) : Type 0 where
   rows_at_most : i ≤ rows_most
   exposure_most : e ≤ 10000000000

@@ -1,8 +1,4 @@
 -- `next_rated`: after each turn the table is filled from the turn's row on, and `first` is what that row has. The measure is the row. No axioms.
--- the sheet's tranches are few, and the layout's number of them is the sheet's
--- the turn's row is one of the sheet's
--- what `any_present` told of the row
--- the first rated row from the turn's row on
 use mathlib.Core.Path.{◌≡◌, ◌∙◌}
 use Prim.Native.Nat.{◌+◌, ◌-◌, ◌≤◌, ◌<◌}
 use native.Mathlib.Nat.{le_refl}
@@ -16,17 +12,21 @@ use Rattle.deal.proofs.NextRatedLaws.{rated_past_last, rated_here, rated_later, 
 use Rattle.deal.proofs.inferred.next_rated.Goals.{In-loop-j, Joined-any_present, Start, then-any_present, else-any_present}
 use Rattle.deal.proofs.inferred.next_rated.Goals as goal
 
+-- the sheet's tranches are few, and the layout's number of them is the sheet's
 few : (c : Start) → (tranche_count c.args.s.now ≤ 32) × (c.args.l.tranches ≡ tranche_count c.args.s.now)
 few c = ((tranches_within _ (tranches_counted _ c.requires.0.good)).1, tranches_is _ _ c.requires.0)
 
+-- the turn's row is one of the sheet's
 row : (c : In-loop-j) → c.loop-j.j - 1 < tranche_count c.args.s.now
 row c = omega (arith, c.loop-j.invariant.0)
 
+-- what `any_present` told of the row
 told :
     (c : Joined-any_present) → rated_row c.args.s.now (c.loop-j.j - 1) ≡ c.any_present.result
 told c =
     simp (c.any_present.ensures, c.tranche_word-in-loop-j-2.ensures, c.tranche_word-in-loop-j.ensures, c.tranche_word.ensures)
 
+-- the first rated row from the turn's row on
 first_from :
     (c : Joined-any_present) → FirstRatedFrom c.args.s.now (c.loop-j.j - 1) c.if-any_present.first
 first_from c =

@@ -1,10 +1,4 @@
 -- `reference_row`: none of the rows before the turn's is a reference, and the turn's is rated; the first reference is the row of 02's words. The measure is what is left of the tranches. No axioms.
--- the sheet's tranches are few
--- the table's figure for a row
--- the turn's row is one of the sheet's
--- the months of the tranche and of the turn's row, by the layout's reporting date
--- the next rated row is a later one
--- the turn's row did not serve: its class is senior to the tranche's, or its maturity shorter
 use mathlib.Core.Bool.{false}
 use mathlib.Core.Path.{◌≡◌, sym, ◌∙◌}
 use Prim.Native.Nat.{◌+◌, ◌≤◌, ◌<◌}
@@ -20,12 +14,15 @@ use Rattle.deal.proofs.NextRatedLaws.{none_up_to, passed_over}
 use Rattle.deal.proofs.inferred.reference_row.Goals.{After-maturity_months, After-maturity_months-months, In-loop-j, Joined-class-tranche_word, Start, then-class-tranche_word+else-months-maturity_months, else-class-tranche_word}
 use Rattle.deal.proofs.inferred.reference_row.Goals as goal
 
+-- the sheet's tranches are few
 few : (c : Start) → tranche_count c.args.s.now ≤ 32
 few c = (tranches_within _ (tranches_counted _ c.requires.0.good)).1
 
+-- the turn's row is one of the sheet's
 row : (c : In-loop-j) → c.loop-j.j < tranche_count c.args.s.now
 row c = omega (arith, tranches_is _ _ c.requires.0)
 
+-- the months of the tranche and of the turn's row, by the layout's reporting date
 own_months :
     (c : After-maturity_months-months) → c.maturity_months-months.result ≡ months c.args.s.now c.args.i
 own_months c =
@@ -36,6 +33,7 @@ row_months :
 row_months c =
     c.maturity_months.ensures ∙ rw (reporting_date_is c.args.s.now c.args.l c.requires.0, c.tranche_word-then-class-tranche_word.ensures)
 
+-- the next rated row is a later one
 later :
     (c : Joined-class-tranche_word) → FirstRatedFrom c.args.s.now (c.loop-j.j + 1) (get_or c.args.next.now (c.loop-j.j + 1) 0)
 later c = c.requires.1.at_row (c.loop-j.j + 1) (omega arith) (omega (arith, tranches_is _ _ c.requires.0))
@@ -67,6 +65,7 @@ bounds-next-j c = omega (arith, row (goal.at.bounds-next-j c).In-loop-j, few (go
 pub loop-j-smaller : goal.loop-j-smaller
 loop-j-smaller c = omega (arith, (later (goal.at.loop-j-smaller c).Joined-class-tranche_word).at_least, row (goal.at.loop-j-smaller c).In-loop-j, tranches_is _ _ c.requires.0)
 
+-- the turn's row did not serve: its class is senior to the tranche's, or its maturity shorter
 pub loop-j-preserved : goal.loop-j-preserved
 loop-j-preserved c =
     let s = c.args.s.now in

@@ -1,10 +1,4 @@
 -- `reference_row`: none of the rows before the turn's is a reference, and the turn's is rated; the first reference is the row of 02's words. The measure is what is left of the tranches. No axioms.
--- the sheet's tranches are few
--- the table's figure for a row
--- the turn's row is one of the sheet's
--- the months of the tranche and of the turn's row, by the layout's reporting date
--- the next rated row is a later one
--- the turn's row did not serve: its class is senior to the tranche's, or its maturity shorter
 use mathlib.Core.Bool.{true, false}
 use mathlib.Core.Path.{◌≡◌}
 use Prim.Native.Nat.{ℕ, ◌-◌, ◌≤◌, ◌<◌}

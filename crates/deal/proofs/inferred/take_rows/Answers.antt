@@ -1,7 +1,4 @@
 -- `take_rows`: zeros are left where the deal infers none or no tranche is rated; else after i turns the table has what the first i tranches take, which fits a byte. The measure is what is left of the tranches. No axioms.
--- the sheet's tranches are few
--- the first rated row of all
--- the turn's tranche is one of the sheet's
 use mathlib.Core.Path.{◌≡◌, sym, ◌∙◌}
 use Prim.Native.Nat.{◌≤◌, ◌<◌}
 use native.Mathlib.Omega.{arith}
@@ -15,14 +12,17 @@ use Rattle.deal.proofs.NextRatedLaws.{none_taken, none_to_take, taken_next, take
 use Rattle.deal.proofs.inferred.take_rows.Goals.{After-next_rated, In-loop-i, Start}
 use Rattle.deal.proofs.inferred.take_rows.Goals as goal
 
+-- the sheet's tranches are few
 few : (c : Start) → tranche_count c.args.s.now ≤ 32
 few c = (tranches_within _ (tranches_counted _ c.requires.0.good)).1
 
+-- the first rated row of all
 first_of_all :
     (c : After-next_rated) → let s = c.args.s.now in
     FirstRatedFrom s 0 (get_or c.next_rated.new.next 0 0)
 first_of_all c = c.next_rated.ensures.at_row 0 (omega arith) (omega arith)
 
+-- the turn's tranche is one of the sheet's
 row : (c : In-loop-i) → c.loop-i.i < tranche_count c.args.s.now
 row c = omega (arith, tranches_is _ _ c.requires.0)
 

@@ -1,7 +1,4 @@
 -- `take_rows`: zeros are left where the deal infers none or no tranche is rated; else after i turns the table has what the first i tranches take, which fits a byte. The measure is what is left of the tranches. No axioms.
--- the sheet's tranches are few
--- the first rated row of all
--- the turn's tranche is one of the sheet's
 use Prim.Native.Nat.{◌-◌, ◌≤◌}
 use Rattle.judgement.specs.DealSheet.{tranche_count}
 use Rattle.deal.proofs.NextRatedLaws.{TakenTo}

@@ -1,22 +1,16 @@
 -- `taken_row`: the table has a rated row at itself and an unrated one at a later one. No axioms.
--- the sheet's tranches are few
--- the table's figure for the tranche's row
 use mathlib.Core.Bool.{true}
 use mathlib.Core.Path.{sym, ap, ◌∙◌}
-use Prim.Native.Nat.{ℕ, ◌+◌, ◌≤◌}
+use Prim.Native.Nat.{ℕ, ◌+◌}
 use native.Mathlib.Omega.{arith}
 use lib.ListN.{get_or}
-use Rattle.judgement.specs.DealSheet.{tranche_count}
 use Rattle.judgement.proofs.LayoutLaws.{tranches_is}
-use Rattle.judgement.proofs.SheetLimits.{tranches_counted, tranches_within}
 use Rattle.deal.specs.NextRated.{FirstRatedFrom}
 use Rattle.deal.proofs.NextRatedLaws.{taken_without_reference, taken_found}
 use Rattle.deal.proofs.inferred.taken_row.Goals.{Start}
 use Rattle.deal.proofs.inferred.taken_row.Goals as goal
 
-few : (c : Start) → tranche_count c.args.s.now ≤ 32
-few c = (tranches_within _ (tranches_counted _ c.requires.0.good)).1
-
+-- the table's figure for the tranche's row
 own_row : (c : Start) → FirstRatedFrom c.args.s.now c.args.i (get_or c.args.next.now c.args.i 0)
 own_row c = c.requires.1.at_row c.args.i (omega arith) (omega (arith, c.requires.2))
 

@@ -1,5 +1,4 @@
 -- `line_of`: what is held is at most the tranche's amount and no weight is above 125,000, so the products fit. No axioms.
--- what is held is at most the tranche's amount, and neither end of the weight is above 125,000
 use mathlib.Core.Path.{ap}
 use Prim.Native.Nat.{◌≤◌}
 use native.Mathlib.Omega.{arith}
@@ -10,6 +9,7 @@ use Rattle.weights.proofs.WeightLaws.{weight_at_most, weight_within}
 use Rattle.deal.proofs.lines.line_of.Goals.{After-weight-w}
 use Rattle.deal.proofs.lines.line_of.Goals as goal
 
+-- what is held is at most the tranche's amount, and neither end of the weight is above 125,000
 within :
     (c : After-weight-w) →
     (c.tranche_of-t.result.held ≤ 10000000000000) × (c.weight-w.result.low ≤ 125000) × (c.weight-w.result.high ≤ 125000)

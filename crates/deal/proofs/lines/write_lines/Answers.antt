@@ -1,5 +1,4 @@
 -- `write_lines`: after i turns the results are the first i lines and the rest of what was there. No axioms.
--- the turn's tranche is one of the sheet's
 use mathlib.Core.Path.{◌≡◌, ◌∙◌, ap}
 use Prim.Native.Nat.{◌<◌}
 use native.Mathlib.Omega.{arith}
@@ -10,6 +9,7 @@ use Rattle.deal.proofs.WrittenLines.{lines_none, length_so_far, line_put}
 use Rattle.deal.proofs.lines.write_lines.Goals.{In-loop-i}
 use Rattle.deal.proofs.lines.write_lines.Goals as goal
 
+-- the turn's tranche is one of the sheet's
 row : (c : In-loop-i) → c.loop-i.i < tranche_count c.args.s.now
 row c = omega (arith, tranches_is _ _ c.requires.0)
 

@@ -1,5 +1,4 @@
 -- `write_lines`: after i turns the results are the first i lines and the rest of what was there. No axioms.
--- the turn's tranche is one of the sheet's
 use mathlib.Core.List.{◌++◌}
 use mathlib.Core.Path.{◌≡◌}
 use Prim.Native.Nat.{◌*◌, ◌-◌, ◌≤◌}

@@ -1,9 +1,5 @@
 -- `class_points`: after j turns the table and the running sum are those of the first j tranches; 32 amounts of 10^13 fit 64 bits. The measure is what is
 -- left of the tranches. No axioms.
--- the pool's nominal is at least 1 and at most 10^13
--- the turn's tranche is one of the sheet's
--- the tranche's class and amount are what was read
--- the class is at most 32
 use mathlib.Core.Path.{◌≡◌}
 use Prim.Native.Nat.{◌≤◌, ◌<◌}
 use native.Mathlib.Nat.{add-zero}
@@ -16,14 +12,17 @@ use Rattle.deal.proofs.ClassPointsLaw.{filled_none, filled_put, filled_all, amou
 use Rattle.deal.proofs.tranches.class_points.Goals.{After-tranche_word-class, After-tranche_word-sum, In-loop-j, Start}
 use Rattle.deal.proofs.tranches.class_points.Goals as goal
 
+-- the pool's nominal is at least 1 and at most 10^13
 nominal_limits : (c : Start) → (0 < c.args.nominal) × (c.args.nominal ≤ 10000000000000)
 nominal_limits c =
     let limits = nominal_within c.args.s.now c.requires.0.good in
     (omega (arith, c.requires.1, limits), omega (arith, c.requires.1, limits))
 
+-- the turn's tranche is one of the sheet's
 row : (c : In-loop-j) → c.loop-j.j < tranche_count c.args.s.now
 row c = omega (arith, tranches_is _ _ c.requires.0)
 
+-- the tranche's class and amount are what was read
 own_class : (c : After-tranche_word-class) →
     c.tranche_word-class.result ≡ class c.args.s.now c.loop-j.j
 own_class c = c.tranche_word-class.ensures
@@ -32,6 +31,7 @@ own_amount : (c : After-tranche_word-sum) →
     c.tranche_word-sum.result ≡ amount c.args.s.now c.loop-j.j
 own_amount c = simp (c.tranche_word-sum.ensures, add-zero)
 
+-- the class is at most 32
 class_low : (c : After-tranche_word-class) → c.tranche_word-class.result ≤ 32
 class_low c =
     let s = c.args.s.now in

@@ -1,9 +1,5 @@
 -- `class_points`: after j turns the table and the running sum are those of the first j tranches; 32 amounts of 10^13 fit 64 bits. The measure is what is
 -- left of the tranches. No axioms.
--- the pool's nominal is at least 1 and at most 10^13
--- the turn's tranche is one of the sheet's
--- the tranche's class and amount are what was read
--- the class is at most 32
 use Prim.Native.Nat.{◌-◌, ◌≤◌}
 use Rattle.judgement.specs.DealSheet.{tranche_count}
 use Rattle.deal.proofs.ClassPointsLaw.{Filled}

@@ -1,9 +1,5 @@
 -- `judge_thickness`: as long as the loop runs, none of the tranches passed is too thin; the first that is decides. The measure is what is left of the
 -- tranches. No axioms.
--- ---- the next tranche, where none before it is too thin
--- the turn's tranche is one of the sheet's
--- what `is_thin` told of the tranche
--- the tranche's place, as a low number
 use mathlib.Core.Bool.{true, false}
 use mathlib.Core.List.{List}
 use mathlib.Core.Path.{◌≡◌, refl, sym, ◌∙◌}
@@ -34,15 +30,19 @@ next_faulty s i place found before row place_is =
     (first_of_stays (λ i. thin_verdict s i) (i + 1) (tranche_count s) (record { number = 13; place = place }) (omega arith)
     (first_of_next (λ i. thin_verdict s i) i before ∙ rw (found, place_is)))
 
+-- ---- the next tranche, where none before it is too thin
+-- the turn's tranche is one of the sheet's
 row : (c : In-loop-i) → c.loop-i.i < tranche_count c.args.s.now
 row c = omega (arith, tranches_is _ _ c.requires.0)
 
+-- what `is_thin` told of the tranche
 told : (c : After-is_thin) →
     let s = c.args.s.now in
     thin (tranche s c.loop-i.i) (terms s) ≡ c.is_thin.result
 told c =
     simp (← c.requires.1, ← c.tranche_of.ensures, c.is_thin.ensures)
 
+-- the tranche's place, as a low number
 place :
     (c : In-loop-i) → (c.args.l.first_tranche + 7 * c.loop-i.i ≡ tranche_at c.args.s.now c.loop-i.i) ×
     (tranche_at c.args.s.now c.loop-i.i ≤ place_limit)

@@ -1,9 +1,5 @@
 -- `judge_thickness`: as long as the loop runs, none of the tranches passed is too thin; the first that is decides. The measure is what is left of the
 -- tranches. No axioms.
--- ---- the next tranche, where none before it is too thin
--- the turn's tranche is one of the sheet's
--- what `is_thin` told of the tranche
--- the tranche's place, as a low number
 use mathlib.Core.Path.{◌≡◌}
 use Prim.Native.Nat.{◌-◌, ◌≤◌}
 use Rattle.judgement.specs.DealSheet.{tranche_count}

@@ -1,9 +1,5 @@
 -- `tranche_of`: each word is read from its own place, the ratings from the row that counts, the months are by the sheet's reporting date, and the points are those between the class after it and
 -- its own, which the table holds. No axioms.
--- what is made of the words read and of the table is the tranche
--- the sheet's tranches are few, and the class is at most 32
--- what the table has for the tranche: a number that fits a byte, and by it the row whose ratings count, which is one of the sheet's
--- the months are those of the maturity's word, by the layout's reporting date
 use mathlib.Core.List.{List}
 use mathlib.Core.Path.{◌≡◌, ◌∙◌}
 use Prim.Native.Nat.{ℕ, ◌+◌, ◌≤◌, ◌<◌}
@@ -23,6 +19,7 @@ use Rattle.deal.proofs.NextRatedLaws.{taken_small, row_of_taken}
 use Rattle.deal.proofs.tranches.tranche_of.Goals.{After-maturity_months, After-rating_row-row, After-tranche_word-class, Start}
 use Rattle.deal.proofs.tranches.tranche_of.Goals as goal
 
+-- what is made of the words read and of the table is the tranche
 made :
     {points : List ℕ} (s : List ℕ) (i own m h row x y z : ℕ) → ClassPoints s points → i < tranche_count s → own ≡ class s i →
     m ≡ months s i → h ≡ held s i → row ≡ rating_row (terms s) s i →
@@ -57,6 +54,7 @@ class_low : (c : After-tranche_word-class) → c.tranche_word-class.result ≤ 3
 class_low c =
     omega (arith, c.tranche_word-class.ensures, (class_within c.args.s.now c.args.i c.requires.0.good c.requires.3).1, (tranches_within _ (tranches_counted _ c.requires.0.good)).1)
 
+-- what the table has for the tranche: a number that fits a byte, and by it the row whose ratings count, which is one of the sheet's
 taken : (c : Start) → get_or c.args.taken.now c.args.i 0 ≤ 32
 taken c =
     let s = c.args.s.now in
@@ -70,6 +68,7 @@ counting_row c =
     let is = c.rating_row-row.ensures ∙ row_of_taken (terms s) s c.args.i _ (c.requires.2.at_row c.args.i c.requires.3) in
     (is, omega (arith, is, rating_row_within s c.args.i (terms s) c.requires.3))
 
+-- the months are those of the maturity's word, by the layout's reporting date
 own_months :
     (c : After-maturity_months) → c.maturity_months.result ≡ months c.args.s.now c.args.i
 own_months c =
