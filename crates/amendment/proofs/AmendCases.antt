@@ -4,8 +4,7 @@ use mathlib.Core.List.{List, [], ◌∷◌}
 use mathlib.Core.Path.{◌≡◌, refl}
 use Prim.Native.Nat.{ℕ}
 use Rattle.judgement.specs.Refusals.{refused, first_of}
-use Rattle.judgement.specs.declared.Verdict.{Verdict}
-use Rattle.judgement.specs.declared.Verdict.TheVariants.{Sound}
+use Rattle.judgement.specs.Verdicts.{Verdict, Sound}
 use Rattle.amendment.specs.Amendment.{amendment_judged}
 
 -- in an ordinary deal of three rows, its weights in whole percent and in hundredths of a percent, and in a re-securitisation

@@ -9,8 +9,7 @@ use lib.Seq.{sets}
 use Rattle.numbers.proofs.SmallerLarger.{le_or_lt}
 use Rattle.judgement.specs.DealSheet.{word, row_at}
 use Rattle.judgement.specs.Refusals.{words_verdict}
-use Rattle.judgement.specs.declared.Verdict.{Verdict}
-use Rattle.judgement.specs.declared.Verdict.TheVariants.{Sound, Faulty}
+use Rattle.judgement.specs.Verdicts.{Verdict, Sound, Faulty}
 use Rattle.charge.specs.declared.Sums.{Sums}
 use Rattle.pool.specs.PoolSums.{pool_sums}
 use Rattle.pool.specs.SummedPool.{OpenedPool}

@@ -9,8 +9,7 @@ use Rattle.faults.proofs.FaultLaws.{no_fault_within}
 use Rattle.faults.proofs.GoodWordsLaw as row
 use Rattle.judgement.specs.DealSheet.{word, resecuritisation, in_hundredths, rows}
 use Rattle.judgement.specs.JudgedWords.{WordsGoodBy}
-use Rattle.judgement.specs.declared.Refusal.{Refusal}
-use Rattle.judgement.specs.declared.Verdict.TheVariants.{Sound, Faulty}
+use Rattle.judgement.specs.Verdicts.{Refusal, Sound, Faulty}
 use Rattle.judgement.proofs.JudgedWords.{why_refused, refused_so, what_accepted, accepted_so}
 use Rattle.amendment.specs.Amendment.{amendment_size, amendment_judged, amendment_verdict, amended_row}
 use Rattle.amendment.specs.JudgedAmendment.{fault_at, AmendmentRefusal, GoodAmendment}

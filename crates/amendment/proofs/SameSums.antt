@@ -1,9 +1,10 @@
 -- Totals and sums are the same where each number of them is. No axioms.
-use mathlib.Core.Bool.{false, true≢false}
-use mathlib.Core.Path.{◌≡◌, sym, ap, ◌∙◌}
+use mathlib.Core.Bool.{Bool, true, false, true≢false, ◌&&◌}
+use mathlib.Core.Path.{◌≡◌, refl, sym, ap, ◌∙◌}
 use Prim.Native.Nat.{ℕ}
 use lib.Dec.{eqb}
-use borrow.Author.Tests.{eqb-true, eqb-false}
+use borrow.Author.Tests.{eqb-true, eq-eqb}
+use Rattle.numbers.proofs.Tests.{both_true}
 use Rattle.charge.specs.declared.Sums.{Sums}
 use Rattle.charge.specs.declared.Totals.{Totals}
 use Rattle.amendment.specs.OpenedPool.{Tells}
@@ -31,6 +32,30 @@ same_sums p q a k l =
 pub tells_no : {A : Type 0} → (A → ⊥) → Tells false A
 tells_no h = record { yes = λ e. absurd (true≢false (sym e)); no = λ e. h }
 
--- by a test of two numbers, to which all else comes down
-pub tells_by_test : {A : Type 0} (a b : ℕ) → (a ≡ b → A) → (A → a ≡ b) → Tells (eqb a b) A
-tells_by_test a b to from = record { yes = λ e. to (eqb-true a b e); no = λ e h. eqb-false a b e (from h) }
+-- by the test of each number
+
+abbrev totals_test : Totals → Totals → Bool
+totals_test t u = eqb t.exposure u.exposure && (eqb t.nominal u.nominal && eqb t.weighted u.weighted)
+
+abbrev sums_test : Sums → Sums → Bool
+sums_test p q = totals_test p.all q.all && (totals_test p.known q.known && eqb p.late q.late)
+
+same_by_test : (t u : Totals) → totals_test t u ≡ true → u ≡ t
+same_by_test t u e =
+    let first = both_true (eqb t.exposure u.exposure) _ e in
+    let rest = both_true (eqb t.nominal u.nominal) (eqb t.weighted u.weighted) first.1 in
+    same_totals u t (sym (eqb-true _ _ first.0)) (sym (eqb-true _ _ rest.0)) (sym (eqb-true _ _ rest.1))
+
+test_of_itself : (t : Totals) → totals_test t t ≡ true
+test_of_itself t = simp (eq-eqb t.exposure t.exposure refl, eq-eqb t.nominal t.nominal refl, eq-eqb t.weighted t.weighted refl)
+
+pub told_same : (p q : Sums) → Tells (sums_test p q) (q ≡ p)
+told_same p q = record {
+  yes = λ e.
+      let all = both_true (totals_test p.all q.all) _ e in
+      let rest = both_true (totals_test p.known q.known) (eqb p.late q.late) all.1 in
+      same_sums q p (same_by_test p.all q.all all.0) (same_by_test p.known q.known rest.0) (sym (eqb-true _ _ rest.1));
+  no = λ e same.
+      let itself : sums_test p p ≡ true = simp (test_of_itself p.all, test_of_itself p.known, eq-eqb p.late p.late refl) in
+      true≢false (sym itself ∙ rw same at e);
+}

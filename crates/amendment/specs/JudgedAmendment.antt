@@ -5,7 +5,7 @@ use Rattle.limits.specs.SheetSize.{row_size}
 use Rattle.faults.specs.GoodWords.{GoodRow}
 use Rattle.judgement.specs.DealSheet.{word, resecuritisation, in_hundredths, rows, row_at}
 use Rattle.judgement.specs.JudgedWords.{WordsRefusalBy}
-use Rattle.judgement.specs.declared.Refusal.{Refusal}
+use Rattle.judgement.specs.Verdicts.{Refusal}
 use Rattle.amendment.specs.Amendment.{amendment_size, amendment_fault, amended_row}
 
 -- the fault of the word at place p of an amendment m of the sheet s

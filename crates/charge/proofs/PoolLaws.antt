@@ -25,14 +25,16 @@ base_at_most_million t l = rounded_up_at_most _ _ 1000000 (omega (arith, l.weigh
 pub late_at_most_million : (q : Sums) → SumLimits q → late_share q ≤ 1000000
 late_at_most_million q l = rounded_up_at_most _ _ 1000000 (omega arith)
 
-pub known_charge_at_most_million : (q : Sums) → SumLimits q → known_charge q ≤ 1000000
-unfolding known_charge
-known_charge_at_most_million q l =
-    rounded_up_at_most ((1000000 - late_share q) * base_charge q.known + 500000 * late_share q) 1000000 1000000
-    (total (base_charge q.known) (late_share q) (base_at_most_million q.known (known_limits q l)) (late_at_most_million q l))
+-- what the late share and the rest are charged, before it is divided by a million
+pub known_parts_at_most : (q : Sums) → SumLimits q → (1000000 - late_share q) * base_charge q.known + 500000 * late_share q ≤ 1000000 * 1000000
+known_parts_at_most q l = total (base_charge q.known) (late_share q) (base_at_most_million q.known (known_limits q l)) (late_at_most_million q l)
   where
     total : (base late : ℕ) → base ≤ 1000000 → late ≤ 1000000 → (1000000 - late) * base + 500000 * late ≤ 1000000 * 1000000
     total base late b h = omega (arith, mul-le-mul_left (1000000 - late) b)
+
+pub known_charge_at_most_million : (q : Sums) → SumLimits q → known_charge q ≤ 1000000
+unfolding known_charge
+known_charge_at_most_million q l = rounded_up_at_most _ 1000000 1000000 (known_parts_at_most q l)
 
 pub pool_charge_at_most_million : (q : Sums) → SumLimits q → pool_charge q ≤ 1000000
 unfolding pool_charge

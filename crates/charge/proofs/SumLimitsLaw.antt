@@ -1,6 +1,6 @@
 -- The tests of a pool's sums and of an IRB section's figures, and the limits in plain relations, say the same. No axioms.
-use mathlib.Core.Bool.{Bool, true, false}
-use mathlib.Core.Path.{◌≡◌, refl}
+use mathlib.Core.Bool.{true}
+use mathlib.Core.Path.{◌≡◌}
 use borrow.Author.Tests.{le-leb, leb-true}
 use Rattle.numbers.proofs.Tests.{both_true}
 use Rattle.charge.specs.SumLimits.{sums_within, SumLimits, irb_within, IrbLimits}
@@ -35,13 +35,6 @@ test_of_limits q l =
       le-leb _ _ l.known_nominal_most,
       le-leb _ _ l.late_among_known,
     )
-
-pub test_outside : (q : Sums) → (SumLimits q → ⊥) → sums_within q ≡ false
-test_outside q outside = tested (sums_within q) refl
-  where
-    tested : (b : Bool) → sums_within q ≡ b → b ≡ false
-    tested true e = absurd (outside (limits_of_test q e))
-    tested false e = refl
 
 -- ---- the figures of an IRB section
 

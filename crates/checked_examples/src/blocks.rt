@@ -1,25 +1,25 @@
-// Totals by portfolio of pools whose rows all differ, so that a row in the wrong block shows, and the sums of single blocks, past the last one too.
+// Totals by portfolio of pools whose rows all differ, so that a row in the wrong block shows, and the sums of single
+// blocks, past the last one too.
 ghost use Rattle.std.specs.Prelude.{◌≤◌, ◌<◌};
 ghost use Rattle.limits.specs.SheetSize.{rows_most};
 ghost use Rattle.buffers.specs.CountWithin.{HasBytes};
 
-use crate::conversions::{print_converted, words_within};
+use crate::conversions::print_converted;
 use crate::edges::{FIRST_ROW, POOL_AT, THIN, print_refusal};
 use crate::examples::print_texts;
-use crate::figures::print_labelled;
-use crate::output::print_text;
-use charge::{Sums, Totals};
+use charge::Sums;
 use limits::{BYTE_LIMIT, FACTS_MOST, ROW_SIZE, ROWS_MOST, TRANCHE_SIZE, WORD_LIMIT};
-use pool::Block;
 
-// The exposure of row i, from 0. In an ordinary deal every third row is of unknown status, and these have so little that they stay below 5%.
+// The exposure of row i, from 0. In an ordinary deal every third row is of unknown status, and these have so little
+// that they stay below 5%.
 fn exposure_of(i: u64) -> u64
     requires { i < rows_most }
 {
     if i % 3 == 2 { i + 1 } else { 1000000 + i }
 }
 
-// The status of row i, from 0. As 50 is no multiple of 3, each status of an ordinary deal comes first in some block and last in another.
+// The status of row i, from 0. As 50 is no multiple of 3, each status of an ordinary deal comes first in some block and
+// last in another.
 fn status_of(i: u64, resecuritisation: u64) -> u64 {
     if resecuritisation == 1 { 3 } else { i % 3 }
 }
@@ -33,23 +33,23 @@ fn weight_of(i: u64, unit: u64) -> u64
 
 // A sheet with the most pool rows, of which no two have an exposure, a nominal amount or a risk weight in common.
 fn with_different_rows(
-    sheet: [u64; WORD_LIMIT],
+    mut sheet: [u64; WORD_LIMIT],
     resecuritisation: u64,
     unit: u64,
 ) -> [u64; WORD_LIMIT] {
-    let mut filled = sheet;
     for i in 0..ROWS_MOST {
         let at = FIRST_ROW + ROW_SIZE * i;
-        filled[at] = exposure_of(i as u64);
-        filled[at + 1] = 2000000 + 3 * i as u64;
-        filled[at + 2] = weight_of(i as u64, unit);
-        filled[at + 3] = status_of(i as u64, resecuritisation);
+        sheet[at] = exposure_of(i as u64);
+        sheet[at + 1] = 2000000 + 3 * i as u64;
+        sheet[at + 2] = weight_of(i as u64, unit);
+        sheet[at + 3] = status_of(i as u64, resecuritisation);
     }
-    filled
+    sheet
 }
 
-// A sheet whose pool is so many of these rows, with one tranche of 10^6, of class 1, 60 months, held in full and rated below CCC-: in an ordinary deal the cap
-// lowers its 1250% to the average of the pool. What follows the tranche is no part of the sheet.
+// A sheet whose pool is so many of these rows, with one tranche of 10^6, of class 1, 60 months, held in full and rated
+// below CCC-: in an ordinary deal the cap lowers its 1250% to the average of the pool. What follows the tranche is no
+// part of the sheet.
 fn different_sheet(rows: usize, resecuritisation: u64, unit: u64) -> [u64; WORD_LIMIT]
     requires { rows ≤ rows_most }
 {
@@ -73,12 +73,13 @@ fn different_sheet(rows: usize, resecuritisation: u64, unit: u64) -> [u64; WORD_
     sheet
 }
 
-// How many words a sheet of so many different rows has, with so many more at its end. Promised: the lent list has so many (`HasBytes`, here of words), so that a caller can cut it there.
+// How many words a sheet of so many different rows has, with so many more at its end. Promised: the lent list has so
+// many (`HasBytes`, here of words), so that a caller can cut it there.
 fn different_length(rows: usize, more: usize, sheet: &[u64]) -> usize
     requires { (rows ≤ rows_most) × (more ≤ 1) }
     ensures { HasBytes result sheet.now }
 {
-    words_within(
+    buffers::within(
         (FIRST_ROW + ROW_SIZE * rows + 1 + TRANCHE_SIZE + more) as u64,
         sheet,
     )
@@ -91,10 +92,9 @@ fn print_pool<O: Print>(out: &O, rows: usize, resecuritisation: u64, unit: u64)
     let sheet = different_sheet(rows, resecuritisation, unit);
     let length = different_length(rows, 0, &sheet);
     let mut file = [0u8; BYTE_LIMIT];
-    print_labelled(out, "different rows ", rows as u64);
-    print_labelled(out, ", re-securitisation ", resecuritisation);
-    print_labelled(out, ", unit ", unit);
-    print_text(out, "\n");
+    let _ = println!(out;
+        "different rows {rows}, re-securitisation {resecuritisation}, unit {unit}"
+    );
     if files::store(&sheet[..length], &mut file) {
         let size = buffers::within(8 * length as u64, &file);
         print_texts(out, &file[..size]);
@@ -102,8 +102,8 @@ fn print_pool<O: Print>(out: &O, rows: usize, resecuritisation: u64, unit: u64)
     print_converted(out, &sheet[..length], true);
 }
 
-// Writes both texts of the smallest pool, of pools that end before, at and just past the end of a block, of the largest one, of one in a re-securitisation and
-// of some in hundredths of a percent; and how each is converted.
+// Writes both texts of the smallest pool, of pools that end before, at and just past the end of a block, of the largest
+// one, of one in a re-securitisation and of some in hundredths of a percent; and how each is converted.
 pub(crate) fn print_pools<O: Print>(out: &O) {
     print_pool(out, 1, 0, 0);
     print_pool(out, 49, 0, 0);
@@ -119,33 +119,21 @@ pub(crate) fn print_pools<O: Print>(out: &O) {
     print_pool(out, 1000, 0, 1);
 }
 
-// Writes three sums, with a space before each.
-fn print_three<O: Print>(out: &O, t: Totals) {
-    print_labelled(out, " ", t.exposure);
-    print_labelled(out, " ", t.nominal);
-    print_labelled(out, " ", t.weighted);
-}
-
 // Writes a line: the seven sums of a block.
 pub(crate) fn print_sums<O: Print>(out: &O, q: Sums) {
-    print_three(out, q.all);
-    print_three(out, q.known);
-    print_labelled(out, " ", q.late);
-    print_text(out, "\n");
+    let (all, known, late) = (q.all, q.known, q.late);
+    let _ = println!(out;
+        "{} {} {} {} {} {} {late}",
+        all.exposure, all.nominal, all.weighted, known.exposure, known.nominal, known.weighted
+    );
 }
 
-// Writes the name of a sheet with its number of rows, the number of a block, and what a caller reads of it.
+// Writes a line: the name of a sheet with its number of rows, the number of a block, and what a caller reads of it.
 fn print_block<O: Print>(out: &O, name: &str, rows: u64, sheet: &[u64], block: u64) {
-    print_labelled(out, name, rows);
-    print_labelled(out, ", block ", block);
-    print_text(out, ":");
-    let read = pool::sum_block(sheet, block);
-    match read {
-        Block::Summed(q) => print_sums(out, q),
-        Block::Refused(r) => {
-            print_text(out, " ");
-            print_refusal(out, r);
-        }
+    let _ = print!(out; "{name}{rows}, block {block}: ");
+    match pool::sum_block(sheet, block) {
+        Ok(q) => print_sums(out, q),
+        Err(r) => print_refusal(out, r),
     }
 }
 
@@ -171,7 +159,8 @@ fn print_different<O: Print>(out: &O, name: &str, rows: usize, unit: u64)
     print_blocks(out, name, rows as u64, &sheet[..length]);
 }
 
-// Writes some blocks of two sheets of 51 different rows that are refused: with 3, and with 6 for the risk weight of the last row, which block 1 has alone.
+// Writes some blocks of two sheets of 51 different rows that are refused: with 3, and with 6 for the risk weight of the
+// last row, which block 1 has alone.
 fn print_refused<O: Print>(out: &O) {
     let longer = different_sheet(51, 0, 0);
     let length = different_length(51, 1, &longer);
@@ -182,7 +171,8 @@ fn print_refused<O: Print>(out: &O) {
     print_blocks(out, "the last risk weight 1251, rows ", 51, &bad[..size]);
 }
 
-// Writes single blocks of accepted sheets, of refused ones, and of one that is refused where it is weighed, with 13, which no block gets.
+// Writes single blocks of accepted sheets, of refused ones, and of one that is refused where it is weighed, with 13,
+// which no block gets.
 pub(crate) fn print_single_blocks<O: Print>(out: &O) {
     print_different(out, "different rows ", 50, 0);
     print_different(out, "different rows ", 51, 0);
@@ -190,6 +180,5 @@ pub(crate) fn print_single_blocks<O: Print>(out: &O) {
     print_different(out, "hundredths, different rows ", 51, 1);
     print_different(out, "hundredths, different rows ", 1000, 1);
     print_refused(out);
-    let thin = THIN;
-    print_blocks(out, "thin tranche, rows ", 2, &thin);
+    print_blocks(out, "thin tranche, rows ", 2, &THIN);
 }

@@ -1,13 +1,10 @@
-// Sheets in the other unit of their risk weights: how each is converted, with room enough, with an exact fit, with a word too few and with words to spare.
-ghost use Rattle.buffers.specs.CountWithin.{HasBytes};
-
+// Sheets in the other unit of their risk weights: how each is converted, with room enough, with an exact fit, with a
+// word too few and with words to spare.
 use crate::edges::{THIN, print_refusal};
-use crate::figures::print_labelled;
-use crate::output::print_text;
-use conversion::Converted;
 use limits::WORD_LIMIT;
 
-// The smallest deal, of four facts and in whole percent: 18 words, and 21 in the other unit. The last word is one too many.
+// The smallest deal, of four facts and in whole percent: 18 words, and 21 in the other unit. The last word is one too
+// many.
 const PERCENT: [u64; 19] = [
     4, 0, 0, 1, 1, 1, 1000, 1000, 100, 0, 1, 1000, 1, 60, 1000, 0, 0, 0, 0,
 ];
@@ -22,52 +19,39 @@ const UNTOUCHED: u64 = 999;
 
 // Writes a line: words, with a space before each.
 pub(crate) fn print_words<O: Print>(out: &O, words: &[u64]) {
-    for i in 0..words.len() {
-        print_labelled(out, " ", words[i]);
+    for word in words {
+        let _ = print!(out; " {word}");
     }
-    print_text(out, "\n");
+    let _ = println!(out);
 }
 
 // A checksum of words, in which the place of each counts.
 fn checksum(words: &[u64]) -> u64 {
-    let mut sum = 0;
-    for i in 0..words.len() {
-        sum = (31 * sum + words[i] % 1000003) % 1000003;
-    }
-    sum
+    words
+        .iter()
+        .fold(0, |sum, word| (31 * sum + word % 1000003) % 1000003)
 }
 
-// A number of words at the start of a list: n where it has so many, else 0. Promised: the list has so many (`HasBytes`, here of words).
-pub(crate) fn words_within(n: u64, words: &[u64]) -> usize
-    ensures { HasBytes result words.now }
-{
-    if n <= words.len() as u64 {
-        n as usize
-    } else {
-        0
-    }
-}
-
-// Writes a line: how many words were written to the start of the output, and they, or their checksum where they are many.
+// Writes a line: how many words were written to the start of the output, and they, or their checksum where they are
+// many.
+// The count stays beside the list: it comes as the answer of what wrote it.
 fn print_written<O: Print>(out: &O, n: u64, output: &[u64], many: bool) {
-    print_labelled(out, "converted ", n);
-    let length = words_within(n, output);
+    let length = buffers::within(n, output);
+    let words = &output[..length];
     if many {
-        print_labelled(out, ", checksum ", checksum(&output[..length]));
-        print_text(out, "\n");
+        let _ = println!(out; "converted {n}, checksum {}", checksum(words));
     } else {
-        print_text(out, ":");
-        print_words(out, &output[..length]);
+        let _ = print!(out; "converted {n}:");
+        print_words(out, words);
     }
 }
 
 // Writes a line: how a sheet is converted where there is room for every sheet.
 pub(crate) fn print_converted<O: Print>(out: &O, sheet: &[u64], many: bool) {
     let mut output = [0u64; WORD_LIMIT];
-    let converted = conversion::convert(sheet, &mut output);
-    match converted {
-        Converted::Written(n) => print_written(out, n, &output, many),
-        Converted::Refused(r) => print_refusal(out, r),
+    match conversion::convert(sheet, &mut output) {
+        Ok(n) => print_written(out, n, &output, many),
+        Err(r) => print_refusal(out, r),
     }
 }
 
@@ -81,28 +65,26 @@ pub(crate) fn words_of(file: &[u8]) -> [u64; WORD_LIMIT] {
 // Writes a line: how the sheet of a file is converted.
 pub(crate) fn print_file_converted<O: Print>(out: &O, file: &[u8]) {
     let words = words_of(file);
-    let length = words_within(file.len() as u64 / 8, &words);
+    let length = buffers::within(file.len() as u64 / 8, &words);
     print_converted(out, &words[..length], false);
 }
 
-// Writes the name of a sheet, how many words are lent for its conversion, the answer, and the lent words as they are after it.
+// Writes the name of a sheet, how many words are lent for its conversion, the answer, and the lent words as they are
+// after it.
 fn print_lent<O: Print>(out: &O, name: &str, sheet: &[u64], output: &mut [u64]) {
-    print_text(out, name);
-    print_labelled(out, ", output of ", output.len() as u64);
-    print_text(out, " words: ");
-    let converted = conversion::convert(sheet, &mut *output);
-    match converted {
-        Converted::Written(n) => {
-            print_labelled(out, "converted ", n);
-            print_text(out, "\n");
+    let _ = print!(out; "{name}, output of {} words: ", output.len());
+    match conversion::convert(sheet, output) {
+        Ok(n) => {
+            let _ = println!(out; "converted {n}");
         }
-        Converted::Refused(r) => print_refusal(out, r),
+        Err(r) => print_refusal(out, r),
     }
-    print_text(out, "output:");
+    let _ = print!(out; "output:");
     print_words(out, output);
 }
 
-// Writes how a sheet that needs 21 words is converted with none, with one too few, with an exact fit and with two to spare.
+// Writes how a sheet that needs 21 words is converted with none, with one too few, with an exact fit and with two to
+// spare.
 fn print_rooms<O: Print>(out: &O, name: &str, sheet: &[u64]) {
     let mut none = [UNTOUCHED; 23];
     print_lent(out, name, sheet, &mut none[..0]);
@@ -114,11 +96,11 @@ fn print_rooms<O: Print>(out: &O, name: &str, sheet: &[u64]) {
     print_lent(out, name, sheet, &mut spare);
 }
 
-// Writes how a sheet of four facts, which needs more words than it has, is converted; 3 and the refusals of the words come before 14.
+// Writes how a sheet of four facts, which needs more words than it has, is converted; 3 and the refusals of the words
+// come before 14.
 fn print_rooms_from_percent<O: Print>(out: &O) {
-    let percent = PERCENT;
-    print_rooms(out, "four facts", &percent[..18]);
-    print_rooms(out, "four facts, a word too many", &percent);
+    print_rooms(out, "four facts", &PERCENT[..18]);
+    print_rooms(out, "four facts, a word too many", &PERCENT);
     let mut bad = PERCENT;
     bad[8] = 1251;
     print_rooms(out, "four facts, risk weight 1251", &bad[..18]);
@@ -126,20 +108,19 @@ fn print_rooms_from_percent<O: Print>(out: &O) {
 
 // Writes how a sheet in hundredths is converted; 19 comes before 14.
 fn print_rooms_from_hundredths<O: Print>(out: &O) {
-    let hundredths = HUNDREDTHS;
-    print_rooms(out, "hundredths", &hundredths);
+    print_rooms(out, "hundredths", &HUNDREDTHS);
     let mut uneven = HUNDREDTHS;
     uneven[11] = 12550;
     print_rooms(out, "hundredths, risk weight 12550", &uneven);
 }
 
-// Writes how sheets are converted with too few words, an exact fit and more; and the deal that 13 refuses where it is weighed, which no conversion gets.
+// Writes how sheets are converted with too few words, an exact fit and more; and the deal that 13 refuses where it is
+// weighed, which no conversion gets.
 pub(crate) fn print_outputs<O: Print>(out: &O) {
     print_rooms_from_percent(out);
     print_rooms_from_hundredths(out);
-    let thin = THIN;
     let mut short = [UNTOUCHED; 39];
-    print_lent(out, "thin tranche", &thin, &mut short[..38]);
+    print_lent(out, "thin tranche", &THIN, &mut short[..38]);
     let mut exact = [UNTOUCHED; 39];
-    print_lent(out, "thin tranche", &thin, &mut exact);
+    print_lent(out, "thin tranche", &THIN, &mut exact);
 }

@@ -1,11 +1,9 @@
 // The examples that are written as sheets, and as sheets with amendments: each argument names one.
 use crate::amendments::{is_amended, print_amended};
 use crate::conversions::print_file_converted;
-use crate::output::{print_bytes, print_text};
 use crate::reading;
 use limits::BYTE_LIMIT;
-use report::{TEXT_ROOM, TOTALS_ROOM, Written};
-use sheet_text::Made;
+use report::{NoRoom, TEXT_ROOM, TOTALS_ROOM};
 use std::rt::{Env, Files};
 
 // The most bytes of an example's name.
@@ -15,10 +13,10 @@ const NAME_ROOM: usize = 4096;
 const SHEET_ROOM: usize = 65536;
 
 // Writes a text that was written whole to the start of a buffer.
-fn print_written<O: Print>(out: &O, written: Written, text: &[u8]) {
-    if let Written::Whole(n) = written {
+fn print_written<O: Print>(out: &O, written: Result<u64, NoRoom>, text: &[u8]) {
+    if let Ok(n) = written {
         let length = buffers::within(n, text);
-        print_bytes(out, &text[..length]);
+        let _ = out.write_all(&text[..length]);
     }
 }
 
@@ -36,13 +34,15 @@ fn print_totals<O: Print>(out: &O, file: &[u8]) {
     print_written(out, written, &text);
 }
 
-// Writes both texts of a file, the report and the totals by portfolio, which a refusal with 13 in the report does not keep back.
+// Writes both texts of a file, the report and the totals by portfolio, which a refusal with 13 in the report does not
+// keep back.
 pub(crate) fn print_texts<O: Print>(out: &O, file: &[u8]) {
     print_report(out, file);
     print_totals(out, file);
 }
 
-// Writes both texts of a sheet's file and how it is converted; of an example of amendments what becomes of its opened pool.
+// Writes both texts of a sheet's file and how it is converted; of an example of amendments what becomes of its opened
+// pool.
 fn print_file<O: Print>(out: &O, file: &[u8]) {
     if is_amended(file) {
         print_amended(out, file);
@@ -55,12 +55,11 @@ fn print_file<O: Print>(out: &O, file: &[u8]) {
 // Writes what is said of a sheet, or of a sheet and its amendments, that is written as a text.
 fn print_sheet<O: Print>(out: &O, text: &[u8]) {
     let mut file = [0u8; BYTE_LIMIT];
-    let made = sheet_text::sheet_bytes(text, &mut file);
-    if let Made::Bytes(n) = made {
+    if let Ok(n) = sheet_text::sheet_bytes(text, &mut file) {
         let length = buffers::within(n, &file);
         print_file(out, &file[..length]);
     } else {
-        print_text(out, "no sheet\n");
+        let _ = println!(out; "no sheet");
     }
 }
 
@@ -68,17 +67,16 @@ fn print_sheet<O: Print>(out: &O, text: &[u8]) {
 fn print_example<R: Env + Files + Input + Print, E: Print>(rt: &R, err: &E, i: usize) {
     let mut name = [0u8; NAME_ROOM];
     let length = rt.arg(i, &mut name).unwrap_or(0);
-    print_bytes(rt, &name[..length]);
-    print_text(rt, "\n");
+    let _ = rt.write_all(&name[..length]);
+    let _ = println!(rt);
     let mut text = [0u8; SHEET_ROOM];
-    let read = reading::read_argument(rt, err, i, b"usage: checked_examples FILE...\n", &mut text);
-    let size = read.size;
-    if read.ok {
-        if size < text.len() {
-            print_sheet(rt, &text[..size]);
-        } else {
-            print_text(rt, "too long\n");
+    let usage = b"usage: checked_examples FILE...\n";
+    match reading::read_argument(rt, err, i, usage, &mut text) {
+        Some(size) if size < SHEET_ROOM => print_sheet(rt, &text[..size]),
+        Some(_) => {
+            let _ = println!(rt; "too long");
         }
+        None => {}
     }
 }
 

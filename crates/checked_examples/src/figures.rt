@@ -1,55 +1,27 @@
-// Single figures: tranche maturities, raw weights of the formula, entries of the decay table. The reason for each number of the stored text stands beside it; values are cut after six decimals.
-use crate::output::{print_number, print_text};
-use formula::RawWeight;
-use numbers::Ends;
-
-// Writes a label and the number that it labels.
-pub(crate) fn print_labelled<O: Print>(out: &O, label: &str, n: u64) {
-    print_text(out, label);
-    print_number(out, n);
-}
-
-// Writes a line: a figure's value.
-fn print_value<O: Print>(out: &O, n: u64) {
-    print_labelled(out, ": ", n);
-    print_text(out, "\n");
-}
+// Single figures: tranche maturities, raw weights of the formula, entries of the decay table. The reason for each
+// number of the stored text stands beside it; values are cut after six decimals.
+use formula::NoRawWeight;
 
 // Writes the maturity in fifths of a month that a number of months counts as.
 fn print_maturity<O: Print>(out: &O, months: u64) {
-    print_labelled(out, "maturity of months ", months);
-    print_value(out, ratings::maturity_fifths(months));
-}
-
-// Writes a line: a figure's low end and its high end.
-fn print_ends<O: Print>(out: &O, e: Ends) {
-    print_labelled(out, ": ", e.low);
-    print_labelled(out, " to ", e.high);
-    print_text(out, "\n");
+    let fifths = ratings::maturity_fifths(months);
+    let _ = println!(out; "maturity of months {months}: {fifths}");
 }
 
 // Writes the raw weight of the formula, its low number and its high one.
 fn print_raw_weight<O: Print>(out: &O, a: u64, d: u64, k: u64, p: u64) {
-    print_labelled(out, "raw weight at A ", a);
-    print_labelled(out, " D ", d);
-    print_labelled(out, " K ", k);
-    print_labelled(out, " p ", p);
-    let raw = formula::raw_weight(a, d, k, p);
-    match raw {
-        RawWeight::Weight(e) => print_ends(out, e),
-        RawWeight::NoThickness => {
-            print_text(out, ": no thickness\n");
-        }
-        RawWeight::OutsideLimits => {
-            print_text(out, ": outside limits\n");
-        }
-    }
+    let _ = print!(out; "raw weight at A {a} D {d} K {k} p {p}: ");
+    let _ = match formula::raw_weight(a, d, k, p) {
+        Ok(e) => println!(out; "{} to {}", e.low, e.high),
+        Err(NoRawWeight::NoThickness) => println!(out; "no thickness"),
+        Err(NoRawWeight::OutsideLimits) => println!(out; "outside limits"),
+    };
 }
 
 // Writes an entry of the decay table.
 fn print_decay<O: Print>(out: &O, n: u64) {
-    print_labelled(out, "decay entry ", n);
-    print_value(out, formula::decay_entry(n));
+    let entry = formula::decay_entry(n);
+    let _ = println!(out; "decay entry {n}: {entry}");
 }
 
 // Writes the maturities that some numbers of months count as: 4 × months + 12, held within 60 and 300.
@@ -76,8 +48,9 @@ fn print_settled_weights<O: Print>(out: &O) {
     print_raw_weight(out, 0, 1, 0, 1500000);
 }
 
-// Writes raw weights of the open cases that 01 names and of published examples: the exact value, rounded up, is the lower of the two that pass above. From below the exact value
-// rounded down passes, and where the value is less than a half above that, so does one less.
+// Writes raw weights of the open cases that 01 names and of published examples: the exact value, rounded up, is the
+// lower of the two that pass above. From below the exact value rounded down passes, and where the value is less than a
+// half above that, so does one less.
 fn print_published_weights<O: Print>(out: &O) {
     // About 79015.069853; 79,016 or 79,017 passes. 125,000 × (1 - e^(-1)); misread (e^(-u/s) as 0): 125,000.
     print_raw_weight(out, 100000, 200000, 100000, 1000000);
@@ -101,11 +74,11 @@ fn print_published_weights<O: Print>(out: &O) {
 
 // Writes raw weights at edges of the formula.
 fn print_edge_weights<O: Print>(out: &O) {
-    // About 5492.099540; 5,493 or 5,494 passes. l/s = 50/16: 2^32 × e^(-50/16) = 188,707,692.999. With the whole part 188,707,692 and
-    // nothing added back the value is 5,487.447, so 5,488: too low.
+    // About 5492.099540; 5,493 or 5,494 passes. l/s = 50/16: 2^32 × e^(-50/16) = 188,707,692.999. With the whole part
+    // 188,707,692 and nothing added back the value is 5,487.447, so 5,488: too low.
     print_raw_weight(out, 660000, 660001, 160000, 1000000);
-    // About 6889.371410; 6,890 or 6,891 passes. 625,000 × (e^(-2.8) - e^(-3)). At k = 4 the lower end is about -983: a lower end can be
-    // below 0.
+    // About 6889.371410; 6,890 or 6,891 passes. 625,000 × (e^(-2.8) - e^(-3)). At k = 4 the lower end is about -983: a
+    // lower end can be below 0.
     print_raw_weight(out, 190000, 200000, 50000, 1000000);
     // About 0.250000; 1 or 2 passes. 125,000 × (1 + 1 - e^(-999,999)) / 10^6, that is 0.25 less a trace.
     print_raw_weight(out, 0, 1000000, 1, 1000000);

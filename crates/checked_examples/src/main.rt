@@ -1,6 +1,9 @@
-// Prints what the library gives for figures and deals whose numbers are known, to be held against the stored text: single figures, refusals that no
-// written sheet can get, the largest deals, pools of many rows and single blocks of them, and each example that an argument names. Of a file it prints the
-// report, then the totals by portfolio; of a sheet then its conversion to the other unit; of a sheet with amendments what its opened pool is, at first and after each.
+// Prints what the library gives for figures and deals whose numbers are known, to be held against the stored text:
+// single figures, refusals that no written sheet can get, the largest deals, pools of many rows and single blocks of
+// them, and each example that an argument names. Of a file it prints the report, then the totals by portfolio; of a
+// sheet then its conversion to the other unit; of a sheet with amendments what its opened pool is, at first and after
+// each. Standard output is lent as `out`. A write that fails is passed over: what is missing shows where the text is
+// compared.
 #![tactic(auto)]
 
 mod amendments;
@@ -9,10 +12,9 @@ mod conversions;
 mod edges;
 mod examples;
 mod figures;
-mod output;
 mod reading;
 
-// Prints everything in a fixed order.
+// Prints everything in a fixed order. The handles are lent one by one, here and in all programs, each to what uses it.
 fn main(rt: HostRuntime) {
     let out = &rt;
     figures::print_figures(out);

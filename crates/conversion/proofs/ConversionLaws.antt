@@ -14,7 +14,7 @@ use borrow.Author.Tests.{eqb-true, le-ltb, le-leb, ne_eqb}
 use Rattle.limits.specs.SheetSize.{facts_most}
 use Rattle.judgement.specs.DealSheet.{word, has_fact, unit_at, in_hundredths, pool_at, rows, weight_at, weight_word, weight_unit, tranches_at, needed}
 use Rattle.judgement.specs.Refusals.{judged, words_verdict}
-use Rattle.judgement.specs.declared.Verdict.TheVariants.{Sound}
+use Rattle.judgement.specs.Verdicts.{Sound}
 use Rattle.judgement.proofs.FilledFacts.{count_filled, words_moved, filled_length, filled_same_unit, pool_moved, same_rows, same_row_word, filled_already}
 use Rattle.numbers.proofs.Tests.{true_not_false}
 use Rattle.faults.proofs.GoodWordsLaw.{no_mark}

@@ -6,8 +6,7 @@ use lib.ListN.{length, drop}
 use borrow.Author.Tests.{lt-ltb, le-ltb}
 use Rattle.judgement.specs.Outcome.{found, refused_by}
 use Rattle.judgement.specs.Refusals.{words_verdict}
-use Rattle.judgement.specs.declared.Refusal.{Refusal}
-use Rattle.judgement.specs.declared.Verdict.TheVariants.{Sound, Faulty}
+use Rattle.judgement.specs.Verdicts.{Refusal, Sound, Faulty}
 use Rattle.conversion.specs.RewrittenSheet.{rewritten}
 use Rattle.conversion.specs.Conversion.{weights_verdict, conversion_verdict, conversion_numbers, numbers_judged, output_after, output_judged}
 

@@ -12,8 +12,7 @@ use Rattle.limits.specs.SheetSize.{facts_most, word_limit}
 use Rattle.judgement.specs.DealSheet.{in_hundredths, rows, weight_at, weight_word}
 use Rattle.judgement.specs.Judged.{WordsGood}
 use Rattle.judgement.specs.Refusals.{words_verdict}
-use Rattle.judgement.specs.declared.Refusal.{Refusal}
-use Rattle.judgement.specs.declared.Verdict.TheVariants.{Sound, Faulty}
+use Rattle.judgement.specs.Verdicts.{Refusal, Sound, Faulty}
 use Rattle.judgement.proofs.FirstFault.{or_else_sound, or_else_faulty, first_of_sound, first_of_all, first_of_faulty, faulty_first_of}
 use Rattle.judgement.proofs.Judgement.{sound_if}
 use Rattle.judgement.proofs.FilledFacts.{filled_length, words_moved}

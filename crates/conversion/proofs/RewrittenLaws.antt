@@ -13,7 +13,7 @@ use Rattle.limits.specs.SheetSize.{facts_most}
 use Rattle.judgement.specs.DealSheet.{word, fact, unit_at, in_hundredths, pool_at, rows, weight_at, weight_word, weight_unit, tranches_at, needed}
 use Rattle.judgement.specs.FilledFacts.{CanFill}
 use Rattle.judgement.specs.Refusals.{column_of, judged}
-use Rattle.judgement.specs.declared.Verdict.TheVariants.{Sound}
+use Rattle.judgement.specs.Verdicts.{Sound}
 use Rattle.judgement.proofs.FilledFacts.{filled_length, count_filled, pool_moved, tranches_moved, same_later_fact, same_distance, rest_kept, filled_same_unit}
 use Rattle.judgement.proofs.Judgement.{in_section}
 use Rattle.judgement.proofs.NeededLaws.{tranches_at_past_rows}

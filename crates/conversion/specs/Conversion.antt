@@ -1,13 +1,10 @@
 -- 02, S-9, the converter: its refusals, its answer, and the lent output as it is left.
 use Rattle.std.specs.Prelude.{cond, List, ◌++◌, ℕ, ◌%◌, ltb, eqb, length, drop}
 use Rattle.judgement.specs.DealSheet.{in_hundredths, rows, weight_at, weight_word}
-use Rattle.judgement.specs.Outcome.{Outcome, found, refused_by, outcome}
+use Rattle.judgement.specs.Outcome.{Outcome, outcome}
 use Rattle.judgement.specs.Refusals.{refused, or_else, first_of, words_verdict}
-use Rattle.judgement.specs.declared.Verdict.{Verdict}
-use Rattle.judgement.specs.declared.Verdict.TheVariants.{Sound, Faulty}
+use Rattle.judgement.specs.Verdicts.{Verdict, Sound, Faulty}
 use Rattle.conversion.specs.RewrittenSheet.{rewritten}
-use Rattle.conversion.specs.declared.Converted.{Converted}
-use Rattle.conversion.specs.declared.Converted.TheVariants.{Written, Refused}
 
 -- ---- the refusals, at the places of the sheet as it is given
 
@@ -32,11 +29,6 @@ unfoldable pub conversion_verdict : List ℕ → ℕ → Verdict
 conversion_verdict s room = or_else (words_verdict s) (after_words s room)
 
 -- ---- the answer: a refusal's number and place; "its answer counts the words written"
-
--- the numbers of each case of the enum
-abbrev pub numbers_of : Converted → Outcome ℕ
-numbers_of (Written n) = found n
-numbers_of (Refused r) = refused_by r
 
 -- the numbers that a sheet is due, with room for that many output words
 unfoldable pub conversion_numbers : List ℕ → ℕ → Outcome ℕ

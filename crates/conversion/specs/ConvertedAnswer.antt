@@ -2,7 +2,7 @@
 -- proofs/ConversionLaws.antt.
 use Rattle.std.specs.Prelude.{List, ◌≡◌, ℕ}
 use Rattle.limits.specs.SheetSize.{facts_most}
-use Rattle.judgement.specs.declared.Verdict.TheVariants.{Sound}
+use Rattle.judgement.specs.Verdicts.{Sound}
 use Rattle.deal.specs.FilledAnswer.{SameButMoved}
 use Rattle.conversion.specs.RewrittenSheet.{all_facts, rewritten}
 use Rattle.conversion.specs.Conversion.{conversion_verdict}

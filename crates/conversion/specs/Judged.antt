@@ -4,7 +4,7 @@ use Rattle.std.specs.Prelude.{true, List, ◌≡◌, ℕ, ◌+◌, ◌-◌, ◌%
 use Rattle.limits.specs.SheetSize.{facts_most}
 use Rattle.judgement.specs.DealSheet.{word, in_hundredths, rows, weight_at, weight_word}
 use Rattle.judgement.specs.Judged.{WordsGood, WordsRefusal}
-use Rattle.judgement.specs.declared.Refusal.{Refusal}
+use Rattle.judgement.specs.Verdicts.{Refusal}
 
 -- the words of the rewritten sheet: those of the given one, and the facts that it lacks
 abbrev pub rewritten_length : List ℕ → ℕ

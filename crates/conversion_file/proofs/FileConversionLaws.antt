@@ -10,16 +10,16 @@ use borrow.Author.Tests.{leb-true, leb-false}
 use Rattle.limits.specs.SheetSize.{word_limit}
 use Rattle.files.specs.FileForm.{good_length, file_words, bytes_fit, bytes_after}
 use Rattle.files.proofs.FileLaws.{store_accepts, store_refuses}
-use Rattle.judgement.specs.Outcome.{Outcome, found, refused_by}
-use Rattle.judgement.specs.declared.Refusal.{Refusal}
-use Rattle.judgement.specs.declared.Verdict.TheVariants.{Sound, Faulty}
+use Rattle.std.specs.Prelude.{Result}
+use Rattle.judgement.specs.Outcome.{Outcome, found, refused_by, numbers_of}
+use Rattle.judgement.specs.Verdicts.{Refusal, Sound, Faulty}
+use Rattle.judgement.specs.declared.Refusal.{Refusal as DeclaredRefusal}
 use Rattle.judgement.proofs.JudgeSteps.{needed_sound}
 use Rattle.judgement.proofs.JudgedLaws.{accepted_words}
 use Rattle.judgement.proofs.OutcomeLaws.{found_means, refused_means, refused_when}
 use Rattle.conversion.specs.RewrittenSheet.{rewritten}
-use Rattle.conversion.specs.Conversion.{numbers_of, conversion_verdict, conversion_numbers, output_after}
+use Rattle.conversion.specs.Conversion.{conversion_verdict, conversion_numbers, output_after}
 use Rattle.conversion.specs.Judged.{Convertible, rewritten_length, by_room}
-use Rattle.conversion.specs.declared.Converted.{Converted}
 use Rattle.conversion.proofs.RewrittenLaws.{rewritten_length_lem}
 use Rattle.conversion.proofs.JudgedLaws as judged
 use Rattle.conversion_file.specs.FileConversion.{file_verdict, file_numbers, bytes_for, bytes_converted, stored_as}
@@ -66,7 +66,7 @@ module _ (s : List ℕ) (n : ℕ) (counted : found n ≡ conversion_numbers s wo
       judged.refused_when s (length old / 8) (record { number = 14; place = 0 })
       (by_room (record { words = can.words; all_whole = can.all_whole; short = omega (arith, size_is); number_is = refl; place_is = refl }))
 
-  pub stored_numbers : (old : List ℕ) {r : Converted} → r ≡ stored_as (rewritten s) old → numbers_of r ≡ conversion_numbers s (length old / 8)
+  pub stored_numbers : (old : List ℕ) {r : Result ℕ DeclaredRefusal} → r ≡ stored_as (rewritten s) old → numbers_of r ≡ conversion_numbers s (length old / 8)
   unfolding conversion_numbers
   stored_numbers old {r} is = by_room (bytes_fit (rewritten s) old) refl
     where

@@ -1,15 +1,14 @@
 -- 02, S-9, the converter, and 01, "The deal sheet", for the file form: what becomes of a sheet's file that is converted, byte for byte. "15 comes before all."; the other refusals are those of the
 -- file's words (Conversion.antt of `conversion`).
-use Rattle.std.specs.Prelude.{cond, List, ◌++◌, ℕ, ◌*◌, ◌/◌, length, drop}
+use Rattle.std.specs.Prelude.{cond, Result, Ok, Err, List, ◌++◌, ℕ, ◌*◌, ◌/◌, length, drop}
 use Rattle.files.specs.FileForm.{good_length, file_words, file_bytes, bytes_fit}
 use Rattle.judgement.specs.Outcome.{Outcome, outcome}
 use Rattle.judgement.specs.Refusals.{refused}
-use Rattle.judgement.specs.declared.Verdict.{Verdict}
-use Rattle.judgement.specs.declared.Verdict.TheVariants.{Sound, Faulty}
+use Rattle.judgement.specs.Verdicts.{Verdict, Sound, Faulty}
 use Rattle.conversion.specs.RewrittenSheet.{rewritten}
 use Rattle.conversion.specs.Conversion.{conversion_verdict}
-use Rattle.conversion.specs.declared.Converted.{Converted}
-use Rattle.conversion.specs.declared.Converted.TheVariants.{Written, Refused}
+use Rattle.faults.specs.declared.Reason.TheVariants.{NoRoom}
+use Rattle.judgement.specs.declared.Refusal.{Refusal}
 
 -- what is judged of a file and the room for the bytes of the rewritten one, eight to each word
 unfoldable pub file_verdict : List ℕ → ℕ → Verdict
@@ -29,5 +28,5 @@ bytes_converted file old = bytes_for (file_words file) old (file_verdict file (l
 
 -- ---- for private contracts: words stored as bytes, or 14 where they do not fit
 
-abbrev pub stored_as : List ℕ → List ℕ → Converted
-stored_as ws old = cond (bytes_fit ws old) (Written (length ws)) (Refused (record { number = 14; place = 0 }))
+abbrev pub stored_as : List ℕ → List ℕ → Result ℕ Refusal
+stored_as ws old = cond (bytes_fit ws old) (Ok (length ws)) (Err (record { reason = NoRoom; place = 0 }))

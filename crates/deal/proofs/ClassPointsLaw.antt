@@ -18,7 +18,7 @@ use Rattle.pool.specs.PoolSums.{pool_sums}
 use Rattle.deal.specs.Points.{point, senior_amount}
 use Rattle.deal.specs.ClassPoints.{ClassPoints}
 use Rattle.judgement.specs.Refusals.{judged}
-use Rattle.judgement.specs.declared.Verdict.TheVariants.{Sound}
+use Rattle.judgement.specs.Verdicts.{Sound}
 use Rattle.judgement.proofs.SheetLimits.{first_class, next_class_within, class_within, tranches_counted, tranches_within, good_tranche}
 
 -- the amounts of the first n tranches, and of those among them of a class below c

@@ -25,7 +25,7 @@ use Rattle.judgement.specs.Refusals.{judged}
 use Rattle.judgement.proofs.SheetLimits.{stc_ordinary}
 use Rattle.deal.specs.Refusals.{verdict}
 use Rattle.deal.specs.Results.{results_after}
-use Rattle.judgement.specs.declared.Verdict.TheVariants.{Sound}
+use Rattle.judgement.specs.Verdicts.{Sound}
 use Rattle.deal.proofs.InferredLaws.{keeps_its_own}
 use Rattle.deal.proofs.PointLaws.{attachment_at_most_detachment, detachment_at_most_million}
 use Rattle.deal.proofs.TermsLaws.{charge_at_most_million}

@@ -11,7 +11,7 @@ use Rattle.faults.specs.GoodWords.{GoodFact}
 use Rattle.judgement.specs.DealSheet.{word, pool_kind, resecuritisation, reporting_date, unit_at, in_hundredths, pool_at, rows, row_at, weight_word, weight_unit, risk_weight, tranches_at, tranche_count, tranche_at, needed, irb_at}
 use Rattle.judgement.specs.GoodSheet.{GoodRowOf, GoodTrancheOf, GoodSheet}
 use Rattle.judgement.specs.Refusals.{judged, words_verdict}
-use Rattle.judgement.specs.declared.Verdict.TheVariants.{Sound}
+use Rattle.judgement.specs.Verdicts.{Sound}
 use Rattle.judgement.proofs.GoodSheetLaw.{good_sheet, good_sheet_words}
 use Rattle.judgement.proofs.JudgedLaws.{good_judged, words_accepted, accepted_words}
 use Rattle.judgement.proofs.NeededLaws.{tranches_at_past_rows, irb_at_past_tranches}

@@ -9,8 +9,7 @@ use Rattle.limits.specs.SheetSize.{facts_least, facts_most, line_size}
 use Rattle.judgement.specs.DealSheet.{pool_at, tranche_count, tranche_at}
 use Rattle.judgement.specs.FilledFacts.{CanFill, filled, moved}
 use Rattle.judgement.specs.Refusals.{refused, or_else, first_of, words_verdict}
-use Rattle.judgement.specs.declared.Verdict.{Verdict}
-use Rattle.judgement.specs.declared.Verdict.TheVariants.{Sound, Faulty}
+use Rattle.judgement.specs.Verdicts.{Verdict, Sound, Faulty}
 use Rattle.judgement.proofs.MovedVerdicts.{at_moved, moved_or_else, moved_cond, first_of_moved}
 use Rattle.judgement.proofs.FilledFacts.{same_rows, same_tranche_count, tranche_at_moved, same_row_word, same_tranche_word, filled_same_kind, filled_same_facts, filled_same_irb, filled_same_date, filled_same_unit, kept_place, later_place, words_moved}
 use Rattle.judgement.proofs.NeededLaws.{pool_at_least, tranches_at_past_rows}

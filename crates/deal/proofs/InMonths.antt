@@ -14,7 +14,7 @@ use Rattle.faults.specs.GoodWords.{GoodFact, GoodTranche}
 use Rattle.judgement.specs.DealSheet.{word, pool_kind, resecuritisation, has_fact, reporting_date, unit_at, in_hundredths, pool_at, rows, row_at, tranches_at, tranche_count, tranche_at, amount, months, held, first_rating, second_rating, third_rating, irb_at}
 use Rattle.judgement.specs.GoodSheet.{GoodRowOf, GoodTrancheOf, GoodSheet}
 use Rattle.judgement.specs.Refusals.{words_verdict}
-use Rattle.judgement.specs.declared.Verdict.TheVariants.{Sound}
+use Rattle.judgement.specs.Verdicts.{Sound}
 use Rattle.judgement.proofs.GoodSheetLaw.{good_sheet, good_sheet_words}
 use Rattle.judgement.proofs.JudgedLaws.{words_accepted, accepted_words}
 use Rattle.judgement.proofs.NeededLaws.{tranches_at_past_rows, irb_at_past_tranches}

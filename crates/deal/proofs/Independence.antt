@@ -15,7 +15,7 @@ use Rattle.deal.specs.Lines.{terms, tranche, line_words}
 use Rattle.judgement.specs.Refusals.{judged}
 use Rattle.deal.specs.Refusals.{verdict}
 use Rattle.deal.specs.OtherRatings.{SameButRatings, SeniorTo, OtherThan, OwnRatingsOnly, SameLine, is_rated, in_resecuritisation, under_irba, without_diligence}
-use Rattle.judgement.specs.declared.Verdict.TheVariants.{Sound}
+use Rattle.judgement.specs.Verdicts.{Sound}
 use Rattle.judgement.proofs.NeededLaws.{pool_at_least, tranches_at_past_rows, irb_at_past_tranches}
 use Rattle.judgement.proofs.SameLayout.{SameCounts, same_counts, same_irb_at, SameFacts, same_facts, same_unit, same_irb_figures, same_reporting_date}
 use Rattle.judgement.proofs.SheetLimits.{facts_counted, pool_at_within}

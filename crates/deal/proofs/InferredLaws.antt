@@ -14,7 +14,7 @@ use Rattle.numbers.proofs.FirstLaws.{first_is, first_none, first_passes, none_be
 use Rattle.numbers.proofs.Tests.{true_not_false, both_true, at_cond}
 use Rattle.judgement.specs.DealSheet.{tranche_count, class, months, held, first_rating, second_rating, third_rating, needed}
 use Rattle.judgement.specs.Refusals.{judged}
-use Rattle.judgement.specs.declared.Verdict.TheVariants.{Sound}
+use Rattle.judgement.specs.Verdicts.{Sound}
 use Rattle.weights.specs.ApproachFloorCap.{rated, approach, thin}
 use Rattle.weights.specs.declared.Terms.{Terms}
 use Rattle.weights.specs.declared.Tranche.{Tranche}
@@ -44,9 +44,9 @@ unfolding tranche
 keeps_its_own s i = record { own_attachment = refl; own_detachment = refl; own_class = refl; own_months = refl; own_held = refl }
 
 pub record TakesRatings (s : List ℕ) (i r : ℕ) : Type 0 where
-  pub first_taken : (tranche s i).first ≡ first_rating s r
-  pub second_taken : (tranche s i).second ≡ second_rating s r
-  pub third_taken : (tranche s i).third ≡ third_rating s r
+  pub first_taken : (tranche s i).ratings.first ≡ first_rating s r
+  pub second_taken : (tranche s i).ratings.second ≡ second_rating s r
+  pub third_taken : (tranche s i).ratings.third ≡ third_rating s r
 
 pub takes_ratings : (s : List ℕ) (i : ℕ) → TakesRatings s i (rating_row (terms s) s i)
 unfolding tranche

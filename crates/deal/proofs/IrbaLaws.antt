@@ -17,7 +17,7 @@ use Rattle.ratings.specs.RatingTable.{maturity_fifths}
 use Rattle.charge.specs.PoolCharge.{pool_charge, mixed_charge, pool_average}
 use Rattle.judgement.specs.DealSheet.{class, months, stc, pool_kind, resecuritisation, due_diligence, has_irb, irb_figures, needed, layout}
 use Rattle.judgement.specs.Refusals.{judged}
-use Rattle.judgement.specs.declared.Verdict.TheVariants.{Sound}
+use Rattle.judgement.specs.Verdicts.{Sound}
 use Rattle.judgement.proofs.SheetLimits.{irb_loans_within}
 use Rattle.pool.specs.PoolSums.{pool_sums}
 use Rattle.weights.specs.ApproachFloorCap.{approach, parameter}

@@ -17,8 +17,7 @@ use Rattle.deal.specs.Refusals.{room_verdict, thin_verdict, verdict}
 use Rattle.judgement.specs.JudgedWords.{bad, missing, first_bad, words_follow_lem}
 use Rattle.judgement.specs.Judged.{BadHere, WordsGood}
 use Rattle.deal.specs.Judged.{RoomShort, TrancheThin, Why, by_words, by_room, by_thinness, Accepted}
-use Rattle.judgement.specs.declared.Refusal.{Refusal}
-use Rattle.judgement.specs.declared.Verdict.TheVariants.{Sound, Faulty}
+use Rattle.judgement.specs.Verdicts.{Refusal, Sound, Faulty}
 use Rattle.judgement.proofs.FirstFault.{or_else_sound, or_else_faulty, FirstFault, first_of_sound, first_of_all, first_of_faulty, faulty_first_of}
 use Rattle.judgement.proofs.JudgedWords.{states, faulty_when, sound_when}
 use Rattle.judgement.proofs.JudgedLaws.{good_judged, words_refused, refused_words, words_accepted, accepted_words, words_number}

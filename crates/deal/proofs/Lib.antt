@@ -1,5 +1,6 @@
 pub mod JudgedLaws
 pub mod PointLaws
+pub mod FewTranches
 pub mod ClassPointsLaw
 pub mod InferredLaws
 pub mod NextRatedLaws

@@ -16,11 +16,9 @@ use Rattle.weights.specs.ApproachFloorCap.{approach, weight}
 use Rattle.deal.specs.Lines.{terms, tranche, line, line_words}
 use Rattle.deal.specs.Refusals.{verdict}
 use Rattle.deal.specs.Results.{lines, results_for, results_after}
-use Rattle.judgement.specs.declared.Refusal.{Refusal}
+use Rattle.judgement.specs.Verdicts.{Refusal, Verdict, Sound, Faulty}
 use Rattle.weights.specs.declared.Terms.{Terms}
 use Rattle.weights.specs.declared.Tranche.{Tranche}
-use Rattle.judgement.specs.declared.Verdict.{Verdict}
-use Rattle.judgement.specs.declared.Verdict.TheVariants.{Sound, Faulty}
 use Rattle.weights.proofs.WeightLaws.{weight_within, table_weight_within}
 use Rattle.deal.proofs.JudgedLaws.{accepted_means}
 

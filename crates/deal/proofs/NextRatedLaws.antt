@@ -3,12 +3,12 @@
 use mathlib.Core.Bool.{Bool, true, false, cond, not, ◌&&◌}
 use mathlib.Core.List.{List}
 use mathlib.Core.Logic.{⊎_elim}
-use mathlib.Core.Path.{◌≡◌, refl, sym, ap, ◌∙◌}
+use mathlib.Core.Path.{◌≡◌, refl, sym, ◌∙◌}
 use Prim.Native.Nat.{ℕ, ◌+◌, ◌-◌, ◌≤◌, ◌<◌}
 use native.Mathlib.Nat.{eq-zero-or-pos, le_refl}
 use native.Mathlib.Omega.{arith}
 use lib.Dec.{ltb, eqb}
-use lib.ListN.{length, get_or, set, replicate, length-set, length-replicate, get_or-replicate}
+use lib.ListN.{length, get_or, set, replicate, length-set, get_or-replicate}
 use lib.Seq.{get_or-set_same, get_or-set_other}
 use borrow.Author.Tests.{ltb-true, lt-ltb, le-ltb, ne_eqb}
 use Rattle.numbers.proofs.Tests.{both_true, at_cond}
@@ -98,9 +98,6 @@ passed_over s i j r first before k l =
 
 -- ---- what a tranche takes
 
-pub taken_none_rated : (s : List ℕ) (i : ℕ) → rated_row s i ≡ true → taken_row true s i ≡ 0
-taken_none_rated s i e = rw e
-
 pub taken_without_reference : (inferring : Bool) (s : List ℕ) (i : ℕ) → tranche_count s ≤ reference_row s i → taken_row inferring s i ≡ 0
 taken_without_reference inferring s i none = simp (le-ltb (reference_row s i) (tranche_count s) none, and_false)
 
@@ -149,12 +146,6 @@ none_to_take d s taken r zeros first none few = record {
       let served = passed_over s i 0 r first (λ k h. absurd (omega arith)) in
       let nothing = no_reference s i (λ k h. served k (omega (arith, none))) in
       rw zeros (get_or-replicate {A = ℕ} 32 i 0 0 (omega arith) ∙ sym (taken_without_reference (infers_ratings d) s i (omega (arith, nothing))));
-}
-
-pub taken_first : (s taken : List ℕ) → taken ≡ replicate 32 0 → TakenTo s taken 0
-taken_first s taken zeros = record {
-  size = ap length zeros ∙ length-replicate {A = ℕ} 32 0;
-  at_row = λ i l. absurd (omega arith);
 }
 
 pub taken_next : (s taken : List ℕ) (i r : ℕ) → i < 32 → TakenTo s taken i → r ≡ taken_row true s i → TakenTo s (set taken i r) (i + 1)

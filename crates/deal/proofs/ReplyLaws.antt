@@ -7,6 +7,7 @@ use Prim.Native.Nat.{ℕ, ◌+◌, ◌*◌, ◌≤◌, ◌<◌}
 use native.Mathlib.Nat.{eq-or-lt_of_le, mul-le-mul}
 use native.Mathlib.Omega.{arith}
 use lib.ListN.{length, get_or, drop}
+use Rattle.std.specs.Prelude.{Err}
 use Rattle.numbers.proofs.RoundingLaws.{rounded_up_at_most}
 use Rattle.weights.specs.ApproachFloorCap.{weight}
 use Rattle.weights.proofs.WeightLaws.{weight_at_most}
@@ -15,10 +16,8 @@ use Rattle.judgement.specs.DealSheet.{tranche_count, held, needed}
 use Rattle.deal.specs.Lines.{terms, tranche, risk_weighted_amount, capital, line, line_words}
 use Rattle.deal.specs.Refusals.{verdict}
 use Rattle.deal.specs.Results.{Reply, reply_of, reply_for, reply_to, lines, results_after}
-use Rattle.deal.specs.declared.Answer.TheVariants.{Refused}
-use Rattle.judgement.specs.declared.Refusal.{Refusal}
-use Rattle.judgement.specs.declared.Verdict.{Verdict}
-use Rattle.judgement.specs.declared.Verdict.TheVariants.{Sound, Faulty}
+use Rattle.judgement.specs.declared.Refusal.{Refusal as Declared}
+use Rattle.judgement.specs.Verdicts.{Verdict, Sound, Faulty, refusal_of}
 use Rattle.judgement.proofs.JudgedLaws.{good_judged}
 use Rattle.deal.proofs.JudgedLaws.{accepted_judged, refusal_numbers, by_room_alone}
 use Rattle.deal.proofs.LineLaws.{results_accepted, results_line}
@@ -44,7 +43,7 @@ reply_count_within s room z =
     (omega (arith, reply_count s room z), omega (arith, reply_count s room z))
 
 -- a refusal, whose count is 0, has another number
-pub refused_number : (s : List ℕ) (room : ℕ) (r : Refusal) → reply_of (Refused r) ≡ reply_to s room → r.number ≡ 0 → ⊥
+pub refused_number : (s : List ℕ) (room : ℕ) (r : Declared) → reply_of (Err r) ≡ reply_to s room → (refusal_of r).number ≡ 0 → ⊥
 refused_number s room r same z =
     let number = ap (λ (a : Reply). a.number) same in
     let count = ap (λ (a : Reply). a.count) same in

@@ -19,7 +19,7 @@ use Rattle.judgement.specs.Refusals.{row_of, fault, judge, judged}
 use Rattle.deal.specs.Refusals.{verdict}
 use Rattle.deal.specs.Results.{reply_to, results_after}
 use Rattle.deal.specs.Judged.{Accepted}
-use Rattle.judgement.specs.declared.Verdict.TheVariants.{Sound}
+use Rattle.judgement.specs.Verdicts.{Sound}
 use Rattle.judgement.proofs.FirstFault.{first_of_all}
 use Rattle.judgement.proofs.NeededLaws.{pool_at_least, tranches_at_past_rows, irb_at_past_tranches, row_word_needed}
 use Rattle.judgement.proofs.Judgement.{good_word, fault_of_row, InSection, in_section}

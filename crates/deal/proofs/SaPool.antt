@@ -14,7 +14,7 @@ use Rattle.faults.specs.GoodWords.{GoodFact}
 use Rattle.judgement.specs.DealSheet.{word, pool_kind, resecuritisation, due_diligence, reporting_date, unit_at, in_hundredths, pool_at, rows, row_at, tranches_at, tranche_count, tranche_at, has_irb, irb_figures, layout}
 use Rattle.judgement.specs.GoodSheet.{GoodRowOf, GoodTrancheOf, GoodSheet}
 use Rattle.judgement.specs.Refusals.{words_verdict}
-use Rattle.judgement.specs.declared.Verdict.TheVariants.{Sound}
+use Rattle.judgement.specs.Verdicts.{Sound}
 use Rattle.judgement.proofs.GoodSheetLaw.{good_sheet, good_sheet_words}
 use Rattle.judgement.proofs.JudgedLaws.{words_accepted, accepted_words}
 use Rattle.judgement.proofs.NeededLaws.{has_no_irb, no_irb_words, needed_is, tranches_at_past_rows, irb_at_past_tranches}

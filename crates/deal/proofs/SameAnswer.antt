@@ -6,8 +6,7 @@ use Prim.Native.Nat.{ℕ, ◌<◌}
 use lib.ListN.{length}
 use Rattle.judgement.specs.DealSheet.{tranches_at, tranche_count}
 use Rattle.judgement.specs.Refusals.{first_of, words_verdict}
-use Rattle.judgement.specs.declared.Verdict.{Verdict}
-use Rattle.judgement.specs.declared.Verdict.TheVariants.{Sound, Faulty}
+use Rattle.judgement.specs.Verdicts.{Verdict, Sound, Faulty}
 use Rattle.judgement.proofs.FirstFault.{first_of_same}
 use Rattle.weights.specs.ApproachFloorCap.{thin}
 use Rattle.deal.specs.Lines.{terms, tranche, line_words}

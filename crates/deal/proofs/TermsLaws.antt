@@ -9,7 +9,7 @@ use Rattle.charge.specs.declared.Figures.{Figures}
 use Rattle.charge.proofs.PoolLaws.{all_limits, pool_charge_at_most_million, mixed_charge_at_most_million, pool_average_at_most}
 use Rattle.judgement.specs.DealSheet.{irb_figures, needed, layout}
 use Rattle.judgement.specs.Refusals.{judged}
-use Rattle.judgement.specs.declared.Verdict.TheVariants.{Sound}
+use Rattle.judgement.specs.Verdicts.{Sound}
 use Rattle.judgement.proofs.SheetLimits.{irb_figures_within}
 use Rattle.pool.specs.PoolSums.{pool_sums}
 use Rattle.pool.proofs.PoolLaws.{sum_limits}

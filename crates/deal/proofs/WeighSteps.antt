@@ -2,6 +2,7 @@
 use mathlib.Core.List.{List, ◌++◌}
 use mathlib.Core.Path.{◌≡◌, sym}
 use Prim.Native.Nat.{ℕ, ◌*◌, ◌≤◌, ◌<◌}
+use Rattle.std.specs.Prelude.{Result, Ok, Err}
 use lib.ListN.{length, drop}
 use borrow.Author.Tests.{lt-ltb, le-ltb}
 use Rattle.limits.specs.SheetSize.{line_size}
@@ -10,16 +11,15 @@ use Rattle.judgement.specs.DealSheet.{tranche_count}
 use Rattle.judgement.specs.LaidOut.{LaidOut}
 use Rattle.judgement.specs.Refusals.{refused, first_of, words_verdict}
 use Rattle.judgement.specs.declared.Layout.{Layout}
-use Rattle.judgement.specs.declared.Refusal.{Refusal}
-use Rattle.judgement.specs.declared.Verdict.{Verdict}
-use Rattle.judgement.specs.declared.Verdict.TheVariants.{Sound, Faulty}
+use Rattle.judgement.specs.Verdicts.{Refusal, Verdict, Sound, Faulty, refusal_of}
 use Rattle.judgement.proofs.WordsLaw.{laid_out}
 use Rattle.pool.specs.SummedPool.{OpenPool}
 use Rattle.deal.specs.Lines.{terms_for, terms}
 use Rattle.deal.specs.Refusals.{thin_verdict, verdict}
 use Rattle.deal.specs.DemandThree.{KeepsDemandThree, KeepsSeventhWord}
+use Rattle.deal.specs.declared.Weighed.{Weighed}
 use Rattle.deal.specs.Results.{reply_of, reply_to, lines, results_after}
-use Rattle.deal.specs.declared.Answer.TheVariants.{Weighed, Refused}
+use Rattle.judgement.specs.declared.Refusal.{Refusal as Declared}
 use Rattle.deal.proofs.DemandThreeLaw.{keeps_demand_three, keeps_seventh_word}
 
 -- ---- an opened pool
@@ -50,17 +50,17 @@ decided_by_thickness s room e enough e' = simp (e, le-ltb room (line_size * tran
 -- ---- the answer and the results
 
 pub refused_answer :
-    (s old : List ℕ) {r : Refusal} → verdict s (length old) ≡ Faulty r →
-    (reply_of (Refused r) ≡ reply_to s (length old)) × ((old ≡ results_after s old) × (KeepsDemandThree s (length old) old × KeepsSeventhWord s (length old) old))
+    (s old : List ℕ) {a : Result Weighed Declared} {r : Declared} → a ≡ Err r → verdict s (length old) ≡ Faulty (refusal_of r) →
+    (reply_of a ≡ reply_to s (length old)) × ((old ≡ results_after s old) × (KeepsDemandThree s (length old) old × KeepsSeventhWord s (length old) old))
 unfolding reply_to results_after
-refused_answer s old e =
+refused_answer s old is e =
     let kept : old ≡ results_after s old = rw e in
-    (rw e, (kept, (keeps_demand_three s old old kept, keeps_seventh_word s old old kept)))
+    (rw (is, e), (kept, (keeps_demand_three s old old kept, keeps_seventh_word s old old kept)))
 
 pub weighed_answer :
     (s old : List ℕ) {n k : ℕ} {new : List ℕ} → verdict s (length old) ≡ Sound → n ≡ tranche_count s → k ≡ (terms s).charge →
     new ≡ lines s (tranche_count s) ++ drop (line_size * tranche_count s) old →
-    (reply_of (Weighed n k) ≡ reply_to s (length old)) × ((new ≡ results_after s old) × (KeepsDemandThree s (length old) new × KeepsSeventhWord s (length old) new))
+    (reply_of (Ok (record { count = n; charge = k })) ≡ reply_to s (length old)) × ((new ≡ results_after s old) × (KeepsDemandThree s (length old) new × KeepsSeventhWord s (length old) new))
 unfolding reply_to results_after
 weighed_answer s old {new = new} e count charge written =
     let due : new ≡ results_after s old = rw e written in

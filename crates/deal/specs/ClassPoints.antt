@@ -1,4 +1,4 @@
--- What the points between classes are, which the functions that take them need. No reader has to trust this file: `class_points` (src/tranches.rt) promises it
+-- What the points between classes are, which a PreparedDeal holds. No reader has to trust this file: `class_points` (src/tranches.rt) promises it
 -- of the table that it makes for every sheet whose words are good.
 use Rattle.std.specs.Prelude.{List, ◌≡◌, ℕ, ◌+◌, ◌≤◌, ◌<◌, get_or}
 use Rattle.judgement.specs.DealSheet.{tranche_count, class}

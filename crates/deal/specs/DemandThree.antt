@@ -9,7 +9,7 @@ use Rattle.deal.specs.Points.{attachment_point, detachment_point}
 use Rattle.weights.specs.ApproachFloorCap.{by_formula, parameter, after_floor_and_cap, formula_raw_weight}
 use Rattle.deal.specs.Lines.{terms, tranche}
 use Rattle.deal.specs.Refusals.{verdict}
-use Rattle.judgement.specs.declared.Verdict.TheVariants.{Sound}
+use Rattle.judgement.specs.Verdicts.{Sound}
 
 -- "every accepted SEC-SA tranche with K at least 1 and D above K", and every such tranche under approach 3: both are by the formula; "A tranche is accepted where its sheet gets
 -- no refusal."

@@ -3,10 +3,15 @@
 use Rattle.std.specs.Prelude.{Bool, true, false, cond, not, ◌&&◌, List, ◌≡◌, ℕ, ◌≤◌, ◌<◌, leb, ltb}
 use Rattle.numbers.specs.First.{first_where, some_where}
 use Rattle.rating_codes.specs.RatingCodes.{any_present}
+use Rattle.rating_codes.specs.declared.Ratings.{Ratings}
 use Rattle.judgement.specs.DealSheet.{tranche_count, class, months, first_rating, second_rating, third_rating}
 use Rattle.weights.specs.declared.Terms.{Terms}
 
 -- ---- by steps
+
+-- "three ratings": the rating words of a tranche's own row
+abbrev pub own_ratings : List ℕ → ℕ → Ratings
+own_ratings s i = record { first = first_rating s i; second = second_rating s i; third = third_rating s i }
 
 -- a tranche with a rating of its own. A rating is inferred from such a tranche alone, not from one whose rating is itself inferred: there are no chains
 abbrev pub rated_row : List ℕ → ℕ → Bool

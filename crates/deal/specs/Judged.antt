@@ -5,7 +5,7 @@ use Rattle.limits.specs.SheetSize.{line_size}
 use Rattle.judgement.specs.DealSheet.{tranche_count, tranche_at}
 use Rattle.weights.specs.ApproachFloorCap.{thin}
 use Rattle.deal.specs.Lines.{terms, tranche}
-use Rattle.judgement.specs.declared.Refusal.{Refusal}
+use Rattle.judgement.specs.Verdicts.{Refusal}
 use Rattle.judgement.specs.Judged.{WordsGood, WordsRefusal}
 
 -- "14: results shorter than six words per tranche; place 0."; 02, S-6: "14 now reads seven words per tranche"

@@ -9,10 +9,10 @@ use Rattle.irba.specs.IrbaDeals.{irba_applies}
 use Rattle.charge.specs.Figures.{pool_figures, mixed_figures}
 use Rattle.charge.specs.declared.Figures.{Figures}
 use Rattle.charge.specs.declared.Sums.{Sums}
-use Rattle.judgement.specs.DealSheet.{class, months, held, first_rating, second_rating, third_rating, layout}
+use Rattle.judgement.specs.DealSheet.{class, months, held, layout}
 use Rattle.judgement.specs.declared.Layout.{Layout}
 use Rattle.pool.specs.PoolSums.{pool_sums}
-use Rattle.deal.specs.InferredRatings.{rating_row}
+use Rattle.deal.specs.InferredRatings.{own_ratings, rating_row}
 use Rattle.deal.specs.Points.{attachment_point, detachment_point}
 use Rattle.deal.specs.declared.Line.{Line}
 
@@ -52,9 +52,7 @@ tranche s i = record {
   senior = eqb (class s i) 1;
   months = months s i;
   held = held s i;
-  first = first_rating s (rating_row (terms s) s i);
-  second = second_rating s (rating_row (terms s) s i);
-  third = third_rating s (rating_row (terms s) s i);
+  ratings = own_ratings s (rating_row (terms s) s i);
 }
 
 -- ---- amounts

@@ -1,4 +1,4 @@
--- What the tables of rated rows and of the rows whose ratings are taken are, which the functions that take them need. No reader has to trust this file: `next_rated` and `take_rows` (src/inferred.rt)
+-- What the tables of rated rows and of the rows whose ratings are taken are, which the functions of src/inferred.rt need and a PreparedDeal holds. No reader has to trust this file: `next_rated` and `take_rows` (src/inferred.rt)
 -- promise it of the tables that they fill for every sheet whose words are good.
 use Rattle.std.specs.Prelude.{Bool, true, false, cond, not, ◌&&◌, List, ◌≡◌, ℕ, ◌+◌, ◌≤◌, ◌<◌, ltb, length, get_or}
 use Rattle.judgement.specs.DealSheet.{tranche_count}

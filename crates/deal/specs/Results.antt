@@ -1,13 +1,13 @@
 -- 01, "The deal sheet" and "Refusals", and 02, S-6: the answer to a sheet, and the lent results as they are left.
-use Rattle.std.specs.Prelude.{List, [], ◌++◌, ℕ, zero, suc, ◌*◌, length, drop}
+use Rattle.std.specs.Prelude.{Result, Ok, Err, List, [], ◌++◌, ℕ, zero, suc, ◌*◌, length, drop}
 use Rattle.limits.specs.SheetSize.{line_size}
 use Rattle.judgement.specs.DealSheet.{tranche_count}
 use Rattle.deal.specs.Lines.{terms, tranche, line_words}
 use Rattle.deal.specs.Refusals.{verdict}
-use Rattle.deal.specs.declared.Answer.{Answer}
-use Rattle.deal.specs.declared.Answer.TheVariants.{Weighed, Refused}
-use Rattle.judgement.specs.declared.Verdict.{Verdict}
-use Rattle.judgement.specs.declared.Verdict.TheVariants.{Sound, Faulty}
+use Rattle.faults.specs.Reasons.{number_of}
+use Rattle.deal.specs.declared.Weighed.{Weighed}
+use Rattle.judgement.specs.declared.Refusal.{Refusal}
+use Rattle.judgement.specs.Verdicts.{Verdict, Sound, Faulty}
 
 -- ---- the answer, in 01's numbers
 
@@ -17,11 +17,11 @@ pub record Reply : Type 0 where
   pub count : ℕ
   pub charge : ℕ
 
--- the numbers of each case of the enum: "A refusal returns its number and a place, count and charge 0"; where there is none, number and place read
+-- the numbers of each case of an answer: "A refusal returns its number and a place, count and charge 0"; where there is none, number and place read
 -- 0 and "The answer holds the tranche count and the pool charge."
-abbrev pub reply_of : Answer → Reply
-reply_of (Weighed n k) = record { number = 0; place = 0; count = n; charge = k }
-reply_of (Refused r) = record { number = r.number; place = r.place; count = 0; charge = 0 }
+abbrev pub reply_of : Result Weighed Refusal → Reply
+reply_of (Ok w) = record { number = 0; place = 0; count = w.count; charge = w.charge }
+reply_of (Err r) = record { number = number_of r.reason; place = r.place; count = 0; charge = 0 }
 
 -- the numbers that a verdict on a sheet is due
 abbrev pub reply_for : List ℕ → Verdict → Reply

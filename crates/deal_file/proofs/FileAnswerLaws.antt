@@ -5,19 +5,22 @@ use mathlib.Core.Path.{◌≡◌, refl, sym, ap, ◌∙◌}
 use Prim.Native.Nat.{ℕ, ◌/◌}
 use native.Mathlib.Omega.{arith}
 use lib.ListN.{length, take}
+use Rattle.std.specs.Prelude.{Result, Ok, Err}
+use Rattle.faults.specs.declared.Reason.TheVariants.{FileLength}
+use Rattle.faults.proofs.ReasonLaws.{same_reason}
+use Rattle.judgement.specs.declared.Refusal.{Refusal}
 use Rattle.files.specs.FileForm.{good_length, file_words, words_after}
 use Rattle.files.proofs.FileLaws.{load_takes}
 use Rattle.deal.specs.DemandThree.{KeepsDemandThree, KeepsSeventhWord}
 use Rattle.deal.specs.Results.{Reply, reply_of, reply_to, results_after}
-use Rattle.deal.specs.declared.Answer.{Answer}
-use Rattle.deal.specs.declared.Answer.TheVariants.{Weighed, Refused}
+use Rattle.deal.specs.declared.Weighed.{Weighed}
 use Rattle.deal.proofs.AnswerLaw.{answer_settled}
 use Rattle.deal_file.specs.FileAnswer.{file_reply, file_results, FileKeepsDemandThree, FileKeepsSeventhWord}
 
 -- ---- by the length of the file
 
-abbrev pub bad_length : Answer
-bad_length = Refused (record { number = 15; place = 0 })
+abbrev pub bad_length : Result Weighed Refusal
+bad_length = Err (record { reason = FileLength; place = 0 })
 
 module _ (file : List ℕ) where
   pub reply_of_bad_length : (room : ℕ) → good_length file ≡ false → file_reply file room ≡ reply_of bad_length
@@ -71,14 +74,14 @@ words_weighed file lent old new good is kept =
 
 -- ---- the four numbers settle the answer
 
-bad_length_answer : (a : Answer) → reply_of a ≡ reply_of bad_length → a ≡ bad_length
-bad_length_answer (Weighed n k) same = absurd (omega (arith, ap (λ (x : Reply). x.number) same))
-bad_length_answer (Refused r) same =
-    let number = ap (λ (x : Reply). x.number) same in
+bad_length_answer : (a : Result Weighed Refusal) → reply_of a ≡ reply_of bad_length → a ≡ bad_length
+bad_length_answer (Ok w) same = absurd (omega (arith, ap (λ (x : Reply). x.number) same))
+bad_length_answer (Err r) same =
+    let reason = same_reason r.reason FileLength (ap (λ (x : Reply). x.number) same) in
     let place = ap (λ (x : Reply). x.place) same in
-    ap Refused (rw (number, place))
+    ap Err (rw (reason, place))
 
-pub file_answer_settled : (file : List ℕ) (room : ℕ) (a b : Answer) → reply_of a ≡ file_reply file room → reply_of b ≡ file_reply file room → a ≡ b
+pub file_answer_settled : (file : List ℕ) (room : ℕ) (a b : Result Weighed Refusal) → reply_of a ≡ file_reply file room → reply_of b ≡ file_reply file room → a ≡ b
 file_answer_settled file room a b same same' = by_length (good_length file) refl
   where
     by_length : (t : Bool) → good_length file ≡ t → a ≡ b

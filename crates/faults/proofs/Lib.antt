@@ -3,3 +3,4 @@ pub mod DateFaults
 pub mod FaultNumbers
 pub mod GoodWordsLaw
 pub mod RowTestLaw
+pub mod ReasonLaws

@@ -1,2 +1,3 @@
+pub mod Reasons
 pub mod WordFaults
 pub mod GoodWords

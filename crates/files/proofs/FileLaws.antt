@@ -7,7 +7,7 @@ use mathlib.Core.Path.{◌≡◌, refl, ap, ◌∙◌}
 use Prim.Native.Nat.{ℕ, zero, suc, ◌+◌, ◌*◌, ◌/◌, ◌%◌, ◌^◌, ◌≤◌, ◌<◌}
 use native.Mathlib.Nat.{eq-or-lt_of_le, le_of_suc-le-suc, not-suc-le-zero, pow-suc}
 use native.Mathlib.Omega.{arith}
-use borrow.Author.Tests.{le-leb, lt-leb, eq-eqb, ne_eqb}
+use borrow.Author.Tests.{le-leb, lt-leb, eq-eqb}
 use lib.Dec.{eqb}
 use lib.ListN.{length, take, drop, get_or, length-append, get_or-append}
 use lib.Seq.{take_at, drop_at, drop-drop, get_or_at, length-take-le, ext_get_or}
@@ -37,9 +37,6 @@ length_file_bytes (w ∷ ws) =
 pub good_file : (file : List ℕ) → length file % 8 ≡ 0 → length file ≤ byte_limit → good_length file ≡ true
 good_file file whole within = rw (eq-eqb (length file % 8) 0 whole, le-leb (length file) byte_limit within)
 
-pub part_word_file : (file : List ℕ) → (length file % 8 ≡ 0 → ⊥) → good_length file ≡ false
-part_word_file file part = rw (ne_eqb (length file % 8) 0 part)
-
 pub overlong_file : (file : List ℕ) → byte_limit < length file → good_length file ≡ false
 overlong_file file over = rw (lt-leb (length file) byte_limit over) (and-false (eqb (length file % 8) 0))
 
@@ -47,10 +44,6 @@ pub overlong : (file : List ℕ) (n : ℕ) → byte_limit < n → n ≤ length f
 overlong file n over within = overlong_file (take n file) (omega (arith, length-take-le n file within))
 
 -- ---- what a load and a store leave
-
-pub load_refuses : (file old : List ℕ) → good_length file ≡ false → words_after file old ≡ old
-unfolding words_after
-load_refuses file old bad = rw bad
 
 pub load_accepts : (file old : List ℕ) → good_length file ≡ true → words_after file old ≡ file_words file ++ drop (length file / 8) old
 unfolding words_after

@@ -50,10 +50,6 @@ product_above_at_most l x = omega (arith, decay_and_mean_at_most l x)
 
 -- ---- the formula
 
--- p × K, by which the exponents are divided
-pub scale_within : (p K : ℕ) → 300000 ≤ p → p < 5000000 → 1 ≤ K → K ≤ 1000000 → (300000 ≤ p * K) × (p * K ≤ 5000000000000)
-scale_within p K l h one m = (mul-le-mul l one, mul-le-mul (le_of_lt h) m)
-
 -- max(K − A, 0) + v × product is at most D − A, since max(K − A, 0) + v is and the product u is at most 1
 pub sum_at_most : (A D K u : ℕ) → A < D → K < D → u ≤ 2 ^ 27 → (K - A) * 2 ^ 27 + (D - max A K) * u ≤ (D - A) * 2 ^ 27
 sum_at_most A D K u a k h = omega (arith, mul-le-mul_left (D - max A K) h)

@@ -2,12 +2,12 @@
 -- two numbers: the high one is the raw weight from which a line's weight is made, the low one that from which the line's seventh word starts. The series, the ends and which
 -- numbers pass are in Series.antt and Ends.antt of `series`, the decay table's rule in DecayTable.antt there. A, D, K and p and the unit of a weight are those of Ends.antt.
 use Rattle.std.proofs.Math.Option.{Option, none, some}
-use Rattle.std.specs.Prelude.{◌≡◌, ℕ, ◌≤◌, ◌<◌}
+use Rattle.std.specs.Prelude.{◌≡◌, ℕ, ◌≤◌, ◌<◌, Result, Ok, Err}
 use Rattle.numbers.specs.BothEnds.{both}
 use Rattle.numbers.specs.declared.Ends.{Ends}
 use Rattle.series.specs.Ends.{Passes, PassesFromBelow}
-use Rattle.formula.specs.declared.RawWeight.{RawWeight}
-use Rattle.formula.specs.declared.RawWeight.TheVariants.{Weight, NoThickness, OutsideLimits}
+use Rattle.formula.specs.declared.NoRawWeight.{NoRawWeight}
+use Rattle.formula.specs.declared.NoRawWeight.TheVariants.{NoThickness, OutsideLimits}
 
 -- the inputs for which the computation in 64-bit words is shown: points and charge are at most 1,000,000, and the parameter is 1,000,000 or 1,500,000 (01),
 -- 500,000 (02, S-1), or one of SEC-IRBA, at least 300,000 (S-5); a parameter from 300,000 to below 5,000,000 is taken
@@ -32,13 +32,13 @@ refusing number = record { refusal = some number; weight = none }
 abbrev pub unnumbered : RawWeightNumbers
 unnumbered = record { refusal = none; weight = none }
 
--- The numbers of each case of the enum. `NoThickness` is the condition of 13, "A equals D, and D is above the pool charge", where K is at least 1 (where K
+-- The numbers of each case of an answer. `NoThickness` is the condition of 13, "A equals D, and D is above the pool charge", where K is at least 1 (where K
 -- is 0, 13 is judged on the sheet alone); A above D, which no sheet has, is answered alike. 13's place is one of the sheet's and is not known here. 01
 -- has no number for `OutsideLimits`, since no sheet reaches it, and none is made up here.
-abbrev pub numbers_of : RawWeight → RawWeightNumbers
-numbers_of (Weight e) = weighing e
-numbers_of NoThickness = refusing 13
-numbers_of OutsideLimits = unnumbered
+abbrev pub numbers_of : Result Ends NoRawWeight → RawWeightNumbers
+numbers_of (Ok e) = weighing e
+numbers_of (Err NoThickness) = refusing 13
+numbers_of (Err OutsideLimits) = unnumbered
 
 -- n holds a raw weight, and no refusal: its high number is a whole number that passes (demand 3), "and never above 125,000"; its low number is one that passes from below (S-6)
 pub record PassingWeight (A D K p : ℕ) (n : RawWeightNumbers) : Type 0 where

@@ -9,7 +9,7 @@ ghost use Rattle.formula.specs.StepEnds.{DecayEnds, MeanDecayEnds, ProductEnds};
 
 mod tables;
 
-use numbers::{Ends, excess, larger, rounded_up, smaller};
+use numbers::{Ends, rounded_up};
 use tables::{DECAY, FINE_LOSS, SIXTEENTH_LOSS, WHOLE_LOSS};
 
 // 1 in the units of exponents and decays, 2^−32.
@@ -45,19 +45,12 @@ pub fn decay_entry(n: u64) -> u64
     if n < 355 { DECAY[n as usize] } else { 0 }
 }
 
-// A 32-bit number as one of 64 bits.
-fn wide(x: u32) -> u64
-    ensures { (result ≡ x) × (result < 2 ^ 32) }
-{
-    x as u64
-}
-
 // The entry of the whole exponent n: the whole part of 2^32 × e^(−n), which is 0 from 23 on.
 fn whole_entry(n: u64) -> u64
     ensures { result ≡ entry n 1 }
 {
     if n < 23 {
-        ONE - wide(WHOLE_LOSS[n as usize])
+        ONE - u64::from(WHOLE_LOSS[n as usize])
     } else {
         0
     }
@@ -66,9 +59,9 @@ fn whole_entry(n: u64) -> u64
 // 2^32 less the entry of n sixteenths, for exponents between two whole ones.
 fn sixteenth_loss(n: u64) -> u64
     requires { n < 16 }
-    ensures { (result + entry n 16 ≡ 2 ^ 32) × (result < 2 ^ 32) }
+    ensures { result + entry n 16 ≡ 2 ^ 32 }
 {
-    wide(SIXTEENTH_LOSS[n as usize])
+    u64::from(SIXTEENTH_LOSS[n as usize])
 }
 
 // The entry of m 1024ths, for exponents between two sixteenths.
@@ -76,19 +69,20 @@ fn fine_entry(m: u64) -> u64
     requires { m < 64 }
     ensures { result ≡ entry m 1024 }
 {
-    ONE - wide(FINE_LOSS[m as usize])
+    ONE - u64::from(FINE_LOSS[m as usize])
 }
 
-// e^(−n/16) from below: the entry of the whole exponent times that of the sixteenths. Both may be 2^32, and 2^64 does not fit 64 bits, so what
-// the sixteenths take off the whole exponent's entry is subtracted, rounded up.
+// e^(−n/16) from below: the entry of the whole exponent times that of the sixteenths. Both may be 2^32, and 2^64 does
+// not fit 64 bits, so what the sixteenths take off the whole exponent's entry is subtracted, rounded up.
 fn coarse_decay(n: u64) -> u64
     ensures { result ≡ coarse_decay n }
 {
     let t = whole_entry(n / 16);
-    t - (t * sixteenth_loss(n % 16) + (ONE - 1)) / ONE
+    t - (t * sixteenth_loss(n % 16)).div_ceil(ONE)
 }
 
-// e^−(m/1024 + r) from below, with r = j/2^32: the fine entry times 1 − r + r²/2, less 4 so that rounding never takes it above.
+// e^−(m/1024 + r) from below, with r = j/2^32: the fine entry times 1 − r + r²/2, less 4 so that rounding never takes
+// it above.
 fn fine_decay(m: u64, j: u64) -> u64
     requires { (m < 64) × (j < 2 ^ 22) }
     ensures { result ≡ fine_decay m j }
@@ -97,8 +91,9 @@ fn fine_decay(m: u64, j: u64) -> u64
     t - t * (j - j * j / (2 * ONE)) / ONE - 4
 }
 
-// e^(−x) from both sides: x is cut into sixteenths, 1024ths and a rest, and the coarse decay of the first is multiplied by the fine decay of the others, which
-// gives the low end; the high end is that with what it may be short of added back, and at most 1.
+// e^(−x) from both sides: x is cut into sixteenths, 1024ths and a rest, and the coarse decay of the first is multiplied
+// by the fine decay of the others, which gives the low end; the high end is that with what it may be short of added
+// back, and at most 1.
 fn decay(x: u64) -> Ends
     ensures value { result ≡ decay x }
     ensures decay_ends { DecayEnds x result }
@@ -108,7 +103,7 @@ fn decay(x: u64) -> Ends
     let low = coarse_decay(x / STEP) * fine / ONE;
     Ends {
         low,
-        high: smaller(low + DECAY_DISTANCE, ONE),
+        high: (low + DECAY_DISTANCE).min(ONE),
     }
 }
 
@@ -117,31 +112,27 @@ fn from_above(high: u64, distance: u64) -> Ends
     ensures { result ≡ from_above high distance }
 {
     Ends {
-        low: excess(high, distance),
+        low: high.saturating_sub(distance),
         high,
     }
 }
 
-// The mean decay (1 − e^(−x)) / x from both sides, at most 1, in units of 2^−27. For a small x, where the quotient is too coarse (or x is 0), its high end is
-// 1 − x/2 and 171 units more.
+// The mean decay (1 − e^(−x)) / x from both sides, at most 1, in units of 2^−27. For a small x, where the quotient is
+// too coarse (or x is 0), its high end is 1 − x/2 and 171 units more.
 fn mean_decay(x: u64) -> Ends
     ensures value { result ≡ mean_decay x }
     ensures mean_decay_ends { MeanDecayEnds x result }
 {
-    if x < SMALL {
-        return from_above(
-            smaller(MEAN_ONE, MEAN_ONE + 171 - x / 64),
-            MEAN_DECAY_DISTANCE,
-        );
-    }
-    let after = decay(x);
-    from_above(
-        smaller(MEAN_ONE, (ONE + 1 - after.low) * MEAN_ONE / x + 1),
-        MEAN_DECAY_DISTANCE,
-    )
+    let high = if x < SMALL {
+        MEAN_ONE + 171 - x / 64
+    } else {
+        (ONE + 1 - decay(x).low) * MEAN_ONE / x + 1
+    };
+    from_above(MEAN_ONE.min(high), MEAN_DECAY_DISTANCE)
 }
 
-// a / b in units of 2^−32, rounded down. a × 2^32 may not fit 64 bits, so the division is done in two steps of 16 bits each.
+// a / b in units of 2^−32, rounded down. a × 2^32 may not fit 64 bits, so the division is done in two steps of 16 bits
+// each.
 fn units(a: u64, b: u64) -> u64
     requires { (a ≤ 1000000000000) × (300000 ≤ b) × (b ≤ 5000000000000) }
     ensures { result ≡ units a b }
@@ -158,10 +149,7 @@ fn product(l: u64, x: u64) -> Ends
 {
     let first = decay(l);
     let second = mean_decay(x);
-    from_above(
-        (first.high * second.high + (ONE - 1)) / ONE,
-        PRODUCT_DISTANCE,
-    )
+    from_above((first.high * second.high).div_ceil(ONE), PRODUCT_DISTANCE)
 }
 
 // (x − less) / y, rounded down, from the quotient of x, so that one division serves both ends of a weight.
@@ -177,18 +165,18 @@ fn quotient_less(x: u64, y: u64, less: u64) -> u64
     }
 }
 
-// The formula's weight, 125,000 × (max(k − a, 0) + v × product) / (d − a), where v is the tranche's part above both a and k, and the product is in
-// units of 2^−27: with its low end rounded down, with its high end rounded up.
+// The formula's weight, 125,000 × (max(k − a, 0) + v × product) / (d − a), where v is the tranche's part above both a
+// and k, and the product is in units of 2^−27: with its low end rounded down, with its high end rounded up.
 fn formula_weight(a: u64, d: u64, k: u64, p: u64) -> Ends
     requires { (a < d) × (k < d) × (1 ≤ k) × (d ≤ 1000000) × (300000 ≤ p) × (p < 5000000) }
     ensures { result ≡ formula_weight a d k p }
 {
-    let v = d - larger(a, k);
+    let v = d - a.max(k);
     let s = p * k;
-    let l = units(excess(a, k) * MILLION, s);
+    let l = units(a.saturating_sub(k) * MILLION, s);
     let x = units(v * MILLION, s);
     let ends = product(l, x);
-    let top = 125000 * (excess(k, a) * MEAN_ONE + v * ends.high);
+    let top = 125000 * (k.saturating_sub(a) * MEAN_ONE + v * ends.high);
     let bottom = (d - a) * MEAN_ONE;
     let less = 125000 * (v * (ends.high - ends.low));
     Ends {
@@ -197,55 +185,44 @@ fn formula_weight(a: u64, d: u64, k: u64, p: u64) -> Ends
     }
 }
 
-// Whether the points and the charge are at most 1, and the parameter is from 0.3 to below 5.
+// Whether the points and the charge are at most 1, and the parameter is from 0.3 to below 5. They stay four numbers, as
+// in the formula and in the promise of `raw_weight`.
 fn within_limits(a: u64, d: u64, k: u64, p: u64) -> bool
     ensures { result ≡ within_limits a d k p }
 {
-    if a > MILLION {
-        return false;
-    }
-    if d > MILLION {
-        return false;
-    }
-    if k > MILLION {
-        return false;
-    }
-    if p < 300000 {
-        return false;
-    }
-    p < 5000000
+    a <= MILLION && d <= MILLION && k <= MILLION && (300000..5000000).contains(&p)
 }
 
-// Both numbers of a raw weight in hundredths of a percent, or why there is none: the formula needs a below d (refusal 13 at a = d), and no deal sheet has
-// inputs outside the limits.
-#[derive(Clone, Copy)]
-pub enum RawWeight {
-    Weight(Ends),
+// Why there is no raw weight: the formula needs a below d (refusal 13 at a = d), and no deal sheet has inputs outside
+// the limits.
+#[derive(Clone, Copy, Debug, PartialEq, Eq)]
+pub enum NoRawWeight {
     NoThickness,
     OutsideLimits,
 }
 
-// The raw weight of a tranche from a to d, for the pool charge k and the supervisory parameter p, these four in millionths: its high number, which is never below the
-// exact value, and its low number, which is never above it. Where k is at least 1, d above k and a below d, 01 leaves the first open within demand 3, and 02 the second within S-6;
+// The raw weight of a tranche from a to d, for the pool charge k and the supervisory parameter p, these four in
+// millionths: its high number, which is never below the exact value, and its low number, which is never above it. Where
+// k is at least 1, d above k and a below d, 01 leaves the first open within demand 3, and 02 the second within S-6;
 // raw_weight settles both. `numbers_of` gives 01's numbers for each case.
-pub fn raw_weight(a: u64, d: u64, k: u64, p: u64) -> RawWeight
+pub fn raw_weight(a: u64, d: u64, k: u64, p: u64) -> Result<Ends, NoRawWeight>
     ensures result_value { numbers_of result ≡ raw_weight a d k p }
     ensures raw_weight { IsRawWeight a d k p (numbers_of result) }
 {
     if !within_limits(a, d, k, p) {
-        return RawWeight::OutsideLimits;
+        return Err(NoRawWeight::OutsideLimits);
     }
     if d <= k {
-        return RawWeight::Weight(Ends {
+        return Ok(Ends {
             low: 125000,
             high: 125000,
         });
     }
     if k == 0 {
-        return RawWeight::Weight(Ends { low: 0, high: 0 });
+        return Ok(Ends { low: 0, high: 0 });
     }
     if d <= a {
-        return RawWeight::NoThickness;
+        return Err(NoRawWeight::NoThickness);
     }
-    RawWeight::Weight(formula_weight(a, d, k, p))
+    Ok(formula_weight(a, d, k, p))
 }

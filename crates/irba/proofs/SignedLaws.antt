@@ -1,18 +1,17 @@
--- Laws of signed numbers, by cases on the sign: how large a product, a sum and a quotient are; sums of small terms as the machine takes them; a quotient rounded up
--- and a number raised, as a test of the sign or of the order leaves them; and the part above 0, a whole number that alone decides what a quotient rounded up and
--- raised is. No axioms.
-use mathlib.Core.Bool.{true, false}
+-- Laws of signed numbers, by cases on the sign: how large a product and a sum are; sums of small terms as the machine takes
+-- them; a number from 0 up, rounded up; and the part above 0, a whole number that alone decides what a quotient rounded up
+-- and raised is. No axioms.
+use mathlib.Core.Bool.{false}
 use mathlib.Core.Path.{◌≡◌, refl, sym, ◌∙◌, subst}
 use Prim.Native.Nat.{ℕ, zero, suc, ◌+◌, ◌*◌, ◌-◌, ◌/◌, ◌≤◌, ◌<◌, max}
-use native.Mathlib.Nat.{div-le_self, mul-le-mul_right}
+use native.Mathlib.Nat.{mul-le-mul_right}
 use native.Mathlib.Omega.{arith}
-use lib.Dec.{T, ltb, lit≤, le→leb, lt→ltb, leb→le, ltb→lt}
+use lib.Dec.{ltb, lit≤, le→leb, lt→ltb, leb→le, ltb→lt}
 use lib.IntN.{ℤ, pos, negsuc, neg_ℤ, nat_abs, sub_ℕ, ◌+ℤ◌, ◌*ℤ◌}
-use lib.Signed.{mag, lt_z, non_neg, quot_z, ◌≤ℤ◌, ◌<ℤ◌}
+use lib.Signed.{mag, lt_z, ◌≤ℤ◌, ◌<ℤ◌}
 use mir.Syntax.{w64}
-use mir.Val.{Fits, SFits, to_z, of_z}
+use mir.Val.{SFits, to_z, of_z}
 use mir.ValLaws.{to_z-of_z}
-use borrow.Author.Tests.{ltb-true, ltb-false}
 use Rattle.numbers.proofs.RoundingLaws.{rounded_up_zero}
 use Rattle.numbers.proofs.Tests.{true_not_false, at_cond}
 use Rattle.numbers.specs.Rounding.{rounded_up}
@@ -38,10 +37,6 @@ mag_sum (pos a) (pos b) = omega arith
 mag_sum (pos a) (negsuc b) = omega (arith, mag_difference a (suc b))
 mag_sum (negsuc a) (pos b) = omega (arith, mag_difference b (suc a))
 mag_sum (negsuc a) (negsuc b) = omega arith
-
-pub mag_quotient : (z : ℤ) (d : ℕ) → mag (quot_z z (pos d)) ≤ mag z
-mag_quotient (pos a) d = div-le_self a d
-mag_quotient (negsuc a) d = mag_negated (suc a / d) a (div-le_self (suc a) d)
 
 -- ---- sums as the machine takes them, of what it reads back from the bits of their parts
 
@@ -70,33 +65,15 @@ one_more {n} {x} {z} w s h k =
       small = omega (arith, mag_sum z w, s.small, k);
     }
 
--- ---- a test of the sign or of the order, and what is picked by it
-
-pub rounded_up_below_zero : (z : ℤ) (d : ℕ) → lt_z z (pos 0) ≡ true → quot_z z (pos d) ≡ signed_rounded_up z d
-rounded_up_below_zero (pos a) d e = absurd (let h = ltb-true a 0 e in omega arith)
-rounded_up_below_zero (negsuc a) d e = refl
+-- ---- a number that is no lower than one from 0 up
 
 pub rounded_up_from_zero : (z : ℤ) (d : ℕ) → lt_z z (pos 0) ≡ false → pos (rounded_up (nat_abs z) d) ≡ signed_rounded_up z d
 rounded_up_from_zero (pos a) d e = refl
 rounded_up_from_zero (negsuc a) d e = absurd (true_not_false e)
 
-pub raised_from_below : (least : ℕ) (z : ℤ) → lt_z z (pos least) ≡ true → least ≡ raised_to least z
-raised_from_below least (pos a) e = omega (arith, ltb-true a least e)
-raised_from_below least (negsuc a) e = refl
-
-pub raised_as_it_is : (least : ℕ) (z : ℤ) → lt_z z (pos least) ≡ false → nat_abs z ≡ raised_to least z
-raised_as_it_is least (pos a) e = omega (arith, ltb-false a least e)
-raised_as_it_is least (negsuc a) e = absurd (true_not_false e)
-
--- ---- a number that is no lower than one from 0 up
-
 pub mag_from_zero : (least : ℕ) (z : ℤ) → lt_z z (pos least) ≡ false → nat_abs z ≡ mag z
 mag_from_zero least (pos a) e = refl
 mag_from_zero least (negsuc a) e = absurd (true_not_false e)
-
-pub cast_from_zero : (least : ℕ) (z : ℤ) → lt_z z (pos least) ≡ false → SFits w64 z → T (non_neg z) × Fits w64 (nat_abs z)
-cast_from_zero least (pos a) e fits = (tt, record { fits = omega (arith, fits.sfits) })
-cast_from_zero least (negsuc a) e fits = absurd (true_not_false e)
 
 -- ---- the part above 0
 

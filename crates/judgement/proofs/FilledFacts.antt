@@ -16,7 +16,7 @@ use Rattle.limits.specs.SheetSize.{facts_least, facts_most}
 use Rattle.judgement.specs.DealSheet.{word, pool_kind, resecuritisation, fact, reporting_date, in_hundredths, pool_at, rows, row_at, tranches_at, tranche_count, tranche_at, amount, irb_at, irb_place, irb_figures, irb_words, needed}
 use Rattle.judgement.specs.FilledFacts.{CanFill, filled, moved}
 use Rattle.judgement.specs.Refusals.{row_of, fault, refused, judge_with, judge, first_of, judged, words_follow, words_verdict}
-use Rattle.judgement.specs.declared.Verdict.TheVariants.{Sound}
+use Rattle.judgement.specs.Verdicts.{Sound}
 use Rattle.judgement.proofs.Judgement.{fault_of_fact_count, fault_of_fact}
 use Rattle.judgement.proofs.MovedVerdicts.{at_moved, moved_or_else, moved_cond, judge_with_moved, first_of_moved, first_of_some_more, first_of_shifted}
 use Rattle.judgement.proofs.NeededLaws.{tranches_at_past_rows, irb_at_past_tranches, needed_is, pool_count_needed}

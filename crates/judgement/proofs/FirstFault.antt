@@ -6,9 +6,7 @@ use native.Mathlib.Nat.{eq-or-lt_of_le, le_of_suc-le-suc, not-suc-le-zero}
 use native.Mathlib.Numerals.{add-one}
 use native.Mathlib.Omega.{arith}
 use Rattle.judgement.specs.Refusals.{or_else, first_of}
-use Rattle.judgement.specs.declared.Refusal.{Refusal}
-use Rattle.judgement.specs.declared.Verdict.{Verdict}
-use Rattle.judgement.specs.declared.Verdict.TheVariants.{Sound, Faulty}
+use Rattle.judgement.specs.Verdicts.{Refusal, Verdict, Sound, Faulty}
 
 -- of two verdicts, the first decides where it is a fault
 pub or_else_sound : (v w : Verdict) → or_else v w ≡ Sound → (v ≡ Sound) × (w ≡ Sound)

@@ -11,7 +11,7 @@ use Rattle.faults.specs.WordFaults.{row_is_good}
 use Rattle.faults.proofs.RowTestLaw.{row_faultless}
 use Rattle.judgement.specs.DealSheet.{word, resecuritisation, in_hundredths, rows, row_at}
 use Rattle.judgement.specs.Refusals.{fault, judged}
-use Rattle.judgement.specs.declared.Verdict.TheVariants.{Sound}
+use Rattle.judgement.specs.Verdicts.{Sound}
 use Rattle.judgement.proofs.Judgement.{judged_next, fault_of_row}
 
 -- the next word is good

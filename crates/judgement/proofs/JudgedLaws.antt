@@ -12,8 +12,7 @@ use Rattle.judgement.specs.DealSheet.{word, pool_kind, resecuritisation, reporti
 use Rattle.judgement.specs.Refusals.{row_of, column_of, fault, judge, judged, words_verdict}
 use Rattle.judgement.specs.JudgedWords.{bad, missing, first_bad, words_follow_lem}
 use Rattle.judgement.specs.Judged.{GoodBelow, BadHere, WordsGood, WordsRefusal}
-use Rattle.judgement.specs.declared.Refusal.{Refusal}
-use Rattle.judgement.specs.declared.Verdict.TheVariants.{Sound, Faulty}
+use Rattle.judgement.specs.Verdicts.{Refusal, Sound, Faulty}
 use Rattle.judgement.proofs.JudgedWords.{why_refused, refused_so, what_accepted, accepted_so}
 use Rattle.judgement.proofs.JudgedWords as JudgedWords
 use Rattle.judgement.proofs.SheetLimits.{needed_at_most}

@@ -9,9 +9,7 @@ use lib.Dec.{ltb, eqb}
 use borrow.Author.Tests.{ltb-true, ltb-false, eqb-false, lt-ltb, le-ltb, eq-eqb, ne_eqb}
 use Rattle.judgement.specs.Refusals.{refused, judge_with, first_of, judged_words}
 use Rattle.judgement.specs.JudgedWords.{GoodWordBy, GoodBelowBy, BadHereBy, bad, missing, FirstBadBy, WordsGoodBy, WordsRefusalBy, first_bad, words_follow_lem}
-use Rattle.judgement.specs.declared.Refusal.{Refusal}
-use Rattle.judgement.specs.declared.Verdict.{Verdict}
-use Rattle.judgement.specs.declared.Verdict.TheVariants.{Sound, Faulty}
+use Rattle.judgement.specs.Verdicts.{Refusal, Verdict, Sound, Faulty}
 use Rattle.judgement.proofs.FirstFault.{or_else_sound, or_else_faulty, FirstFault, first_of_sound, first_of_all, first_of_faulty, faulty_first_of}
 use Rattle.judgement.proofs.Judgement.{judge_with_sound}
 

@@ -13,9 +13,7 @@ use Rattle.judgement.specs.DealSheet.{word, pool_kind, resecuritisation, reporti
 use Rattle.limits.specs.SheetSize.{facts_least, facts_most, rows_most, tranches_most, irb_rows}
 use Rattle.faults.specs.WordFaults.{count_fault, fact_fault, row_fault, tranche_fault, irb_fault}
 use Rattle.judgement.specs.Refusals.{row_of, column_of, fault, refused, judge_with, judge, judged}
-use Rattle.judgement.specs.declared.Refusal.{Refusal}
-use Rattle.judgement.specs.declared.Verdict.{Verdict}
-use Rattle.judgement.specs.declared.Verdict.TheVariants.{Sound, Faulty}
+use Rattle.judgement.specs.Verdicts.{Refusal, Verdict, Sound, Faulty}
 use Rattle.judgement.proofs.FirstFault.{first_of_sound, first_of_next}
 use Rattle.judgement.proofs.NeededLaws.{pool_at_least, tranches_at_past_rows, irb_at_past_tranches}
 

@@ -7,8 +7,8 @@ use native.Mathlib.Nat.{add-zero}
 use native.Mathlib.Omega.{arith}
 use lib.Dec.{ltb, eqb}
 use Rattle.judgement.specs.Refusals.{refused, judge_with, or_else, first_of}
-use Rattle.judgement.specs.declared.Verdict.{Verdict}
-use Rattle.judgement.specs.declared.Verdict.TheVariants.{Sound, Faulty}
+use Rattle.judgement.specs.Verdicts.{Verdict}
+use Rattle.judgement.specs.Verdicts.{Sound, Faulty}
 
 abbrev pub at_moved : (ℕ → ℕ) → Verdict → Verdict
 at_moved m Sound = Sound

@@ -53,9 +53,6 @@ irb_words_most s = either (has_irb s)
 pub tranche_word_needed : (s : List ℕ) (i c : ℕ) → i < tranche_count s → c < 7 → tranche_at s i + c < needed s
 tranche_word_needed s i c row column = omega (arith, irb_at_past_tranches s, needed_is s)
 
-pub tranche_needed : (s : List ℕ) (i : ℕ) → i ≤ tranche_count s → tranche_at s i ≤ needed s
-tranche_needed s i h = omega (arith, irb_at_past_tranches s, needed_is s)
-
 pub tranche_count_needed : (s : List ℕ) → tranches_at s + 1 ≤ needed s
 tranche_count_needed s = omega (arith, irb_at_past_tranches s, needed_is s)
 

@@ -1,11 +1,12 @@
--- The numbers of an outcome settle it, and the verdict that left it; and what a verdict leaves. No axioms.
+-- The numbers of an outcome settle it, the verdict that left it and the answer that has them; and what a verdict leaves. No axioms.
+use Rattle.std.specs.Prelude.{Result, Ok, Err}
+use Rattle.faults.proofs.ReasonLaws.{same_reason}
 use mathlib.Core.Path.{◌≡◌, refl, sym, ap}
 use Prim.Native.Nat.{ℕ}
 use native.Mathlib.Omega.{arith}
-use Rattle.judgement.specs.Outcome.{Outcome, found, refused_by, outcome}
-use Rattle.judgement.specs.declared.Refusal.{Refusal}
-use Rattle.judgement.specs.declared.Verdict.{Verdict}
-use Rattle.judgement.specs.declared.Verdict.TheVariants.{Sound, Faulty}
+use Rattle.judgement.specs.Outcome.{Outcome, found, refused_by, outcome, numbers_of}
+use Rattle.judgement.specs.Verdicts.{Refusal, Verdict, Sound, Faulty, refusal_of}
+use Rattle.judgement.specs.declared.Refusal.{Refusal as DeclaredRefusal}
 
 module _ {A : Type 0} where
   pub same_found : (a b : A) → ◌≡◌ {A = Outcome A} (found a) (found b) → a ≡ b
@@ -38,3 +39,18 @@ module _ {A : Type 0} where
   pub refused_means : (r : Refusal) (b : A) (v : Verdict) → refused_by r ≡ outcome b v → v ≡ Faulty r
   refused_means r b Sound e = absurd (found_not_refused b r (sym e))
   refused_means r b (Faulty q) e = ap Faulty (same_refusal q r (sym e))
+
+-- ---- the answer from its numbers
+
+-- a refusal is its reason and place
+pub refusal_settled : (q r : DeclaredRefusal) → refusal_of q ≡ refusal_of r → q ≡ r
+refusal_settled q r e =
+    let reason : q.reason ≡ r.reason = same_reason q.reason r.reason (ap (λ (x : Refusal). x.number) e) in
+    let place : q.place ≡ r.place = ap (λ (x : Refusal). x.place) e in
+    rw (reason, place)
+
+pub answer_of_numbers : {A : Type 0} (v w : Result A DeclaredRefusal) → numbers_of v ≡ numbers_of w → v ≡ w
+answer_of_numbers (Ok a) (Ok b) e = ap Ok (same_found a b e)
+answer_of_numbers (Ok a) (Err r) e = absurd (found_not_refused a (refusal_of r) e)
+answer_of_numbers (Err q) (Ok b) e = absurd (found_not_refused b (refusal_of q) (sym e))
+answer_of_numbers (Err q) (Err r) e = ap Err (refusal_settled q r (same_refusal (refusal_of q) (refusal_of r) e))

@@ -7,7 +7,7 @@ use Rattle.limits.specs.SheetSize.{facts_most, rows_most, tranches_most}
 use Rattle.judgement.specs.DealSheet.{word, pool_at, rows, tranches_at, tranche_count, irb_at, needed, layout}
 use Rattle.judgement.specs.ReadLayout.{no_layout, layout_read}
 use Rattle.judgement.specs.Refusals.{judged}
-use Rattle.judgement.specs.declared.Verdict.TheVariants.{Sound}
+use Rattle.judgement.specs.Verdicts.{Sound}
 use Rattle.judgement.proofs.SheetLimits.{facts_within, facts_counted, rows_within, pool_counted, tranches_within, tranches_counted}
 
 module _ (s : List ℕ) where

@@ -17,7 +17,7 @@ use Rattle.faults.proofs.GoodWordsLaw.{good_fact, good_row as row-of-words, good
 use Rattle.judgement.specs.DealSheet.{word, pool_kind, resecuritisation, has_fact, fact, stc, reporting_date, in_hundredths, pool_at, rows, row_at, exposure, nominal, weight_word, weight_unit, risk_weight, status, tranches_at, tranche_count, tranche_at, amount, class, maturity, held, first_rating, second_rating, third_rating, has_irb, irb_at, irb_place, irb_figures, needed}
 use Rattle.judgement.specs.Refusals.{judge, judged}
 use Rattle.judgement.specs.GoodSheet.{GoodRowOf, GoodTrancheOf, GoodIrbOf}
-use Rattle.judgement.specs.declared.Verdict.TheVariants.{Sound}
+use Rattle.judgement.specs.Verdicts.{Sound}
 use Rattle.judgement.proofs.FirstFault.{first_of_prefix}
 use Rattle.judgement.proofs.NeededLaws.{tranches_at_past_rows, irb_at_past_tranches, needed_is, irb_words_most, irb_word_needed, irb_count_needed, tranche_word_needed, tranche_count_needed, row_word_needed, pool_count_needed}
 use Rattle.judgement.proofs.Judgement.{good_word, fault_of_fact_count, fault_of_fact, fault_of_pool_count, fault_of_row, fault_of_tranche_count, fault_of_tranche, fault_of_irb_count, fault_of_irb}

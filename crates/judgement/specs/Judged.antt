@@ -6,7 +6,7 @@ use Rattle.judgement.specs.JudgedWords.{GoodBelowBy, BadHereBy, WordsGoodBy, Wor
 use Rattle.judgement.specs.Outcome.{Outcome, refused_with, found}
 use Rattle.judgement.specs.Refusals.{fault}
 use Rattle.judgement.specs.declared.Layout.{Layout}
-use Rattle.judgement.specs.declared.Refusal.{Refusal}
+use Rattle.judgement.specs.Verdicts.{Refusal}
 
 -- the first k words of a sheet are there and have no fault
 abbrev pub GoodBelow : List ℕ → ℕ → Type 0

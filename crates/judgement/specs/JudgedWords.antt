@@ -2,7 +2,7 @@
 -- there must be. Of a sheet's words this is Judged.antt; 02, S-10, judges the five words of an amendment by the same rule. That these and the definition by steps (`judged_words`, Refusals.antt)
 -- say the same is proved in proofs/JudgedWords.antt.
 use Rattle.std.specs.Prelude.{◌≡◌, ℕ, ◌<◌}
-use Rattle.judgement.specs.declared.Refusal.{Refusal}
+use Rattle.judgement.specs.Verdicts.{Refusal}
 
 -- ---- one word
 

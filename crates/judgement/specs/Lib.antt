@@ -1,8 +1,10 @@
 pub mod DealSheet
+pub mod Verdicts
 pub mod Outcome
 pub mod Refusals
 pub mod JudgedWords
 pub mod Judged
+pub mod JudgedAnswer
 pub mod GoodSheet
 pub mod LaidOut
 pub mod FilledFacts

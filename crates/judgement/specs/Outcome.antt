@@ -1,9 +1,8 @@
 -- 01, "Refusals, by who can cause them": "A refusal returns its number and a place"; where there is none, what was found, for which 01 has no number. One type for every
 -- answer that is a refusal or a value.
-use Rattle.std.specs.Prelude.{ℕ}
-use Rattle.judgement.specs.declared.Refusal.{Refusal}
-use Rattle.judgement.specs.declared.Verdict.{Verdict}
-use Rattle.judgement.specs.declared.Verdict.TheVariants.{Sound, Faulty}
+use Rattle.std.specs.Prelude.{ℕ, Result, Ok, Err}
+use Rattle.judgement.specs.declared.Refusal.{Refusal as DeclaredRefusal}
+use Rattle.judgement.specs.Verdicts.{Refusal, Verdict, Sound, Faulty, refusal_of}
 
 pub data Outcome (A : Type 0) : Type 0 where
   refused_with : ℕ → ℕ → Outcome A
@@ -17,3 +16,8 @@ refused_by r = refused_with r.number r.place
 abbrev pub outcome : {A : Type 0} → A → Verdict → Outcome A
 outcome a Sound = found a
 outcome a (Faulty r) = refused_by r
+
+-- the numbers of an answer, by each of its cases
+abbrev pub numbers_of : {A : Type 0} → Result A DeclaredRefusal → Outcome A
+numbers_of (Ok a) = found a
+numbers_of (Err r) = refused_by (refusal_of r)

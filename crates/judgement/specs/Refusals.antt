@@ -4,12 +4,9 @@ use Rattle.std.specs.Prelude.{cond, List, ℕ, zero, suc, ◌+◌, ◌-◌, ◌/
 use Rattle.limits.specs.SheetSize.{facts_least, facts_most, rows_most, row_size, tranches_most, tranche_size, irb_rows, irb_size}
 use Rattle.faults.specs.WordFaults.{count_fault, fact_fault, row_fault, tranche_fault, irb_fault}
 use Rattle.judgement.specs.DealSheet.{word, pool_kind, resecuritisation, reporting_date, in_hundredths, pool_at, tranches_at, amount, class, irb_at, needed, layout}
-use Rattle.judgement.specs.Outcome.{Outcome, found, refused_by, outcome}
+use Rattle.judgement.specs.Outcome.{Outcome, outcome}
 use Rattle.judgement.specs.declared.Layout.{Layout}
-use Rattle.judgement.specs.declared.Verdict.{Verdict}
-use Rattle.judgement.specs.declared.Verdict.TheVariants.{Sound, Faulty}
-use Rattle.judgement.specs.declared.Words.{Words}
-use Rattle.judgement.specs.declared.Words.TheVariants.{Good, Bad}
+use Rattle.judgement.specs.Verdicts.{Verdict, Sound, Faulty}
 
 -- ---- the fault of a word of the sheet
 
@@ -75,11 +72,6 @@ unfoldable pub words_verdict : List ℕ → Verdict
 words_verdict s = or_else (judged s (needed s)) (words_follow s)
 
 -- ---- what the words of a sheet are found to be, in 01's numbers: a refusal's number and place, or what is read of good words
-
--- the numbers of each case of the enum
-abbrev pub numbers_of : Words → Outcome Layout
-numbers_of (Good l) = found l
-numbers_of (Bad r) = refused_by r
 
 -- the numbers that the words of a sheet are due
 unfoldable pub words_numbers : List ℕ → Outcome Layout

@@ -1,13 +1,14 @@
-// Where the words of a sheet stand. A place is worked out only once the counts before it are good, or are at least within their limits. Open to other crates are `word_at`, `in_hundredths` and
-// `read_layout`, which take any words.
+// Where the words of a sheet stand. A place is worked out only once the counts before it are good, or are at least
+// within their limits. Open to other crates are `word_at`, `in_hundredths` and `read_layout`, which take any words.
 ghost use Rattle.std.specs.Prelude.{◌≡◌, ◌+◌, ◌≤◌, ◌<◌};
 ghost use Rattle.limits.specs.SheetSize.{irb_size, place_limit};
 ghost use Rattle.judgement.specs.DealSheet.{word, fact, in_hundredths, pool_at, rows, row_at, tranches_at, tranche_count, tranche_at, irb_at, irb_place, irb_figures, needed, layout};
 ghost use Rattle.judgement.specs.ReadLayout.{layout_read};
 ghost use Rattle.judgement.specs.Refusals.{judged};
-ghost use Rattle.judgement.specs.declared.Verdict.TheVariants.{Sound};
+ghost use Rattle.judgement.specs.Verdicts.{Sound};
 
 use crate::Layout;
+use crate::counted::CountedTranches;
 use irba::IrbFigures;
 use limits::{FACTS_MOST, IRB_ROWS, IRB_SIZE, ROW_SIZE, ROWS_MOST, TRANCHE_SIZE, TRANCHES_MOST};
 
@@ -15,7 +16,7 @@ use limits::{FACTS_MOST, IRB_ROWS, IRB_SIZE, ROW_SIZE, ROWS_MOST, TRANCHE_SIZE, 
 pub fn word_at(s: &[u64], p: u64) -> u64
     ensures { result ≡ word s.now p }
 {
-    if p < s.len() as u64 { s[p as usize] } else { 0 }
+    s.get(p as usize).copied().unwrap_or(0)
 }
 
 // Fact n, which not every sheet has; 0 where the list of facts is shorter.
@@ -32,20 +33,13 @@ pub fn in_hundredths(s: &[u64]) -> bool
     fact_at(s, 7) == 1
 }
 
-// The place of the pool's count.
+// The place of the pool's count. This and the next ask for a good first word by a clause: a type for two would say no
+// more.
 pub(crate) fn pool_at(s: &[u64]) -> u64
     requires { judged s.now 1 ≡ Sound }
     ensures { result ≡ pool_at s.now }
 {
     1 + word_at(s, 0)
-}
-
-// The place of pool row i, from 0; that past the last row is the place of the tranches' count.
-pub(crate) fn row_at(s: &[u64], i: u64) -> u64
-    requires { (judged s.now (pool_at s.now + 1) ≡ Sound) × (i ≤ rows s.now) }
-    ensures { result ≡ row_at s.now i }
-{
-    pool_at(s) + 1 + ROW_SIZE as u64 * i
 }
 
 // The number of pool rows.
@@ -56,51 +50,8 @@ pub(crate) fn row_count(s: &[u64]) -> u64
     word_at(s, pool_at(s))
 }
 
-// The place of the tranches' count.
-pub(crate) fn tranches_at(s: &[u64]) -> u64
-    requires { judged s.now (pool_at s.now + 1) ≡ Sound }
-    ensures { result ≡ tranches_at s.now }
-{
-    row_at(s, row_count(s))
-}
-
-// The number of tranches.
-pub(crate) fn tranche_count(s: &[u64]) -> u64
-    requires { judged s.now (pool_at s.now + 1) ≡ Sound }
-    ensures { result ≡ tranche_count s.now }
-{
-    word_at(s, tranches_at(s))
-}
-
-// The place of tranche i, from 0; that past the last tranche is the place of the IRB section's count.
-pub(crate) fn tranche_at(s: &[u64], i: u64) -> u64
-    requires { (judged s.now (tranches_at s.now + 1) ≡ Sound) × (i ≤ tranche_count s.now) }
-    ensures { result ≡ tranche_at s.now i }
-{
-    tranches_at(s) + 1 + TRANCHE_SIZE as u64 * i
-}
-
-// The place of the IRB section's count, past the last tranche.
-pub(crate) fn irb_at(s: &[u64]) -> u64
-    requires { judged s.now (tranches_at s.now + 1) ≡ Sound }
-    ensures { result ≡ irb_at s.now }
-{
-    tranche_at(s, tranche_count(s))
-}
-
-// The number of words that the sheet needs: the place past its last section, which for an SA pool is that of the tranches.
-pub(crate) fn end_of(s: &[u64]) -> u64
-    requires { judged s.now (tranches_at s.now + 1) ≡ Sound }
-    ensures { result ≡ needed s.now }
-{
-    let end = irb_at(s);
-    if word_at(s, 1) == 0 {
-        return end;
-    }
-    end + 1 + (IRB_SIZE * IRB_ROWS) as u64
-}
-
 // A word of the IRB section's row, by its column from 0, where the section's count is at that place.
+// The place is handed in, here and below: the two readers of a layout find it in two ways.
 fn irb_word(s: &[u64], at: u64, column: u64) -> u64
     requires { (at ≡ irb_at s.now) × (at ≤ place_limit) × (column < irb_size) }
     ensures { result ≡ word s.now (irb_place s.now column) }
@@ -108,23 +59,13 @@ fn irb_word(s: &[u64], at: u64, column: u64) -> u64
     word_at(s, at + 1 + column)
 }
 
-// The figures of a sheet without the section.
-const NO_FIGURES: IrbFigures = IrbFigures {
-    charge: 0,
-    loss: 0,
-    loans: 0,
-    retail: false,
-    share: 0,
-    average: 0,
-};
-
 // The figures of the IRB section, whose count is at that place; zeros where the sheet has none.
 fn irb_figures(s: &[u64], at: u64) -> IrbFigures
     requires { (at ≡ irb_at s.now) × (at ≤ place_limit) }
     ensures { result ≡ irb_figures s.now }
 {
     if word_at(s, 1) == 0 {
-        return NO_FIGURES;
+        return IrbFigures::NONE;
     }
     IrbFigures {
         charge: irb_word(s, at, 0),
@@ -137,6 +78,8 @@ fn irb_figures(s: &[u64], at: u64) -> IrbFigures
 }
 
 // What is read of a sheet whose words are good. Each word that every sheet has is there, so it is read where it stands.
+// It stays beside `read_layout`, which reads the same of any words: with one function for both a small deal is slower.
+// Its clause stays: it has one caller, judge_words.
 pub(crate) fn layout_of(s: &[u64]) -> Layout
     requires { judged s.now (needed s.now) ≡ Sound }
     ensures { result ≡ layout s.now }
@@ -144,6 +87,7 @@ pub(crate) fn layout_of(s: &[u64]) -> Layout
     let pool = (1 + s[0]) as usize;
     let rows = s[pool];
     let tranches = pool + 1 + ROW_SIZE * rows as usize;
+    let counted = CountedTranches { words: s };
     Layout {
         kind: s[1],
         resecuritisation: s[2] == 1,
@@ -156,44 +100,28 @@ pub(crate) fn layout_of(s: &[u64]) -> Layout
         rows,
         first_tranche: tranches + 1,
         tranches: s[tranches],
-        irb: irb_figures(s, irb_at(s)),
+        irb: irb_figures(s, counted.irb_at()),
     }
 }
 
-// What is read where a count is above its limit.
-const NO_LAYOUT: Layout = Layout {
-    kind: 0,
-    resecuritisation: false,
-    stc: false,
-    diligence: false,
-    composition: false,
-    reporting_date: 0,
-    hundredths: false,
-    first_row: 0,
-    rows: 0,
-    first_tranche: 0,
-    tranches: 0,
-    irb: NO_FIGURES,
-};
-
-// What is read of a sheet whose words are not judged: nothing where a count is above its limit, for then no place behind it is known. Of a sheet whose words are good it is
-// what `layout_of` reads.
+// What is read of a sheet whose words are not judged: nothing where a count is above its limit, for then no place
+// behind it is known. Of a sheet whose words are good it is what `layout_of` reads.
 pub fn read_layout(s: &[u64]) -> Layout
     ensures { result ≡ layout_read s.now }
 {
     let facts = word_at(s, 0);
     if (FACTS_MOST as u64) < facts {
-        return NO_LAYOUT;
+        return Layout::NONE;
     }
     let pool = 1 + facts;
     let rows = word_at(s, pool);
     if (ROWS_MOST as u64) < rows {
-        return NO_LAYOUT;
+        return Layout::NONE;
     }
     let count = pool + 1 + ROW_SIZE as u64 * rows;
     let tranches = word_at(s, count);
     if (TRANCHES_MOST as u64) < tranches {
-        return NO_LAYOUT;
+        return Layout::NONE;
     }
     Layout {
         kind: word_at(s, 1),

@@ -1,55 +1,26 @@
 #![tactic(auto)]
 
-ghost use Rattle.std.specs.Prelude.{◌≡◌, ◌-◌, min, max};
+ghost use Rattle.std.specs.Prelude.{◌≡◌, min, max};
 ghost use Rattle.numbers.specs.Limits.{within};
 ghost use Rattle.numbers.specs.BothEnds.{rounded};
 ghost use Rattle.numbers.specs.Rounding.{rounded_up};
-
-// The smaller of two numbers.
-pub fn smaller(a: u64, b: u64) -> u64
-    ensures { result ≡ min a b }
-{
-    if a < b { a } else { b }
-}
-
-// The larger of two numbers.
-pub fn larger(a: u64, b: u64) -> u64
-    ensures { result ≡ max a b }
-{
-    if a < b { b } else { a }
-}
 
 // The middle of three numbers: the first, raised to the smaller of the others and lowered to the larger of them.
 pub fn middle(a: u64, b: u64, c: u64) -> u64
     ensures { result ≡ min (max a (min b c)) (max b c) }
 {
-    smaller(larger(a, smaller(b, c)), larger(b, c))
+    a.max(b.min(c)).min(b.max(c))
 }
 
-// What a has above b: max(a − b, 0).
-pub fn excess(a: u64, b: u64) -> u64
-    ensures { result ≡ a - b }
-{
-    if a < b { 0 } else { a - b }
-}
-
-// x / y, rounded up, by quotient and remainder so that nothing is added to x; 0 where y is 0.
+// x / y, rounded up; 0 where y is 0. Nothing is added to x, so it may be any number.
 pub fn rounded_up(x: u64, y: u64) -> u64
     ensures { result ≡ rounded_up x y }
 {
-    if y == 0 {
-        return 0;
-    }
-    let quotient = x / y;
-    if quotient * y == x {
-        quotient
-    } else {
-        quotient + 1
-    }
+    if y == 0 { 0 } else { x.div_ceil(y) }
 }
 
 // Two whole numbers between which an exact figure lies: the low end is never above it, the high end never below.
-#[derive(Clone, Copy)]
+#[derive(Clone, Copy, Debug, PartialEq, Eq)]
 pub struct Ends {
     pub low: u64,
     pub high: u64,
@@ -60,11 +31,12 @@ pub fn rounded(x: u64, y: u64) -> Ends
     ensures { result ≡ rounded x y }
 {
     if y == 0 {
-        return Ends { low: 0, high: 0 };
-    }
-    Ends {
-        low: x / y,
-        high: rounded_up(x, y),
+        Ends { low: 0, high: 0 }
+    } else {
+        Ends {
+            low: x / y,
+            high: rounded_up(x, y),
+        }
     }
 }
 
@@ -72,8 +44,5 @@ pub fn rounded(x: u64, y: u64) -> Ends
 pub fn within(least: u64, most: u64, n: u64) -> bool
     ensures { result ≡ within least most n }
 {
-    if n < least {
-        return false;
-    }
-    n <= most
+    least <= n && n <= most
 }

@@ -1,13 +1,12 @@
 -- The sums of the blocks: over all blocks they are the pool's, past the last they are 0, and each is within the limits of its rows. No axioms.
 use mathlib.Core.Bool.{true}
 use mathlib.Core.List.{List}
-use mathlib.Core.Logic.{⊎_elim}
 use mathlib.Core.Path.{◌≡◌, refl, sym, ap, ◌∙◌}
 use Prim.Native.Nat.{ℕ, ◌+◌, ◌*◌, ◌≤◌, ◌<◌}
-use native.Mathlib.Nat.{eq-or-lt_of_le, mul-le-mul_left, not-suc-le-zero, zero-add}
+use native.Mathlib.Nat.{mul-le-mul_left, zero-add}
 use native.Mathlib.Omega.{arith}
-use lib.ListN.{length, get_or, set}
-use lib.Seq.{get_or-set_same, get_or-set_other}
+use lib.ListN.{get_or, take}
+use Rattle.std.proofs.Common.{get_or-take}
 use Rattle.limits.specs.SheetSize.{block_size, blocks_most}
 use Rattle.numbers.specs.Rounding.{rounded_up}
 use Rattle.numbers.specs.Sum.{sum, block_start, block_end, block_sum}
@@ -18,7 +17,7 @@ use Rattle.judgement.specs.DealSheet.{rows, needed}
 use Rattle.judgement.specs.LaidOut.{LaidOut}
 use Rattle.judgement.specs.Refusals.{judged}
 use Rattle.judgement.specs.declared.Layout.{Layout}
-use Rattle.judgement.specs.declared.Verdict.TheVariants.{Sound}
+use Rattle.judgement.specs.Verdicts.{Sound}
 use Rattle.judgement.proofs.LayoutLaws.{rows_is}
 use Rattle.judgement.proofs.SheetLimits.{rows_within, pool_counted}
 use Rattle.pool.specs.PoolSums.{known, delinquent, pool_sums}
@@ -105,18 +104,9 @@ block_made s b first end q from to is = is ∙ rw (from, to) refl
 
 -- ---- the array of the blocks' sums
 
-pub nothing_filled : (s : List ℕ) (each : List Sums) → Subtotals s 0 each
-nothing_filled s each = record { at_block = λ b l. absurd (not-suc-le-zero l) }
-
-pub block_filled :
-    (s : List ℕ) (each : List Sums) (b : ℕ) (q : Sums) → b < length each → Subtotals s b each → q ≡ block_sums s b → Subtotals s (b + 1) (set each b q)
-block_filled s each b q among before is = record {
-  at_block = λ k l.
-      ⊎_elim
-      (λ (same : k ≡ b). rw same (get_or-set_same each b q no_sums among ∙ is))
-      (λ (below : k < b). get_or-set_other each b k q no_sums (λ same. omega arith) ∙ before.at_block k below)
-      (eq-or-lt_of_le (omega arith));
-}
+-- the first n of them alone
+pub taken_filled : (s : List ℕ) (n : ℕ) (each : List Sums) → Subtotals s n each → Subtotals s n (take n each)
+taken_filled s n each filled = record { at_block = λ b l. rw get_or-take (filled.at_block b l) }
 
 -- ---- the blocks of an accepted sheet
 
@@ -146,6 +136,10 @@ module _ (s : List ℕ) (accepted : judged s (needed s) ≡ Sound) where
     pub filled_total : n ≡ blocks s → over_blocks (λ b. get_or each b no_sums) n ≡ pool_sums s
     filled_total all =
         over_same (λ b. get_or each b no_sums) (λ b. block_sums s b) n filled.at_block ∙ every_total s n (rw all blocks_within.0)
+
+-- no pool has a block of number 20 or above
+pub no_block : (s : List ℕ) → judged s (needed s) ≡ Sound → (b : ℕ) → blocks_most ≤ b → no_sums ≡ block_sums s b
+no_block s accepted b past = no_rows_left s b (omega (arith, rows_within s (pool_counted s accepted)))
 
 -- the blocks counted from the layout
 pub blocks_counted :

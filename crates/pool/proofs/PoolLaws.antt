@@ -7,6 +7,7 @@ use Prim.Native.Nat.{ℕ, zero, suc, ◌*◌, ◌-◌, ◌≤◌, ◌<◌}
 use native.Mathlib.Nat.{le_refl, mul-le-mul_left}
 use native.Mathlib.Omega.{arith}
 use borrow.Author.Tests.{leb-true, eqb-true, ne_eqb}
+use Rattle.limits.specs.SheetSize.{rows_most}
 use Rattle.numbers.specs.Sum.{sum, where_counted}
 use Rattle.numbers.proofs.SumLaws.{sum_at_most, sum_from_at_most, sum_at_least, sum_ordered, sum_scaled}
 use Rattle.charge.specs.PoolCharge.{base_charge, unknown_exposure, mostly_known, pool_average}
@@ -15,7 +16,7 @@ use Rattle.numbers.specs.Rounding.{rounded_up}
 use Rattle.charge.specs.SumLimits.{SumLimits}
 use Rattle.judgement.specs.DealSheet.{in_hundredths, rows, exposure, nominal, weight_word, status, needed}
 use Rattle.judgement.specs.Refusals.{judged}
-use Rattle.judgement.specs.declared.Verdict.TheVariants.{Sound}
+use Rattle.judgement.specs.Verdicts.{Sound}
 use Rattle.judgement.proofs.SheetLimits.{good_row, weight_in_percent, risk_weight_most, rows_within, pool_counted}
 use Rattle.pool.specs.PoolSums.{known, delinquent, weighted_exposure, pool_sums}
 use Rattle.pool.specs.RowTotals.{amount_most, weighted_most, totals_from, unknown, marked_from, TotalsOfRows, MarkedOfRows}
@@ -42,6 +43,14 @@ counted_among false more x h = omega arith
 module _ (s : List ℕ) (accepted : judged s (needed s) ≡ Sound) where
   row_weighted : (i : ℕ) → i < rows s → weighted_exposure s i ≤ 125000 * exposure s i
   row_weighted i row = omega (arith, mul-le-mul_left (exposure s i) (risk_weight_most s i accepted row))
+
+  -- a row's amounts are at most 10^10, its weighted exposure is at most 1.25 × 10^15, and there are at most 1,000 rows
+  pub row_limits :
+      (i : ℕ) → i < rows s →
+      (i < rows_most) × ((exposure s i ≤ amount_most) × ((nominal s i ≤ amount_most) × (weighted_exposure s i ≤ weighted_most)))
+  row_limits i row =
+      let good = good_row s i accepted row in
+      (omega (arith, rows_within s (pool_counted s accepted)), (good.exposure_most, (good.nominal_most, omega (arith, row_weighted i row, good.exposure_most))))
 
   late_known : (i : ℕ) → delinquent s i ≡ true → known s i ≡ true
   late_known i e =

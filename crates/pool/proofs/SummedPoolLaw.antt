@@ -2,36 +2,27 @@
 use mathlib.Core.List.{List}
 use mathlib.Core.Path.{◌≡◌, refl, sym, ap, ◌∙◌, subst}
 use Prim.Native.Nat.{ℕ}
+use Rattle.std.specs.Prelude.{Result}
 use Rattle.charge.specs.declared.Sums.{Sums}
-use Rattle.judgement.specs.Outcome.{found, refused_by}
+use Rattle.judgement.specs.Outcome.{found, refused_by, numbers_of}
 use Rattle.judgement.specs.ReadLayout.{layout_read}
 use Rattle.judgement.specs.Refusals.{words_verdict}
 use Rattle.judgement.specs.declared.Layout.{Layout}
-use Rattle.judgement.specs.declared.Refusal.{Refusal}
-use Rattle.judgement.specs.declared.Verdict.TheVariants.{Sound, Faulty}
+use Rattle.judgement.specs.Verdicts.{Refusal, Sound, Faulty}
+use Rattle.judgement.specs.declared.Refusal.{Refusal as Declared}
 use Rattle.judgement.proofs.JudgeSteps.{needed_sound}
 use Rattle.judgement.proofs.ReadLayout.{layout_read_lem}
-use Rattle.judgement.proofs.OutcomeLaws.{same_found, same_refusal, found_not_refused, found_when, refused_when, found_means, refused_means}
+use Rattle.judgement.proofs.OutcomeLaws.{answer_of_numbers, found_not_refused, found_when, refused_when, found_means, refused_means}
 use Rattle.pool.specs.PoolSums.{pool_sums}
 use Rattle.pool.specs.BlockSums.{block_sums, sum_words, sums_of}
-use Rattle.pool.specs.SummedBlock.{numbers_of as block_numbers_of, block_numbers}
-use Rattle.pool.specs.declared.Block.{Block}
-use Rattle.pool.specs.declared.Block.TheVariants as block
-use Rattle.pool.specs.SummedPool.{OpenPool, OpenedPool, numbers_of, opened_numbers}
-use Rattle.pool.specs.declared.Opening.{Opening}
-use Rattle.pool.specs.declared.Opening.TheVariants.{Opened, Refused}
+use Rattle.pool.specs.SummedBlock.{block_numbers}
+use Rattle.pool.specs.SummedPool.{OpenPool, OpenedPool, opened_numbers}
 
-pub opening_settled : (v w : Opening) → numbers_of v ≡ numbers_of w → v ≡ w
-opening_settled (Opened q) (Opened p) e = ap Opened (same_found q p e)
-opening_settled (Opened q) (Refused r) e = absurd (found_not_refused q r e)
-opening_settled (Refused t) (Opened p) e = absurd (found_not_refused p t (sym e))
-opening_settled (Refused t) (Refused r) e = ap Refused (same_refusal t r e)
+pub opening_settled : (v w : Result Sums Declared) → numbers_of v ≡ numbers_of w → v ≡ w
+opening_settled = answer_of_numbers
 
-pub block_settled : (v w : Block) → block_numbers_of v ≡ block_numbers_of w → v ≡ w
-block_settled (block.Summed q) (block.Summed p) e = ap block.Summed (same_found q p e)
-block_settled (block.Summed q) (block.Refused r) e = absurd (found_not_refused q r e)
-block_settled (block.Refused t) (block.Summed p) e = absurd (found_not_refused p t (sym e))
-block_settled (block.Refused t) (block.Refused r) e = ap block.Refused (same_refusal t r e)
+pub block_settled : (v w : Result Sums Declared) → numbers_of v ≡ numbers_of w → v ≡ w
+block_settled = answer_of_numbers
 
 -- ---- from the words to the numbers
 

@@ -5,14 +5,12 @@ use mathlib.Core.Path.{◌≡◌, refl, sym, ap}
 use Prim.Native.Nat.{ℕ, zero, suc, ◌+◌, ◌-◌, ◌≤◌}
 use native.Mathlib.Nat.{add-zero, le_refl}
 use native.Mathlib.Omega.{arith}
-use borrow.Author.Tests.{eq-eqb, ne_eqb}
-use Rattle.judgement.specs.DealSheet.{exposure, nominal, status}
+use Rattle.judgement.specs.DealSheet.{exposure, nominal}
 use Rattle.numbers.specs.Sum.{sum, sum_from, where_counted}
 use Rattle.numbers.proofs.SumLaws.{sum_from_next, sum_from_none}
 use Rattle.pool.specs.PoolSums.{known, delinquent, weighted_exposure, totals_by, sums_by}
 use Rattle.pool.specs.BlockSums.{no_totals}
 use Rattle.pool.specs.RowTotals.{totals_from, sums_from, unknown, marked_from, with_row, with_marked}
-use Rattle.pool.specs.declared.Marked.{Marked}
 use Rattle.charge.specs.declared.Sums.{Sums}
 use Rattle.charge.specs.declared.Totals.{Totals}
 
@@ -93,17 +91,6 @@ module _ (s : List ℕ) (a : ℕ) where
 
   pub marked_as_far : (i e : ℕ) → i - a ≡ e - a → marked_from s a i ≡ marked_from s a e
   marked_as_far i e far = rw far refl
-
--- a row of each status added
-module _ (s : List ℕ) (m : Marked) (i : ℕ) where
-  pub marked_unknown : status s i ≡ 2 → ◌≡◌ {A = Marked} (record { unknown = with_row s m.unknown i; late = m.late }) (with_marked s m i)
-  marked_unknown two = rw (eq-eqb (status s i) 2 two, ne_eqb (status s i) 1 (λ one. omega arith), add-zero m.late) refl
-
-  pub marked_late : status s i ≡ 1 → ◌≡◌ {A = Marked} (record { unknown = m.unknown; late = m.late + nominal s i }) (with_marked s m i)
-  marked_late one = rw (eq-eqb (status s i) 1 one, ne_eqb (status s i) 2 (λ two. omega arith)) refl
-
-  pub marked_other : (status s i ≡ 2 → ⊥) → (status s i ≡ 1 → ⊥) → m ≡ with_marked s m i
-  marked_other unknown late = rw (ne_eqb (status s i) 2 unknown, ne_eqb (status s i) 1 late, add-zero m.late) refl
 
 -- ---- the seven sums
 

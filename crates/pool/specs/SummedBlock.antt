@@ -2,16 +2,9 @@
 -- block's sums.
 use Rattle.std.specs.Prelude.{List, ℕ}
 use Rattle.charge.specs.declared.Sums.{Sums}
-use Rattle.judgement.specs.Outcome.{Outcome, refused_with, found, refused_by, outcome}
+use Rattle.judgement.specs.Outcome.{Outcome, refused_with, found, outcome}
 use Rattle.judgement.specs.Refusals.{words_verdict}
 use Rattle.pool.specs.BlockSums.{block_sums, no_sums}
-use Rattle.pool.specs.declared.Block.{Block}
-use Rattle.pool.specs.declared.Block.TheVariants.{Summed, Refused}
-
--- the numbers of each case of the enum
-abbrev pub numbers_of : Block → Outcome Sums
-numbers_of (Summed q) = found q
-numbers_of (Refused r) = refused_by r
 
 -- the numbers that block b of a sheet is due
 unfoldable pub block_numbers : List ℕ → ℕ → Outcome Sums

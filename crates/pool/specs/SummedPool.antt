@@ -2,13 +2,11 @@
 use Rattle.std.specs.Prelude.{List, ◌≡◌, ℕ}
 use Rattle.charge.specs.declared.Sums.{Sums}
 use Rattle.judgement.specs.DealSheet.{layout}
-use Rattle.judgement.specs.Outcome.{Outcome, found, refused_by, outcome}
+use Rattle.judgement.specs.Outcome.{Outcome, outcome}
 use Rattle.judgement.specs.Refusals.{words_verdict}
 use Rattle.judgement.specs.declared.Layout.{Layout}
-use Rattle.judgement.specs.declared.Verdict.TheVariants.{Sound}
+use Rattle.judgement.specs.Verdicts.{Sound}
 use Rattle.pool.specs.PoolSums.{pool_sums}
-use Rattle.pool.specs.declared.Opening.{Opening}
-use Rattle.pool.specs.declared.Opening.TheVariants.{Opened, Refused}
 
 -- ---- an opened pool: the sheet's words are good, and the layout and the sums are the sheet's
 
@@ -22,11 +20,6 @@ abbrev pub OpenedPool : List ℕ → Sums → Type 0
 OpenedPool s q = OpenPool s (layout s) q
 
 -- ---- what a sheet is opened to, in 01's numbers: the refusal that its words get, which comes before 14, or its pool's seven sums
-
--- the numbers of each case of the enum
-abbrev pub numbers_of : Opening → Outcome Sums
-numbers_of (Opened q) = found q
-numbers_of (Refused r) = refused_by r
 
 -- the numbers that a sheet is due
 unfoldable pub opened_numbers : List ℕ → Outcome Sums

@@ -3,45 +3,21 @@
 
 ghost use Rattle.std.specs.Prelude.{true, ◌≡◌, ◌+◌, ◌≤◌, ◌<◌};
 ghost use Rattle.limits.specs.SheetSize.{rows_most, row_size, block_size, blocks_most};
-ghost use Rattle.judgement.specs.DealSheet.{word, rows, row_at, weight_unit, risk_weight};
-ghost use Rattle.judgement.specs.LaidOut.{LaidOut};
+ghost use Rattle.judgement.specs.DealSheet.{word, row_at, exposure, nominal, weight_unit, risk_weight, status};
 ghost use Rattle.pool.specs.PoolSums.{pool_sums};
 ghost use Rattle.pool.specs.BlockSums.{block_sums, sum_words, sums_of};
-ghost use Rattle.pool.specs.SummedPool.{numbers_of, opened_numbers};
-ghost use Rattle.pool.specs.SummedBlock.{numbers_of as block_numbers_of, block_numbers, sums_read};
+ghost use Rattle.judgement.specs.Outcome.{numbers_of};
+ghost use Rattle.pool.specs.SummedPool.{opened_numbers};
+ghost use Rattle.pool.specs.SummedBlock.{block_numbers, sums_read};
 ghost use Rattle.pool.specs.RowTotals.{totals_from, sums_from, marked_from, with_row, with_marked, totals_added, with_block, TotalsOfRows, MarkedOfRows, SumsOfRows, Subtotals};
 
+mod pool_rows;
+
 use charge::{Sums, Totals};
-use judgement::{Layout, Refusal, Words};
+use judgement::{JudgedSheet, Refusal};
 use limits::{BLOCK_SIZE, BLOCKS_MOST, ROW_SIZE};
-use numbers::{rounded_up, smaller};
-
-// What a sheet's pool is opened to: its seven sums; or the refusal that the words get, and it is not opened.
-#[derive(Clone, Copy)]
-pub enum Opening {
-    Opened(Sums),
-    Refused(Refusal),
-}
-
-// What a block of a sheet's pool comes to: its sums; or the refusal that the words get.
-#[derive(Clone, Copy)]
-pub enum Block {
-    Summed(Sums),
-    Refused(Refusal),
-}
-
-// Totals and sums over no rows.
-const NO_TOTALS: Totals = Totals {
-    exposure: 0,
-    nominal: 0,
-    weighted: 0,
-};
-
-const NO_SUMS: Sums = Sums {
-    all: NO_TOTALS,
-    known: NO_TOTALS,
-    late: 0,
-};
+use numbers::rounded_up;
+use pool_rows::{Row, Rows};
 
 // The words of seven sums.
 pub const SUM_WORDS: usize = 7;
@@ -53,155 +29,175 @@ struct Marked {
     late: u64,
 }
 
-// A word of pool row i, by its column from 0.
-fn row_word(s: &[u64], l: Layout, i: u64, column: usize) -> u64
-    requires { LaidOut s.now l × (i < rows s.now) × (column < row_size) }
-    ensures { result ≡ word s.now (row_at s.now i + column) }
-{
-    let at = l.first_row + ROW_SIZE * i as usize + column;
-    s[at]
-}
-
-// The hundredths of a percent that one unit of a risk weight word is.
+// The hundredths of a percent that one unit of a risk weight word is: one of two figures, as its definition is.
 fn weight_unit(hundredths: bool) -> u64
     ensures { result ≡ weight_unit hundredths }
 {
     if hundredths { 1 } else { 100 }
 }
 
-// The risk weight of pool row i in hundredths of a percent, whatever the unit of its word.
-fn risk_weight(s: &[u64], l: Layout, i: u64) -> u64
-    requires { LaidOut s.now l × (i < rows s.now) }
-    ensures { result ≡ risk_weight s.now i }
-{
-    weight_unit(l.hundredths) * row_word(s, l, i, 2)
+impl Row<'_> {
+    // A word of the row, by its column from 0.
+    fn word(self, column: usize) -> u64
+        requires { column < row_size }
+        ensures { result ≡ word self.entry.sheet.now.words.now (row_at self.entry.sheet.now.words.now self.entry.number + column) }
+    {
+        let at = self.sheet.layout.first_row + ROW_SIZE * self.number as usize + column;
+        self.sheet.words[at]
+    }
+
+    // The exposure amount.
+    // Exposure, nominal and status are one line each, of a definition each.
+    fn exposure(self) -> u64
+        ensures { result ≡ exposure self.entry.sheet.now.words.now self.entry.number }
+    {
+        self.word(0)
+    }
+
+    // The nominal amount.
+    fn nominal(self) -> u64
+        ensures { result ≡ nominal self.entry.sheet.now.words.now self.entry.number }
+    {
+        self.word(1)
+    }
+
+    // The risk weight in hundredths of a percent, whatever the unit of its word.
+    fn risk_weight(self) -> u64
+        ensures { result ≡ risk_weight self.entry.sheet.now.words.now self.entry.number }
+    {
+        weight_unit(self.sheet.layout.hundredths) * self.word(2)
+    }
+
+    // The status.
+    fn status(self) -> u64
+        ensures { result ≡ status self.entry.sheet.now.words.now self.entry.number }
+    {
+        self.word(3)
+    }
 }
 
-// Totals with row i added.
-fn with_row(s: &[u64], l: Layout, t: Totals, i: u64) -> Totals
-    requires { LaidOut s.now l × (i < rows s.now) × TotalsOfRows t i }
-    ensures { result ≡ with_row s.now t i }
+// Totals with a row added.
+#[tactic(auto, using(crate::proofs::PoolLaws::row_limits))]
+fn with_row(t: Totals, row: Row) -> Totals
+    requires { TotalsOfRows t row.number }
+    ensures { result ≡ with_row row.entry.sheet.now.words.now t row.entry.number }
 {
-    let exposure = row_word(s, l, i, 0);
-    let nominal = row_word(s, l, i, 1);
-    let weighted = exposure * risk_weight(s, l, i);
+    let exposure = row.exposure();
     Totals {
         exposure: t.exposure + exposure,
-        nominal: t.nominal + nominal,
-        weighted: t.weighted + weighted,
+        nominal: t.nominal + row.nominal(),
+        weighted: t.weighted + exposure * row.risk_weight(),
     }
 }
 
-// The totals over the rows from first to before end.
-fn totals_from(s: &[u64], l: Layout, first: u64, end: u64) -> Totals
-    requires { LaidOut s.now l × (end ≤ rows s.now) }
-    ensures { result ≡ totals_from s.now (λ i. true) first end }
+// What is marked, with a row added: a row of status 2 is not known, one of status 1 is delinquent.
+// The status stays the sheet's word, as in the definitions.
+fn with_marked(m: Marked, row: Row) -> Marked
+    requires { MarkedOfRows m row.number }
+    ensures { result ≡ with_marked row.entry.sheet.now.words.now m row.entry.number }
 {
-    let mut t = NO_TOTALS;
-    let mut i = first;
-    while i < end {
-        t = with_row(s, l, t, i);
-        i += 1;
-    }
-    t
-}
-
-// What is marked, with row i added: a row of status 2 is not known, one of status 1 is delinquent.
-fn with_marked(s: &[u64], l: Layout, m: Marked, i: u64) -> Marked
-    requires { LaidOut s.now l × (i < rows s.now) × MarkedOfRows m i }
-    ensures { result ≡ with_marked s.now m i }
-{
-    let status = row_word(s, l, i, 3);
-    let unknown = m.unknown;
-    if status == 2 {
-        return Marked {
-            unknown: with_row(s, l, unknown, i),
+    match row.status() {
+        2 => Marked {
+            unknown: with_row(m.unknown, row),
             late: m.late,
-        };
+        },
+        1 => Marked {
+            unknown: m.unknown,
+            late: m.late + row.nominal(),
+        },
+        _ => m,
     }
-    if status == 1 {
-        return Marked {
-            unknown,
-            late: m.late + row_word(s, l, i, 1),
-        };
-    }
-    m
 }
 
-// What is marked of the rows from first to before end.
-fn marked_from(s: &[u64], l: Layout, first: u64, end: u64) -> Marked
-    requires { LaidOut s.now l × (end ≤ rows s.now) }
-    ensures { result ≡ marked_from s.now first end }
-{
-    let mut m = Marked {
-        unknown: NO_TOTALS,
-        late: 0,
-    };
-    let mut i = first;
-    while i < end {
-        m = with_marked(s, l, m, i);
-        i += 1;
+impl Rows<'_> {
+    // The totals over the rows.
+    fn totals(self) -> Totals
+        ensures { result ≡ totals_from self.entry.sheet.now.words.now (λ i. true) self.entry.first self.entry.end }
+    {
+        let sheet = self.sheet;
+        let mut t = Totals::NONE;
+        for number in self.first..self.end {
+            t = with_row(t, Row { sheet, number });
+        }
+        t
     }
-    m
-}
 
-// The seven sums over the rows from first to before end. Rows of unknown status and delinquent rows are few, so a pass of their own, which reads little of the
-// other rows, is quicker than one pass for all seven sums.
-fn sums_from(s: &[u64], l: Layout, first: u64, end: u64) -> Sums
-    requires { LaidOut s.now l × (end ≤ rows s.now) }
-    ensures { result ≡ sums_from s.now first end }
-{
-    let marked = marked_from(s, l, first, end);
-    let all = totals_from(s, l, first, end);
-    let unknown = marked.unknown;
-    let known = Totals {
-        exposure: all.exposure - unknown.exposure,
-        nominal: all.nominal - unknown.nominal,
-        weighted: all.weighted - unknown.weighted,
-    };
-    Sums {
-        all,
-        known,
-        late: marked.late,
+    // What is marked of the rows.
+    fn marked(self) -> Marked
+        ensures { result ≡ marked_from self.entry.sheet.now.words.now self.entry.first self.entry.end }
+    {
+        let sheet = self.sheet;
+        let mut m = Marked {
+            unknown: Totals::NONE,
+            late: 0,
+        };
+        for number in self.first..self.end {
+            m = with_marked(m, Row { sheet, number });
+        }
+        m
+    }
+
+    // The seven sums over the rows. Rows of unknown status and delinquent rows are few, so a pass of their own, which
+    // reads little of the other rows, is quicker than one pass for all seven sums.
+    fn sums(self) -> Sums
+        ensures { result ≡ sums_from self.entry.sheet.now.words.now self.entry.first self.entry.end }
+    {
+        let marked = self.marked();
+        let all = self.totals();
+        let unknown = marked.unknown;
+        let known = Totals {
+            exposure: all.exposure - unknown.exposure,
+            nominal: all.nominal - unknown.nominal,
+            weighted: all.weighted - unknown.weighted,
+        };
+        Sums {
+            all,
+            known,
+            late: marked.late,
+        }
     }
 }
 
 // The sums of block b, counted from 0.
-fn block_of(s: &[u64], l: Layout, b: u64) -> Sums
-    requires { LaidOut s.now l × (b < blocks_most) }
-    ensures { result ≡ block_sums s.now b }
+#[tactic(auto, using(judgement::proofs::LayoutLaws::rows_is, crate::proofs::BlockLaws::block_made))]
+fn block_of(sheet: &JudgedSheet, b: u64) -> Sums
+    requires { b < blocks_most }
+    ensures { result ≡ block_sums sheet.now.words.now b }
 {
     let first = BLOCK_SIZE as u64 * b;
-    let end = smaller(l.rows, first + BLOCK_SIZE as u64);
-    sums_from(s, l, first, end)
+    let end = sheet.layout.rows.min(first + BLOCK_SIZE as u64);
+    let block = Rows { sheet, first, end };
+    block.sums()
 }
 
-// The sums of a block of any number: past the last there are no rows, and a number that no pool's block has is not multiplied.
-fn block_or_none(s: &[u64], l: Layout, b: u64) -> Sums
-    requires { LaidOut s.now l }
-    ensures { result ≡ block_sums s.now b }
+// The sums of a block of any number: past the last there are no rows, and a number that no pool's block has is not
+// multiplied.
+#[tactic(auto, using(crate::proofs::BlockLaws::no_block))]
+fn block_or_none(sheet: &JudgedSheet, b: u64) -> Sums
+    ensures { result ≡ block_sums sheet.now.words.now b }
 {
     if b < BLOCKS_MOST as u64 {
-        return block_of(s, l, b);
+        block_of(sheet, b)
+    } else {
+        Sums::NONE
     }
-    NO_SUMS
 }
 
 // The sums of each of the first n blocks.
-fn subtotals(s: &[u64], l: Layout, n: u64) -> [Sums; BLOCKS_MOST]
-    requires { LaidOut s.now l × (n ≤ blocks_most) }
-    ensures { Subtotals s.now n result }
+// An array, which is 02's form.
+fn subtotals(sheet: &JudgedSheet, n: u64) -> [Sums; BLOCKS_MOST]
+    requires { n ≤ blocks_most }
+    ensures { Subtotals sheet.now.words.now n result }
 {
-    let mut each = [NO_SUMS; BLOCKS_MOST];
-    let mut b = 0;
-    while b < n {
-        each[b as usize] = block_of(s, l, b);
-        b += 1;
+    let mut each = [Sums::NONE; BLOCKS_MOST];
+    for b in 0..n {
+        each[b as usize] = block_of(sheet, b);
     }
     each
 }
 
-// The sum of two totals, of which the second is over the rows of a block.
+// The sum of two totals, of which the second is over the rows of a block. It is no `+` of `Totals`, since that would be
+// a public promise of `charge`, with a condition for each caller to meet.
 fn added(t: Totals, u: Totals) -> Totals
     requires { TotalsOfRows t rows_most × TotalsOfRows u block_size }
     ensures { result ≡ totals_added t u }
@@ -226,68 +222,61 @@ fn with_block(q: Sums, block: Sums) -> Sums
 }
 
 // The pool's sums: per block of rows, then over the blocks.
-fn over_blocks(s: &[u64], l: Layout) -> Sums
-    requires { LaidOut s.now l }
-    ensures { result ≡ pool_sums s.now }
+fn over_blocks(sheet: &JudgedSheet) -> Sums
+    ensures { result ≡ pool_sums sheet.now.words.now }
 {
-    let n = rounded_up(l.rows, BLOCK_SIZE as u64);
-    let each = subtotals(s, l, n);
-    let mut q = NO_SUMS;
-    let mut b = 0;
-    while b < n {
-        let block = each[b as usize];
+    let n = rounded_up(sheet.layout.rows, BLOCK_SIZE as u64);
+    let each = subtotals(sheet, n);
+    let mut q = Sums::NONE;
+    for &block in &each[..n as usize] {
         q = with_block(q, block);
-        b += 1;
     }
     q
 }
 
-// The pool's sums. A pool of one block has that block's: an array for a single block would cost a small deal a fifth of its time.
-fn pool_sums(s: &[u64], l: Layout) -> Sums
-    requires { LaidOut s.now l }
-    ensures { result ≡ pool_sums s.now }
+// The pool's sums. A pool of one block has that block's: an array for a single block would cost a small deal a fifth of
+// its time.
+#[tactic(auto, using(judgement::proofs::LayoutLaws::rows_is, crate::proofs::BlockLaws::one_block))]
+fn pool_sums(sheet: &JudgedSheet) -> Sums
+    ensures { result ≡ pool_sums sheet.now.words.now }
 {
-    if l.rows <= BLOCK_SIZE as u64 {
-        return block_of(s, l, 0);
+    if sheet.layout.rows <= BLOCK_SIZE as u64 {
+        block_of(sheet, 0)
+    } else {
+        over_blocks(sheet)
     }
-    over_blocks(s, l)
 }
 
-// Opens a sheet's pool: its seven sums; or the refusal that its words get. Neither the room for results nor the tranches' thickness is judged here. `numbers_of` gives 01's
-// number and place of a refusal, and where there is none the sums.
-pub fn open_pool(s: &[u64]) -> Opening
+// Opens a sheet's pool: its seven sums; or the refusal that its words get. Neither the room for results nor the
+// tranches' thickness is judged here. `numbers_of` gives 01's number and place of a refusal, and where there is none
+// the sums.
+pub fn open_pool(s: &[u64]) -> Result<Sums, Refusal>
     ensures { numbers_of result ≡ opened_numbers s.now }
 {
-    let words = judgement::judge_words(s);
-    match words {
-        Words::Good(layout) => Opening::Opened(pool_sums(s, layout)),
-        Words::Bad(r) => Opening::Refused(r),
-    }
+    let sheet = JudgedSheet::judge(s)?;
+    Ok(pool_sums(&sheet))
 }
 
-// The sums of a block of a sheet's pool, blocks counted from 0; or the refusal that the sheet's words get, whatever the block. Neither the room for results nor the tranches' thickness is
-// judged here. `block_numbers_of` gives 01's number and place of a refusal, and where there is none the sums.
-pub fn sum_block(s: &[u64], block: u64) -> Block
-    ensures { block_numbers_of result ≡ block_numbers s.now block }
+// The sums of a block of a sheet's pool, blocks counted from 0; or the refusal that the sheet's words get, whatever the
+// block. Neither the room for results nor the tranches' thickness is judged here. `numbers_of` gives 01's number and
+// place of a refusal, and where there is none the sums.
+pub fn sum_block(s: &[u64], block: u64) -> Result<Sums, Refusal>
+    ensures { numbers_of result ≡ block_numbers s.now block }
 {
-    let words = judgement::judge_words(s);
-    match words {
-        Words::Good(layout) => Block::Summed(block_or_none(s, layout, block)),
-        Words::Bad(r) => Block::Refused(r),
-    }
+    let sheet = JudgedSheet::judge(s)?;
+    Ok(block_or_none(&sheet, block))
 }
 
 // The sums that a block came to; where the sheet was refused they read 0.
-pub fn sums_read(block: Block) -> Sums
-    ensures { result ≡ sums_read (block_numbers_of block) }
+pub fn sums_read(block: Result<Sums, Refusal>) -> Sums
+    ensures { result ≡ sums_read (numbers_of block) }
 {
-    match block {
-        Block::Summed(q) => q,
-        Block::Refused(_r) => NO_SUMS,
-    }
+    block.unwrap_or(Sums::NONE)
 }
 
-// Seven sums as words: exposure, nominal and weighted exposure over all rows, the same three over the rows with known status, and late nominal.
+// Seven sums as words: exposure, nominal and weighted exposure over all rows, the same three over the rows with known
+// status, and late nominal.
+// Functions and no From, here and below: both are open by these names.
 pub fn sum_words(q: Sums) -> [u64; SUM_WORDS]
     ensures { result ≡ sum_words q }
 {

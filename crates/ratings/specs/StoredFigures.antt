@@ -1,5 +1,5 @@
--- 02, S-4, "A leaner rating table": how the code keeps the figures of RatingTable.antt, which stay in percent. No reader has to trust this file: only private contracts cite it,
--- and `weight_by_ratings` shows it of the constants.
+-- 02, S-4, "A leaner rating table": how the code keeps the figures of RatingTable.antt, which stay in percent. No reader
+-- has to trust this file: only private contracts cite it, and `kept_tables` shows it of the constants.
 use Rattle.std.specs.Prelude.{List, map, ◌≡◌, ℕ, ◌*◌}
 use Rattle.ratings.specs.RatingTable.{rating_table, stc_rating_table}
 

@@ -1,7 +1,9 @@
-// The figures of CRE42 in fives of a percent, so that each fits a byte (02, S-4): 250 stands for 1250%. A table has a row for each grade from AAA down: senior 1 year,
-// senior 5 years, non-senior 1 year, non-senior 5 years. A constant is written to memory at each use, which takes fewer steps with bytes than with larger numbers.
+// The figures of CRE42 in fives of a percent, so that each fits a byte (02, S-4): 250 stands for 1250%. A table has a row
+// for each grade from AAA down: senior 1 year, senior 5 years, non-senior 1 year, non-senior 5 years. The long-term tables
+// are used by reference alone, so that a row is read where it lies: a constant taken by value is written to memory first.
 
 // Table 2.
+// An array, which is 01's form.
 pub const LONG_TERM: [[u8; 4]; 18] = [
     [3, 4, 3, 14],
     [3, 6, 3, 18],

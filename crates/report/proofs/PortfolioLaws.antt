@@ -1,29 +1,25 @@
 -- The text of totals by portfolio: what each line is made of, and that no text is longer than its room. No axioms.
 use mathlib.Core.Bool.{Bool, true, false}
 use mathlib.Core.List.{List, [], ◌∷◌}
-use mathlib.Core.Path.{◌≡◌, refl, sym, ◌∙◌}
+use mathlib.Core.Path.{◌≡◌, refl, ◌∙◌}
 use Prim.Native.Nat.{ℕ, zero, suc, ◌+◌, ◌*◌, ◌≤◌}
-use native.Mathlib.Nat.{zero-add}
 use native.Mathlib.Omega.{arith}
-use lib.ListN.{length, get_or, take, drop, length-append}
-use lib.Seq.{sets}
+use lib.ListN.{length, length-append}
 use Rattle.limits.specs.SheetSize.{block_size}
 use Rattle.numbers.specs.Sum.{block_start, block_end}
 use Rattle.files.specs.FileForm.{good_length, file_words}
 use Rattle.charge.specs.declared.Sums.{Sums}
 use Rattle.judgement.specs.DealSheet.{rows}
 use Rattle.judgement.specs.Refusals.{words_verdict}
-use Rattle.judgement.specs.declared.Refusal.{Refusal}
-use Rattle.judgement.specs.declared.Verdict.{Verdict}
-use Rattle.judgement.specs.declared.Verdict.TheVariants.{Sound, Faulty}
+use Rattle.judgement.specs.Verdicts.{Refusal, Verdict, Sound, Faulty}
 use Rattle.judgement.proofs.JudgeSteps.{needed_sound}
 use Rattle.pool.specs.PoolSums.{pool_sums}
 use Rattle.pool.specs.BlockSums.{block_sums, blocks, sum_words}
 use Rattle.pool.specs.SummedBlock.{block_numbers, sums_read}
 use Rattle.pool.proofs.BlockLaws.{blocks_within}
-use Rattle.report.specs.ReportText.{ascii, spaced, words_line, refusal_line, spaced_room}
+use Rattle.report.specs.ReportText.{ascii, words_line, refusal_line, spaced_room}
 use Rattle.report.specs.PortfolioText.{block_line, block_lines, pool_line, totals_text, totals_for, file_totals, totals_room}
-use Rattle.report.proofs.TextLaws.{put_behind, length_spaced, length_labelled}
+use Rattle.report.proofs.TextLaws.{length_spaced, length_labelled}
 
 -- ---- the text of a file
 
@@ -37,20 +33,11 @@ loaded_totals file words good is = rw (good, is) refl
 
 -- ---- lines
 
--- the first word of the sums, and the other six behind it
-pub sums_line_put :
-    (old : List ℕ) (at : ℕ) (q : Sums) (words : List ℕ) {end : ℕ} {new : List ℕ} → words ≡ sum_words q →
-    (end ≡ at + length (spaced (get_or words 0 0) (take 6 (drop 1 words)))) × (new ≡ sets old at (spaced (get_or words 0 0) (take 6 (drop 1 words)))) →
-    (end ≡ at + length (words_line (sum_words q))) × (new ≡ sets old at (words_line (sum_words q)))
-sums_line_put old at q words are put = rw are at put
-
 -- a block's line is that of its number, its rows and its sums
-pub block_line_put :
-    (old : List ℕ) (n b at first last : ℕ) (q : Sums) {end : ℕ} {new : List ℕ} →
-    (end ≡ at + length (words_line (b ∷ first ∷ last ∷ sum_words q))) × (new ≡ sets old at (words_line (b ∷ first ∷ last ∷ sum_words q))) →
-    first ≡ suc (block_start block_size b) → last ≡ block_end block_size n b →
-    (end ≡ at + length (block_line n b q)) × (new ≡ sets old at (block_line n b q))
-block_line_put old n b at first last q put f l = rw (f, l) at put
+pub block_line_is :
+    (n b first last : ℕ) (q : Sums) → first ≡ suc (block_start block_size b) → last ≡ block_end block_size n b →
+    words_line (b ∷ first ∷ last ∷ sum_words q) ≡ block_line n b q
+block_line_is n b first last q f l = rw (f, l) refl
 
 -- of a sheet whose words are good the rows and the sums of a block are the sheet's
 module _ (s : List ℕ) (sound : words_verdict s ≡ Sound) where
@@ -105,17 +92,6 @@ file_totals_fit file = by_length (good_length file) refl
     by_length false e = rw (← bad_length_totals file e) (length_refusal_totals 15 0)
 
 -- ---- the text of a sheet
-
--- the blocks' lines and the pool's, one after the other
-pub totals_put :
-    (s old : List ℕ) {m end : ℕ} {middle new : List ℕ} →
-    (m ≡ length (block_lines s (blocks s))) × (middle ≡ sets old 0 (block_lines s (blocks s))) →
-    (end ≡ m + length (pool_line (pool_sums s))) × (new ≡ sets middle m (pool_line (pool_sums s))) →
-    (end ≡ length (totals_text s)) × (new ≡ sets old 0 (totals_text s))
-unfolding totals_text
-totals_put s old first second =
-    let both = put_behind old 0 (block_lines s (blocks s)) (pool_line (pool_sums s)) (first.0 ∙ sym (zero-add _), first.1) second in
-    (both.0 ∙ zero-add _, both.1)
 
 pub sound_text : (s : List ℕ) → words_verdict s ≡ Sound → totals_text s ≡ totals_for s (words_verdict s)
 sound_text s sound = rw sound refl

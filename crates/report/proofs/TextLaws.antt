@@ -1,37 +1,45 @@
 -- Laws of the printed text: pieces written one after another are one piece, no line and no text is longer than its room, and words after the lines
 -- of the tranches do not change a deal's text. No axioms.
-use mathlib.Core.List.{List, [], ◌∷◌, ◌++◌}
+use mathlib.Core.List.{List, [], ◌∷◌, ◌++◌, append_assoc, append-nil}
 use mathlib.Core.Path.{◌≡◌, refl, ap, ◌∙◌}
-use Prim.Native.Nat.{ℕ, zero, suc, ◌+◌, ◌*◌, ◌≤◌, ◌<◌}
+use Prim.Native.Nat.{ℕ, zero, suc, ◌+◌, ◌*◌, ◌-◌, ◌≤◌, ◌<◌}
 use Prim.Native.String.{String}
 use native.Mathlib.Omega.{arith}
 use lib.ListN.{length, get_or, take, drop, length-append, length-take, length-drop, get_or-append}
-use lib.Seq.{sets, take-append-le, drop-append-le}
+use lib.Seq.{take-append-le, drop-append-le}
 use Rattle.numbers.proofs.SumLaws.{sum_same}
 use Rattle.limits.specs.SheetSize.{line_size, tranches_most}
 use Rattle.files.specs.Decimal.{decimal}
 use Rattle.files.proofs.DecimalLaws.{length_decimal}
-use Rattle.files.proofs.Pieces.{sets_sets}
+use Rattle.report.specs.BegunText.{Begun, behind}
 use Rattle.report.specs.ReportText.{ascii, labelled, spaced, refusal_line, tranche_line, tranche_lines, rwa_column, capital_column, column_sum, deal_text, number_room, spaced_room, labelled_room, text_room, refusal_room}
 
--- ---- pieces in a buffer
+-- ---- pieces one behind the other
 
--- a piece written where another ends: both are written, and the end is that of the second
-pub put_behind :
-    (old : List ℕ) (at : ℕ) (xs ys : List ℕ) {middle new : List ℕ} {m n : ℕ} →
-    (m ≡ at + length xs) × (middle ≡ sets old at xs) → (n ≡ m + length ys) × (new ≡ sets middle m ys) →
-    (n ≡ at + length (xs ++ ys)) × (new ≡ sets old at (xs ++ ys))
-put_behind old at xs ys first second =
-    (omega (arith, length-append xs ys), second.1 ∙ rw (first.1, first.0) (sets_sets old at xs ys))
+behind_behind : (t : Begun) (xs ys : List ℕ) → behind (behind t xs) ys ≡ behind t (xs ++ ys)
+behind_behind t xs ys =
+    let room : t.room - length xs - length ys ≡ t.room - length (xs ++ ys) = omega (arith, length-append xs ys) in
+    rw (append_assoc t.bytes xs ys, room)
+
+pub put_behind : (t : Begun) (xs ys : List ℕ) {middle new : Begun} → middle ≡ behind t xs → new ≡ behind middle ys → new ≡ behind t (xs ++ ys)
+put_behind t xs ys first second = second ∙ rw first (behind_behind t xs ys)
+
+pub nothing_behind : (t : Begun) → t ≡ behind t []
+nothing_behind t =
+    let room : t.room - length {A = ℕ} [] ≡ t.room = omega arith in
+    rw (append-nil t.bytes, room) refl
+
+pub same_room : {s t : Begun} → s ≡ t → s.room ≡ t.room
+same_room is = ap (λ (t : Begun). t.room) is
+
+-- a text that is written into an empty buffer
+pub whole_text : (room : ℕ) (text : List ℕ) {new t : Begun} → new ≡ record { bytes = []; room = room } → t ≡ behind new text → t.bytes ≡ text
+whole_text room text empty is = ap (λ (t : Begun). t.bytes) is ∙ ap (λ (t : Begun). t.bytes ++ text) empty
 
 -- ---- how long a text can be
 
-length_number : (n b : ℕ) → length (decimal n ++ b ∷ []) ≤ number_room
+pub length_number : (n b : ℕ) → length (decimal n ++ b ∷ []) ≤ number_room
 length_number n b = simp length-append (omega (arith, length_decimal n))
-
--- where a number that is written ends
-pub number_ends : (end at n b : ℕ) → end ≡ at + length (decimal n ++ b ∷ []) → end ≤ at + number_room
-number_ends end at n b is = omega (arith, is, length_number n b)
 
 pub length_spaced : (n : ℕ) (ns : List ℕ) → length (spaced n ns) ≤ spaced_room (length ns)
 unfolding spaced

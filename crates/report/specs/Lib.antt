@@ -1,3 +1,4 @@
 pub mod ReportText
 pub mod PortfolioText
+pub mod BegunText
 pub mod CheckedDeals

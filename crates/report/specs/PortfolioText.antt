@@ -7,8 +7,7 @@ use Rattle.files.specs.FileForm.{good_length, file_words}
 use Rattle.charge.specs.declared.Sums.{Sums}
 use Rattle.judgement.specs.DealSheet.{rows}
 use Rattle.judgement.specs.Refusals.{words_verdict}
-use Rattle.judgement.specs.declared.Verdict.{Verdict}
-use Rattle.judgement.specs.declared.Verdict.TheVariants.{Sound, Faulty}
+use Rattle.judgement.specs.Verdicts.{Verdict, Sound, Faulty}
 use Rattle.pool.specs.PoolSums.{pool_sums}
 use Rattle.pool.specs.BlockSums.{block_sums, blocks, sum_words}
 use Rattle.report.specs.ReportText.{ascii, words_line, refusal_line, spaced_room}

@@ -1,6 +1,6 @@
 -- 01, "Checked deals", and 02, S-6, "Both ends in the report": what the report program prints of a file: "tranche number, then the six words; last line sums risk-weighted amounts and
 -- capital"; "The printed line gains the seventh word at its end"; "A refusal prints `refused NUMBER at PLACE`." A text is the list of its bytes.
-use Rattle.std.specs.Prelude.{cond, List, [], ◌∷◌, ◌++◌, ℕ, zero, suc, ◌+◌, ◌*◌, leb, eqb, length, get_or, take, drop}
+use Rattle.std.specs.Prelude.{Result, Ok, Err, cond, List, [], ◌∷◌, ◌++◌, ℕ, zero, suc, ◌+◌, ◌*◌, leb, eqb, length, get_or, take, drop}
 use Prim.Native.Char.{code}
 use Prim.Native.String.{String, [] as empty, ◌∷◌ as ◌then◌}
 use Rattle.limits.specs.SheetSize.{line_size, tranches_most, result_room}
@@ -9,8 +9,7 @@ use Rattle.files.specs.FileForm.{file_words}
 use Rattle.deal.specs.Results.{Reply, reply_to, lines}
 use Rattle.numbers.specs.Sum.{sum}
 use Rattle.deal_file.specs.FileAnswer.{file_reply}
-use Rattle.report.specs.declared.Written.{Written}
-use Rattle.report.specs.declared.Written.TheVariants.{Whole, NoRoom}
+use Rattle.report.specs.declared.NoRoom.{NoRoom}
 
 -- the bytes of a text in ASCII
 unfoldable pub ascii : String → List ℕ
@@ -105,8 +104,8 @@ refusal_room = labelled_room 12
 -- ---- the text in a lent list of bytes
 
 -- the answer: the text's length, and whether there was room for it
-abbrev pub written_for : List ℕ → List ℕ → Written
-written_for text old = cond (leb (length text) (length old)) (Whole (length text)) (NoRoom (length text))
+abbrev pub written_for : List ℕ → List ℕ → Result ℕ NoRoom
+written_for text old = cond (leb (length text) (length old)) (Ok (length text)) (Err (record { needed = length text }))
 
 -- lent bytes after the text is written: the text, and the rest as it was; all as it was where there is no room
 abbrev pub text_after : List ℕ → List ℕ → List ℕ

@@ -21,6 +21,11 @@ pub fine_entry_at_least : (m : ℕ) → m < 64 → 2 ^ 31 ≤ entry m 1024
 unfolding low entry factorial
 fine_entry_at_least m h = leb→le _ _ (at_each (λ i. leb (2 ^ 31) (entry i 1024)) 64 tt m h)
 
+-- an entry of less than sixteen sixteenths is not 0, by computation
+pub sixteenth_entry_above_zero : (n : ℕ) → n < 16 → 0 < entry n 16
+unfolding low entry factorial
+sixteenth_entry_above_zero n h = ltb→lt _ _ (at_each (λ i. ltb 0 (entry i 16)) 16 tt n h)
+
 -- the computed test of a table's end: Low(43) is more than 2^32
 abbrev ends : ℕ → ℕ → Bool
 unfolding low factorial

@@ -1,8 +1,8 @@
 -- Laws of whole numbers that several proofs share, here and in `formula`: truncated differences, and quotients. No axioms.
 use mathlib.Core.Logic.{⊎_elim}
 use mathlib.Core.Path.{◌≡◌, ◌∙◌, ap, sym}
-use Prim.Native.Nat.{ℕ, ◌+◌, ◌*◌, ◌-◌, ◌/◌, ◌%◌, ◌≤◌, ◌<◌}
-use native.Mathlib.Nat.{eq-zero-or-pos, le_trans, mul-le-mul_left, div-mul-le_self, div-add-mod', mul-add-div_right}
+use Prim.Native.Nat.{ℕ, ◌+◌, ◌*◌, ◌-◌, ◌/◌, ◌%◌, ◌<◌}
+use native.Mathlib.Nat.{eq-zero-or-pos, div-add-mod', mul-add-div_right}
 use native.Mathlib.Omega.{arith}
 
 -- what holds of 0, and of every g with g + d = h, holds of the truncated difference h − d
@@ -15,10 +15,6 @@ pub long_division : (a b s : ℕ) → 0 < b → a * s / b * s + a * s % b * s / 
 long_division a b s pos =
     sym (mul-add-div_right pos (a * s / b * s) (a * s % b * s)) ∙
     ap (λ (x : ℕ). x / b) (omega (arith, ap (λ (x : ℕ). x * s) (div-add-mod' (a * s) b)))
-
--- a quotient is small where the divisor is large
-pub quotient_at_most : (n b c : ℕ) → c ≤ b → n / b * c ≤ n
-quotient_at_most n b c h = le_trans (mul-le-mul_left (n / b) h) (div-mul-le_self n b)
 
 -- (w − z) (w + z) = w² − z²
 pub difference_of_squares : (c w z : ℕ) → c + z ≡ w → c * (w + z) + z * z ≡ w * w

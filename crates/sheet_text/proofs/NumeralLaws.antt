@@ -2,27 +2,20 @@
 use mathlib.Core.Bool.{Bool, true, false, cond, not, ◌&&◌}
 use mathlib.Core.List.{List, [], ◌∷◌, ◌++◌}
 use mathlib.Core.Path.{◌≡◌, refl}
-use Prim.Native.Nat.{ℕ, suc, ◌+◌, ◌*◌, ◌-◌, ◌^◌, ◌≤◌}
+use Prim.Native.Nat.{ℕ, suc, ◌+◌, ◌*◌, ◌-◌, ◌^◌}
 use native.Mathlib.Omega.{arith}
 use borrow.Author.Tests.{leb-true, le-leb}
 use lib.Dec.{leb}
 use Rattle.files.specs.Decimal.{digit, all_digits, value_from}
 use Rattle.files.proofs.DecimalLaws.{all_digits_longer, value_longer}
-use Rattle.numbers.proofs.Tests.{both_true}
+use Rattle.std.specs.Prelude.{Result, Err}
 use Rattle.sheet_text.specs.SheetText.{Token, value, too_large, span_of, made_from}
 use Rattle.sheet_text.specs.Scanning.{fitted, numeral_of, one_more, with_character}
-use Rattle.sheet_text.specs.declared.Made.{Made}
-use Rattle.sheet_text.specs.declared.Made.TheVariants.{NotDecimal, TooLarge}
+use Rattle.sheet_text.specs.declared.TextFault.{TextFault}
+use Rattle.sheet_text.specs.declared.TextFault.TheVariants.{NotDecimal, TooLarge}
 use Rattle.sheet_text.specs.declared.Span.{Span}
 use Rattle.sheet_text.specs.declared.tokens.Numeral.{Numeral}
 use Rattle.sheet_text.specs.declared.tokens.Numeral.TheVariants.{Number, Over, Other}
-
--- ---- digits
-
-pub digit_bounds : (b : ℕ) → digit b ≡ true → (48 ≤ b) × (b ≤ 57)
-digit_bounds b e =
-    let both = both_true (leb 48 b) (leb b 57) e in
-    (leb-true 48 b both.0, leb-true b 57 both.1)
 
 -- ---- one character more
 
@@ -48,17 +41,17 @@ numeral_longer cs b =
 -- ---- what a token's number means for the text
 
 -- what a text makes by the number of its next token, where later tokens would make a given answer
-abbrev pub made_next : Numeral → Span → Made → Made
+abbrev pub made_next : Numeral → Span → Result ℕ TextFault → Result ℕ TextFault
 made_next (Number v) span later = later
-made_next Over span later = TooLarge span
-made_next Other span later = NotDecimal span
+made_next Over span later = Err (TooLarge span)
+made_next Other span later = Err (NotDecimal span)
 
 pub made_next_lem : (room n : ℕ) (t : Token) (ts : List Token) → made_from room n (t ∷ ts) ≡ made_next (numeral_of t.characters) (span_of t) (made_from room (suc n) ts)
 unfolding made_from numeral_of
 made_next_lem room n t ts = by (all_digits t.characters) (too_large t)
   where
     by : (p q : Bool) →
-        cond (not p) (NotDecimal (span_of t)) (cond q (TooLarge (span_of t)) (made_from room (suc n) ts)) ≡
+        cond (not p) (Err (NotDecimal (span_of t))) (cond q (Err (TooLarge (span_of t))) (made_from room (suc n) ts)) ≡
         made_next (cond p (cond q Over (Number (value t))) Other) (span_of t) (made_from room (suc n) ts)
     by true true = refl
     by true false = refl

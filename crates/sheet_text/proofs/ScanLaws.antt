@@ -1,5 +1,5 @@
--- The scan of a text: it begins with nothing read; it goes on past white space that ends a token and past a character of one; at the text's end the
--- last token ends. No axioms.
+-- The scan of a text: it begins with nothing read; it goes on past white space that ends a token and past a character
+-- of one; at the text's end the last token ends. No axioms.
 use mathlib.Core.Bool.{Bool, true, false, cond, ◌||◌}
 use mathlib.Core.List.{List, [], ◌∷◌, ◌++◌, append-nil}
 use mathlib.Core.Path.{◌≡◌, refl, ◌∙◌, sym, ap}
@@ -76,10 +76,10 @@ scan_begins text stored =
       onward = record { made = λ room. refl; kept = λ h. refl };
     }
 
-module _ (text : List ℕ) (comment next : Bool) (s : Scan) (b : ℕ) (within : s.at < length text)
-    (read : b ≡ seen comment (get_or text s.at 0)) (goes : next ≡ comment_after comment (get_or text s.at 0)) where
+module _ (text : List ℕ) (comment next : Bool) (s : Scan) (b i : ℕ) (here : s.at ≡ i) (within : i < length text)
+    (read : b ≡ seen comment (get_or text i 0)) (goes : next ≡ comment_after comment (get_or text i 0)) where
   left : uncommented comment (drop s.at text) ≡ b ∷ uncommented next (drop (suc s.at) text)
-  left = rw (read, goes) (left_next text comment s.at within)
+  left = rw (read, goes, here) (left_next text comment i within)
 
   -- white space ends a token
   pub white_met :

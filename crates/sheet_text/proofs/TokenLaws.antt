@@ -1,14 +1,15 @@
--- The end of a token: where there was none, nothing changes; a number is the next word; any other token refuses the text. No axioms.
+-- The end of a token: a number is the next word; any other token refuses the text. No axioms.
 use mathlib.Core.List.{List, [], ◌∷◌, ◌++◌}
-use mathlib.Core.Path.{◌≡◌, ◌∙◌, sym, ap}
+use mathlib.Core.Path.{◌≡◌, refl, ◌∙◌, sym, ap}
 use Prim.Native.Nat.{ℕ, suc, ◌+◌, ◌≤◌, ◌<◌}
 use native.Mathlib.Numerals.{add-one}
 use native.Mathlib.Omega.{arith}
 use lib.ListN.{length, take, set, length-set}
 use lib.Seq.{take-suc-set, append_snoc}
-use Rattle.sheet_text.specs.SheetText.{Token, ended, value, words, span_of, made_from, bytes_for}
+use Rattle.std.specs.Prelude.{Result, Err}
+use Rattle.sheet_text.specs.SheetText.{Token, ended, value, words, span_of, made_from}
 use Rattle.sheet_text.specs.Scanning.{span_at, Sums, Onward, Refuses}
-use Rattle.sheet_text.specs.declared.Made.{Made}
+use Rattle.sheet_text.specs.declared.TextFault.{TextFault}
 use Rattle.sheet_text.specs.declared.tokens.Numeral.{Numeral}
 use Rattle.sheet_text.specs.declared.tokens.Numeral.TheVariants.{Number}
 use Rattle.sheet_text.specs.declared.tokens.Scan.{Scan}
@@ -28,12 +29,6 @@ word_kept all ahead n stored t v is kept room =
     ap (λ (l : List ℕ). l ++ words ahead) (sym (take-suc-set stored n v h))
 
 module _ {all : List Token} {n : ℕ} {stored : List ℕ} (s : Scan) (ahead : List Token) where
-  pub nothing_ended :
-      (begun : List ℕ) → Sums s begun → s.size ≡ 0 → Onward all n stored (ended (suc s.newlines) s.at begun ++ ahead) →
-      Onward all n stored ahead
-  nothing_ended [] sums none onward = onward
-  nothing_ended (b ∷ bs) sums none onward = absurd (omega arith)
-
   pub word_ended :
       (begun : List ℕ) (v : ℕ) → Sums s begun → (s.size ≡ 0 → ⊥) → s.numeral ≡ Number v →
       Onward all n stored (ended (suc s.newlines) s.at begun ++ ahead) → Onward all (n + 1) (set stored n v) ahead
@@ -51,16 +46,16 @@ module _ {all : List Token} {n : ℕ} {stored : List ℕ} (s : Scan) (ahead : Li
       })
 
   pub token_refused :
-      (begun : List ℕ) (k : Numeral) (m : Made) → Sums s begun → (s.size ≡ 0 → ⊥) → s.numeral ≡ k →
-      ((later : Made) → made_next k (span_at s) later ≡ m) → ((text old : List ℕ) → bytes_for text old m ≡ old) →
-      Onward all n stored (ended (suc s.newlines) s.at begun ++ ahead) → Refuses all m
-  token_refused [] k m sums some is refuses unwritten onward = absurd (some sums.size)
-  token_refused (b ∷ bs) k m sums some is refuses unwritten onward =
+      (begun : List ℕ) (k : Numeral) (fault : TextFault) → Sums s begun → (s.size ≡ 0 → ⊥) → s.numeral ≡ k →
+      ((later : Result ℕ TextFault) → made_next k (span_at s) later ≡ Err fault) →
+      Onward all n stored (ended (suc s.newlines) s.at begun ++ ahead) → Refuses all fault
+  token_refused [] k fault sums some is refuses onward = absurd (some sums.size)
+  token_refused (b ∷ bs) k fault sums some is refuses onward =
       let t : Token = record { line = suc s.newlines; end = s.at; characters = b ∷ bs } in
       record {
         made = λ room.
             onward.made room ∙
             made_next_lem room n t ahead ∙
             rw (← sums.numeral, is, ← sums.size) (refuses (made_from room (suc n) ahead));
-        unwritten = unwritten;
+        unwritten = λ text old. refl;
       }

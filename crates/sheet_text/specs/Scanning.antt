@@ -1,15 +1,13 @@
 -- A text read once from left to right: what a step of the reading makes and what holds at a place of the text. Only contracts of private functions cite
 -- this, so no reader has to trust it.
-use Rattle.std.specs.Prelude.{Bool, false, cond, ◌||◌, List, ◌++◌, ◌≡◌, ℕ, suc, ◌+◌, ◌*◌, ◌-◌, ◌^◌, ◌≤◌, leb, eqb, length, take}
+use Rattle.std.specs.Prelude.{Result, Ok, Err, Bool, false, cond, ◌||◌, List, ◌++◌, ◌≡◌, ℕ, suc, ◌+◌, ◌*◌, ◌-◌, ◌^◌, ◌≤◌, leb, eqb, length, take}
 use Rattle.files.specs.Decimal.{digit, all_digits, newline, space, value_from}
 use Rattle.sheet_text.specs.SheetText.{hash, Token, words, made_from, bytes_for}
-use Rattle.sheet_text.specs.declared.Made.{Made}
+use Rattle.sheet_text.specs.declared.TextFault.{TextFault}
 use Rattle.sheet_text.specs.declared.Span.{Span}
 use Rattle.sheet_text.specs.declared.tokens.Numeral.{Numeral}
 use Rattle.sheet_text.specs.declared.tokens.Numeral.TheVariants.{Number, Over, Other}
 use Rattle.sheet_text.specs.declared.tokens.Scan.{Scan}
-use Rattle.sheet_text.specs.declared.tokens.Ended.{Ended}
-use Rattle.sheet_text.specs.declared.tokens.Ended.TheVariants.{Words, Refused}
 
 -- ---- characters and comments
 
@@ -83,11 +81,11 @@ pub record Onward (all : List Token) (n : ℕ) (stored : List ℕ) (ahead : List
   pub kept : n ≤ length stored → words all ≡ take n stored ++ words ahead
 
 -- all tokens make the same, no bytes, whatever room there is
-pub record Refuses (all : List Token) (m : Made) : Type 0 where
-  pub made : (room : ℕ) → made_from room 0 all ≡ m
-  pub unwritten : (text old : List ℕ) → bytes_for text old m ≡ old
+pub record Refuses (all : List Token) (fault : TextFault) : Type 0 where
+  pub made : (room : ℕ) → made_from room 0 all ≡ Err fault
+  pub unwritten : (text old : List ℕ) → bytes_for text old (Err fault) ≡ old
 
 -- what the end of a token before a place leads to
-abbrev pub Ends : List Token → ℕ → List ℕ → List Token → Ended → Type 0
-Ends all place stored ahead (Words n) = (n ≤ place) × Onward all n stored ahead
-Ends all place stored ahead (Refused made) = Refuses all made
+abbrev pub Ends : List Token → ℕ → List ℕ → List Token → Result ℕ TextFault → Type 0
+Ends all place stored ahead (Ok n) = (n ≤ place) × Onward all n stored ahead
+Ends all place stored ahead (Err fault) = Refuses all fault

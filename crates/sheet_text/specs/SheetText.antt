@@ -1,11 +1,11 @@
 -- The text that a desk writes a sheet in: words in decimal with white space between them, and comments from `#` to the line's end. What it means: the
 -- bytes of the sheet's file, or the first token that is no word, with its line.
-use Rattle.std.specs.Prelude.{Bool, true, false, cond, not, ◌&&◌, ◌||◌, List, [], ◌∷◌, ◌++◌, ℕ, suc, ◌*◌, ◌-◌, ◌^◌, min, leb, eqb, length, drop}
+use Rattle.std.specs.Prelude.{Result, Ok, Err, Bool, true, false, cond, not, ◌&&◌, ◌||◌, List, [], ◌∷◌, ◌++◌, ℕ, suc, ◌*◌, ◌-◌, ◌^◌, min, leb, eqb, length, drop}
 use Rattle.limits.specs.SheetSize.{byte_limit}
 use Rattle.files.specs.Decimal.{newline, space, all_digits, value_from}
 use Rattle.files.specs.FileForm.{file_bytes}
-use Rattle.sheet_text.specs.declared.Made.{Made}
-use Rattle.sheet_text.specs.declared.Made.TheVariants.{Bytes, NotDecimal, TooLarge, TooMany}
+use Rattle.sheet_text.specs.declared.TextFault.{TextFault}
+use Rattle.sheet_text.specs.declared.TextFault.TheVariants.{NotDecimal, TooLarge, TooMany}
 use Rattle.sheet_text.specs.declared.Span.{Span}
 
 -- ---- characters, by their codes
@@ -73,19 +73,17 @@ span_of t = record { line = t.line; start = t.end - length t.characters; end = t
 
 -- the first token that is no word decides; else the bytes, eight to a word, must fit the room and be no more than a sheet's file has. n words were
 -- read before
-unfoldable pub made_from : ℕ → ℕ → List Token → Made
-made_from room n [] = cond (leb (8 * n) (min room byte_limit)) (Bytes (8 * n)) (TooMany n)
+unfoldable pub made_from : ℕ → ℕ → List Token → Result ℕ TextFault
+made_from room n [] = cond (leb (8 * n) (min room byte_limit)) (Ok (8 * n)) (Err (TooMany n))
 made_from room n (t ∷ ts) =
-    cond (not (all_digits t.characters)) (NotDecimal (span_of t))
-    (cond (too_large t) (TooLarge (span_of t))
+    cond (not (all_digits t.characters)) (Err (NotDecimal (span_of t)))
+    (cond (too_large t) (Err (TooLarge (span_of t)))
     (made_from room (suc n) ts))
 
-abbrev pub made_of : List ℕ → ℕ → Made
+abbrev pub made_of : List ℕ → ℕ → Result ℕ TextFault
 made_of text room = made_from room 0 (tokens text)
 
 -- lent bytes after a text was turned into a file's bytes: those bytes, and the rest as it was; all as it was where it makes none
-abbrev pub bytes_for : List ℕ → List ℕ → Made → List ℕ
-bytes_for text old (Bytes n) = file_bytes (words (tokens text)) ++ drop n old
-bytes_for text old (NotDecimal span) = old
-bytes_for text old (TooLarge span) = old
-bytes_for text old (TooMany n) = old
+abbrev pub bytes_for : List ℕ → List ℕ → Result ℕ TextFault → List ℕ
+bytes_for text old (Ok n) = file_bytes (words (tokens text)) ++ drop n old
+bytes_for text old (Err fault) = old

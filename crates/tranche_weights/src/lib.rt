@@ -1,5 +1,6 @@
-// The calculator for programs in C and Rust: the functions that a bank's own system links, with the promises of the functions they call. tranche_weights_c exports
-// them under these names, which end in the version of the interface.
+// The calculator for programs in C and Rust: the functions that a bank's own system links, with the promises of the
+// functions they call. tranche_weights_c exports them under these names, which end in the version of the interface.
+// Numbers and lent numbers side by side are that interface: a function in C has one result and no enum.
 #![tactic(auto)]
 
 ghost use Rattle.std.specs.Prelude.{◌≡◌, ◌≤◌, length};
@@ -7,40 +8,53 @@ ghost use Rattle.deal.specs.DemandThree.{KeepsDemandThree, KeepsSeventhWord};
 ghost use Rattle.deal.specs.Results.{reply_of, reply_to, results_after};
 ghost use Rattle.deal_file.specs.FileAnswer.{file_reply, file_results, FileKeepsDemandThree, FileKeepsSeventhWord};
 ghost use Rattle.report.specs.ReportText.{file_text, text_after, text_room};
-ghost use Rattle.pool.specs.SummedBlock.{numbers_of};
+ghost use Rattle.judgement.specs.Outcome.{numbers_of};
 ghost use Rattle.tranche_weights.specs.BlockReply.{block_reply, reply_for, block_reply_to};
-ghost use Rattle.conversion.specs.Conversion.{numbers_of as conversion_numbers_of, output_after};
+ghost use Rattle.conversion.specs.Conversion.{output_after};
 ghost use Rattle.tranche_weights.specs.ConversionReply.{conversion_reply, reply_for as reply_for_conversion, conversion_reply_to};
 ghost use Rattle.tranche_weights.specs.FourNumbers.{four_numbers};
+ghost use Rattle.tranche_weights.specs.OpenedReply.{refusal_reply, reply_for as refusal_reply_for};
 
 pub mod opened;
 
-use conversion::Converted;
-use deal::Answer;
-use pool::{Block, SUM_WORDS};
-use report::Written;
+use charge::Sums;
+use deal::Weighed;
+use judgement::Refusal;
+use pool::SUM_WORDS;
 
-// An answer as a program in C gets it: the refusal's number, 0 where there is none; place, count and charge are written through the lent numbers.
-pub(crate) fn put_answer(answer: Answer, place: &mut u64, count: &mut u64, charge: &mut u64) -> u64
-    ensures { four_numbers result place.new count.new charge.new ≡ reply_of answer }
+// A refusal as a program in C gets it: its number, 0 where there is none, and its place through the lent number.
+pub(crate) fn put_refusal<T>(answer: &Result<T, Refusal>, place: &mut u64) -> u64
+    ensures { refusal_reply result place.new ≡ refusal_reply_for (numbers_of answer.now) }
 {
     match answer {
-        Answer::Weighed {
-            count: tranches,
-            charge: pool,
-        } => {
+        Ok(_) => {
             *place = 0;
-            *count = tranches;
-            *charge = pool;
             0
         }
-        Answer::Refused(r) => {
-            *place = r.place;
-            *count = 0;
-            *charge = 0;
-            r.number
+        Err(refusal) => {
+            *place = refusal.place;
+            refusal.reason.number()
         }
     }
+}
+
+// An answer as a program in C gets it: the refusal's number, 0 where there is none; place, count and charge are written
+// through the lent numbers, count and charge 0 of a refused sheet.
+pub(crate) fn put_answer(
+    answer: Result<Weighed, Refusal>,
+    place: &mut u64,
+    count: &mut u64,
+    charge: &mut u64,
+) -> u64
+    ensures { four_numbers result place.new count.new charge.new ≡ reply_of answer }
+{
+    let weighed = answer.unwrap_or(Weighed {
+        count: 0,
+        charge: 0,
+    });
+    *count = weighed.count;
+    *charge = weighed.charge;
+    put_refusal(&answer, place)
 }
 
 // Weighs every tranche of a deal sheet, as deal::weigh does.
@@ -56,8 +70,7 @@ pub fn tranche_weights_weigh_v10(
     ensures keeps_demand_three { KeepsDemandThree sheet.now (length results.old) results.new }
     ensures keeps_seventh_word { KeepsSeventhWord sheet.now (length results.old) results.new }
 {
-    let answer = deal::weigh(sheet, results);
-    put_answer(answer, place, count, charge)
+    put_answer(deal::weigh(sheet, results), place, count, charge)
 }
 
 // Weighs every tranche of the deal sheet that a file's bytes hold, as deal_file::weigh_file does.
@@ -73,42 +86,30 @@ pub fn tranche_weights_weigh_file_v10(
     ensures file_keeps_demand_three { FileKeepsDemandThree file.now (length results.old) results.new }
     ensures file_keeps_seventh_word { FileKeepsSeventhWord file.now (length results.old) results.new }
 {
-    let answer = deal_file::weigh_file(file, results);
-    put_answer(answer, place, count, charge)
+    put_answer(deal_file::weigh_file(file, results), place, count, charge)
 }
 
-// Writes the report's text on a file, as report::report does. The answer is the text's length; it was written where that is at most the room lent, and
-// else nothing was.
+// Writes the report's text on a file, as report::report does. The answer is the text's length; it was written where
+// that is at most the room lent, and else nothing was.
 pub fn tranche_weights_report_v10(file: &[u8], text: &mut [u8]) -> u64
     ensures value { result ≡ length (file_text file.now) }
     ensures text_after { text.new ≡ text_after (file_text file.now) text.old }
     ensures upper_bound { result ≤ text_room }
 {
-    let written = report::report(file, text);
-    match written {
-        Written::Whole(n) => n,
-        Written::NoRoom(n) => n,
-    }
+    report::report(file, text).unwrap_or_else(|no_room| no_room.needed)
 }
 
-// What a block came to as a program in C gets it: the refusal's number, 0 where there is none; place and sums are written through the lent numbers.
-fn put_block(block: Block, place: &mut u64, sums: &mut [u64; SUM_WORDS]) -> u64
+// What a block came to as a program in C gets it: the refusal's number, 0 where there is none; place and sums are
+// written through the lent numbers.
+fn put_block(block: Result<Sums, Refusal>, place: &mut u64, sums: &mut [u64; SUM_WORDS]) -> u64
     ensures { block_reply result place.new sums.new ≡ reply_for (numbers_of block) }
 {
     *sums = pool::sum_words(pool::sums_read(block));
-    match block {
-        Block::Summed(_q) => {
-            *place = 0;
-            0
-        }
-        Block::Refused(refusal) => {
-            *place = refusal.place;
-            refusal.number
-        }
-    }
+    put_refusal(&block, place)
 }
 
-// Reads the sums of a block of a deal sheet's pool, as pool::sum_block does: seven words, in the order of pool::sum_words, which read 0 where the sheet is refused.
+// Reads the sums of a block of a deal sheet's pool, as pool::sum_block does: seven words, in the order of
+// pool::sum_words, which read 0 where the sheet is refused.
 pub fn tranche_weights_block_sums_v10(
     sheet: &[u64],
     block: u64,
@@ -117,26 +118,16 @@ pub fn tranche_weights_block_sums_v10(
 ) -> u64
     ensures { block_reply result place.new sums.new ≡ block_reply_to sheet.now block }
 {
-    let read = pool::sum_block(sheet, block);
-    put_block(read, place, sums)
+    put_block(pool::sum_block(sheet, block), place, sums)
 }
 
-// A conversion as a program in C gets it: the refusal's number, 0 where there is none; place and the count of words written go through the lent numbers.
-fn put_conversion(converted: Converted, place: &mut u64, count: &mut u64) -> u64
-    ensures { conversion_reply result place.new count.new ≡ reply_for_conversion (conversion_numbers_of converted) }
+// A conversion as a program in C gets it: the refusal's number, 0 where there is none; place and the count of words
+// written go through the lent numbers.
+fn put_conversion(converted: Result<u64, Refusal>, place: &mut u64, count: &mut u64) -> u64
+    ensures { conversion_reply result place.new count.new ≡ reply_for_conversion (numbers_of converted) }
 {
-    match converted {
-        Converted::Written(n) => {
-            *place = 0;
-            *count = n;
-            0
-        }
-        Converted::Refused(refusal) => {
-            *place = refusal.place;
-            *count = 0;
-            refusal.number
-        }
-    }
+    *count = converted.unwrap_or(0);
+    put_refusal(&converted, place)
 }
 
 // Rewrites a deal sheet in the other unit of risk weights into lent output words, as conversion::convert does.
@@ -149,6 +140,5 @@ pub fn tranche_weights_convert_v10(
     ensures count_after { conversion_reply result place.new count.new ≡ conversion_reply_to sheet.now (length output.old) }
     ensures output_after { output.new ≡ output_after sheet.now output.old }
 {
-    let converted = conversion::convert(sheet, output);
-    put_conversion(converted, place, count)
+    put_conversion(conversion::convert(sheet, output), place, count)
 }

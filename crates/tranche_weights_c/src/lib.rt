@@ -1,5 +1,6 @@
-// The calculator as a static library for programs in C: the functions of tranche_weights under the names of the header, include/tranche_weights.h, with the same promises. Each
-// name ends in the version of the interface, so that a program built for another version does not link.
+// The calculator as a static library for programs in C: the functions of tranche_weights under the names of the header,
+// include/tranche_weights.h, with the same promises. Each name ends in the version of the interface, so that a program
+// built for another version does not link. Lent numbers side by side are the interface of C.
 #![tactic(auto)]
 
 ghost use Rattle.std.specs.Prelude.{◌≡◌, ◌≤◌, length};
@@ -52,8 +53,8 @@ pub extern "C" fn tranche_weights_weigh_file_v10(
     tranche_weights::tranche_weights_weigh_file_v10(file, results, place, count, charge)
 }
 
-// Writes the report's text on a file, as report::report does. The answer is the text's length; it was written where that is at most the room lent, and
-// else nothing was.
+// Writes the report's text on a file, as report::report does. The answer is the text's length; it was written where
+// that is at most the room lent, and else nothing was.
 #[unsafe(no_mangle)]
 pub extern "C" fn tranche_weights_report_v10(file: &[u8], text: &mut [u8]) -> u64
     ensures value { result ≡ length (file_text file.now) }
@@ -63,7 +64,8 @@ pub extern "C" fn tranche_weights_report_v10(file: &[u8], text: &mut [u8]) -> u6
     tranche_weights::tranche_weights_report_v10(file, text)
 }
 
-// Reads the sums of a block of a deal sheet's pool, as pool::sum_block does: seven words, in the order of pool::sum_words, which read 0 where the sheet is refused.
+// Reads the sums of a block of a deal sheet's pool, as pool::sum_block does: seven words, in the order of
+// pool::sum_words, which read 0 where the sheet is refused.
 #[unsafe(no_mangle)]
 pub extern "C" fn tranche_weights_block_sums_v10(
     sheet: &[u64],
@@ -134,7 +136,8 @@ pub extern "C" fn tranche_weights_opened_charge_v10(sheet: &[u64], sums: &[u64; 
     tranche_weights::opened::tranche_weights_opened_charge_v10(sheet, sums)
 }
 
-// Weighs every tranche of an opened pool, as deal::weigh_opened does: what tranche_weights_weigh_v10 gives for its sheet.
+// Weighs every tranche of an opened pool, as deal::weigh_opened does: what tranche_weights_weigh_v10 gives for its
+// sheet.
 #[unsafe(no_mangle)]
 pub extern "C" fn tranche_weights_weigh_opened_v10(
     sheet: &[u64],

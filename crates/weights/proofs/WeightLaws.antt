@@ -83,7 +83,7 @@ unmarked_floor t d e = simp e
 pub unmarked_table_weight :
     (t : Tranche) (d : Terms) → d.stc ≡ false →
     table_weight t d ≡
-    ends_by_ratings ordinary_figures t.first t.second t.third t.senior t.months (t.detachment - t.attachment)
+    ends_by_ratings ordinary_figures t.ratings.first t.ratings.second t.ratings.third t.senior t.months (t.detachment - t.attachment)
 unfolding table_weight
 unmarked_table_weight t d e = simp e
 
@@ -203,7 +203,7 @@ pub table_weight_at_most : (t : Tranche) (d : Terms) → (table_weight t d).high
 unfolding table_weight
 table_weight_at_most t d =
     weight_by_ratings_at_most (figures_of d.stc) (figures_at_most_lem d.stc)
-    t.first t.second t.third t.senior t.months (t.detachment - t.attachment)
+    t.ratings.first t.ratings.second t.ratings.third t.senior t.months (t.detachment - t.attachment)
 
 floor_at_most : (t : Tranche) (d : Terms) → floor t d ≤ 125000
 floor_at_most t d =
@@ -262,7 +262,7 @@ formula_ends_within = formula_raw_weight_has (EndsWithin 2) (both_within 2 12500
 pub table_ends_within : (t : Tranche) (d : Terms) → EndsWithin 1 (table_weight t d)
 unfolding table_weight
 table_ends_within t d =
-    ends_within (figures_of d.stc) t.senior t.months (t.detachment - t.attachment) t.first t.second t.third
+    ends_within (figures_of d.stc) t.senior t.months (t.detachment - t.attachment) t.ratings.first t.ratings.second t.ratings.third
 
 -- floor and cap take them no further apart
 pub after_floor_and_cap_within :

@@ -17,7 +17,7 @@ use Rattle.weights.specs.declared.Tranche.{Tranche}
 
 -- "Any of the tranche's three ratings present"; S-8: the ratings that count for it, its own or those that it infers (`tranche`, Lines.antt of `deal`)
 abbrev pub rated : Tranche → Bool
-rated t = any_present t.first t.second t.third
+rated t = any_present t.ratings.first t.ratings.second t.ratings.third
 
 -- 0 fallback, 1 SEC-ERBA, 2 SEC-SA, 3 SEC-IRBA. "In order: no due diligence, fallback. Re-securitisation, SEC-SA. Any of the tranche's three ratings present,
 -- SEC-ERBA. Unknown above 5%, fallback. Else SEC-SA." S-5: where SEC-IRBA applies to the deal (`irba_applies`, IrbaDeals.antt of `irba`), "approach 3: ... ratings and late payers
@@ -80,7 +80,7 @@ formula_raw_weight t d = weight_or_highest (raw_weight t.attachment t.detachment
 -- "STC deals use the second table of source document 001". S-6: "for table weights it starts from the exact figure rounded down"
 unfoldable pub table_weight : Tranche → Terms → Ends
 table_weight t d =
-    ends_by_ratings (figures_of d.stc) t.first t.second t.third t.senior t.months
+    ends_by_ratings (figures_of d.stc) t.ratings.first t.ratings.second t.ratings.third t.senior t.months
     (t.detachment - t.attachment)
 
 -- "The fallback is 125,000 with no cap". S-6: "Floor and cap act on it alike."

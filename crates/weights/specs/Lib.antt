@@ -1,1 +1,2 @@
+pub mod Approaches
 pub mod ApproachFloorCap

@@ -3,16 +3,21 @@
 
 ghost use Rattle.std.specs.Prelude.{true, ◌≡◌};
 ghost use Rattle.numbers.specs.BothEnds.{at_both};
-ghost use Rattle.weights.specs.ApproachFloorCap.{approach, formula_approach, by_formula, parameter, floor, cap_applies, after_floor_and_cap, formula_raw_weight, table_weight, weight, WeightByFormula, thin};
+ghost use Rattle.weights.specs.Approaches.{number_of};
+ghost use Rattle.weights.specs.ApproachFloorCap.{approach, by_formula, parameter, floor, cap_applies, after_floor_and_cap, formula_raw_weight, table_weight, weight, WeightByFormula, thin};
 
-use formula::RawWeight;
+mod approaches;
+
+pub use approaches::Approach;
 use irba::IrbFigures;
-use numbers::{Ends, excess, larger, smaller};
+use numbers::Ends;
+use rating_codes::Ratings;
 
-// What the tranches of a deal share: whether due diligence is held, whether it is a re-securitisation, whether it is simple, transparent and
-// comparable (STC), whether the pool's composition is known, whether SEC-IRBA applies, whether the status of the pool's rows is known but for up to 5% of exposure, its charge
-// in millionths, its average risk weight, and the figures of its IRB section.
-#[derive(Clone, Copy)]
+// What the tranches of a deal share: whether due diligence is held, whether it is a re-securitisation, whether it is
+// simple, transparent and comparable (STC), whether the pool's composition is known, whether SEC-IRBA applies, whether the
+// status of the pool's rows is known but for up to 5% of exposure, its charge in millionths, its average risk weight, and
+// the figures of its IRB section.
+#[derive(Clone, Copy, Debug, PartialEq, Eq)]
 pub struct Terms {
     pub diligence: bool,
     pub resecuritisation: bool,
@@ -25,22 +30,22 @@ pub struct Terms {
     pub irb: IrbFigures,
 }
 
-// What a tranche is weighed by: its points, whether it is of the senior class, its months to maturity, the amount held and the three ratings that count for it, its own or inferred ones.
-#[derive(Clone, Copy)]
+// What a tranche is weighed by: its points, whether it is of the senior class, its months to maturity, the amount held and
+// the ratings that count for it, its own or inferred ones. A tranche and the terms stay two values: a deal has one set of
+// terms for all its tranches, and each definition takes the two.
+#[derive(Clone, Copy, Debug, PartialEq, Eq)]
 pub struct Tranche {
     pub attachment: u64,
     pub detachment: u64,
     pub senior: bool,
     pub months: u64,
     pub held: u64,
-    pub first: u64,
-    pub second: u64,
-    pub third: u64,
+    pub ratings: Ratings,
 }
 
-// The kinds of deal, with supervisory parameter in millionths and floor in hundredths of a percent; class 1 of an STC deal has a floor of its own.
-#[derive(Clone, Copy)]
-struct Ordinary {}
+// The kinds of deal, with supervisory parameter in millionths and floor in hundredths of a percent; class 1 of an STC deal
+// has a floor of its own.
+struct Ordinary;
 
 impl Ordinary {
     const PARAMETER: u64 = 1000000;
@@ -48,8 +53,7 @@ impl Ordinary {
     const FLOOR: u64 = 1500;
 }
 
-#[derive(Clone, Copy)]
-struct Stc {}
+struct Stc;
 
 impl Stc {
     const PARAMETER: u64 = 500000;
@@ -59,8 +63,7 @@ impl Stc {
     const FLOOR: u64 = 1500;
 }
 
-#[derive(Clone, Copy)]
-struct Resecuritisation {}
+struct Resecuritisation;
 
 impl Resecuritisation {
     const PARAMETER: u64 = 1500000;
@@ -68,39 +71,29 @@ impl Resecuritisation {
     const FLOOR: u64 = 10000;
 }
 
-// 1250%, the highest weight and that of the fallback.
-const HIGHEST: u64 = 125000;
+// 1250%, the highest weight and that of the fallback, at both ends.
+const HIGHEST: Ends = Ends {
+    low: 125000,
+    high: 125000,
+};
 
-// The approach: 0 fallback, 1 SEC-ERBA, 2 SEC-SA, 3 SEC-IRBA.
-pub fn approach(t: Tranche, d: Terms) -> u64
-    ensures { result ≡ approach t d }
+// The approach that applies to a tranche.
+pub fn approach(t: Tranche, d: Terms) -> Approach
+    ensures { number_of result ≡ approach t d }
 {
     if !d.diligence {
-        return 0;
+        Approach::Fallback
+    } else if d.resecuritisation {
+        Approach::Sa
+    } else if d.irba {
+        Approach::Irba
+    } else if t.ratings.any_present() {
+        Approach::Erba
+    } else if d.known {
+        Approach::Sa
+    } else {
+        Approach::Fallback
     }
-    if d.resecuritisation {
-        return 2;
-    }
-    if d.irba {
-        return 3;
-    }
-    if rating_codes::any_present(t.first, t.second, t.third) {
-        return 1;
-    }
-    if !d.known {
-        return 0;
-    }
-    2
-}
-
-// Whether an approach weighs by the formula: SEC-SA and SEC-IRBA do.
-fn formula_approach(by: u64) -> bool
-    ensures { result ≡ formula_approach by }
-{
-    if by == 2 {
-        return true;
-    }
-    by == 3
 }
 
 // The supervisory parameter: under SEC-IRBA worked out for the tranche, else by the deal's kind.
@@ -108,16 +101,15 @@ fn parameter(t: Tranche, d: Terms) -> u64
     ensures { result ≡ parameter t d }
 {
     if d.resecuritisation {
-        return Resecuritisation::PARAMETER;
-    }
-    if d.irba {
+        Resecuritisation::PARAMETER
+    } else if d.irba {
         let fifths = ratings::maturity_fifths(t.months);
-        return irba::parameter(t.senior, d.stc, d.charge, fifths, d.irb);
+        irba::parameter(t.senior, d.stc, d.charge, fifths, d.irb)
+    } else if d.stc {
+        Stc::PARAMETER
+    } else {
+        Ordinary::PARAMETER
     }
-    if d.stc {
-        return Stc::PARAMETER;
-    }
-    Ordinary::PARAMETER
 }
 
 // The floor, by the deal's kind, and in an STC deal by the class.
@@ -125,28 +117,21 @@ fn floor(t: Tranche, d: Terms) -> u64
     ensures { result ≡ floor t d }
 {
     if d.resecuritisation {
-        return Resecuritisation::FLOOR;
+        Resecuritisation::FLOOR
+    } else if !d.stc {
+        Ordinary::FLOOR
+    } else if t.senior {
+        Stc::SENIOR_FLOOR
+    } else {
+        Stc::FLOOR
     }
-    if d.stc {
-        if t.senior {
-            return Stc::SENIOR_FLOOR;
-        }
-        return Stc::FLOOR;
-    }
-    Ordinary::FLOOR
 }
 
 // Whether the senior cap applies.
 fn cap_applies(t: Tranche, d: Terms) -> bool
     ensures { result ≡ cap_applies t d }
 {
-    if !t.senior {
-        return false;
-    }
-    if d.resecuritisation {
-        return false;
-    }
-    d.composition
+    t.senior && !d.resecuritisation && d.composition
 }
 
 // Both ends of a weight raised to the floor, then lowered to the cap.
@@ -154,78 +139,59 @@ fn after_floor_and_cap(t: Tranche, d: Terms, w: Ends) -> Ends
     ensures { result ≡ at_both (after_floor_and_cap t d) w }
 {
     let least = floor(t, d);
-    let low = larger(w.low, least);
-    let high = larger(w.high, least);
-    if cap_applies(t, d) {
-        return Ends {
-            low: smaller(low, d.average),
-            high: smaller(high, d.average),
-        };
+    let capped = cap_applies(t, d);
+    let limited = |end: u64| {
+        let raised = end.max(least);
+        if capped {
+            raised.min(d.average)
+        } else {
+            raised
+        }
+    };
+    Ends {
+        low: limited(w.low),
+        high: limited(w.high),
     }
-    Ends { low, high }
 }
 
-// The formula's raw weight, both its numbers; the highest weight where there is none, which no accepted sheet meets, so that no caller gets one that is too low.
+// The formula's raw weight, both its numbers; the highest weight where there is none, which no accepted sheet meets, so
+// that no caller gets one that is too low.
+#[tactic(auto, unfolding(crate::specs::ApproachFloorCap::formula_raw_weight))]
 fn formula_raw_weight(t: Tranche, d: Terms) -> Ends
     ensures { result ≡ formula_raw_weight t d }
 {
-    let raw = formula::raw_weight(t.attachment, t.detachment, d.charge, parameter(t, d));
-    match raw {
-        RawWeight::Weight(e) => e,
-        RawWeight::NoThickness => Ends {
-            low: HIGHEST,
-            high: HIGHEST,
-        },
-        RawWeight::OutsideLimits => Ends {
-            low: HIGHEST,
-            high: HIGHEST,
-        },
-    }
+    formula::raw_weight(t.attachment, t.detachment, d.charge, parameter(t, d)).unwrap_or(HIGHEST)
 }
 
 // The weight by the rating table of the deal's kind, and its low end.
+#[tactic(auto, unfolding(crate::specs::ApproachFloorCap::table_weight))]
 fn table_weight(t: Tranche, d: Terms) -> Ends
     ensures { result ≡ table_weight t d }
 {
-    ratings::weight_by_ratings(
-        d.stc,
-        t.first,
-        t.second,
-        t.third,
-        t.senior,
-        t.months,
-        excess(t.detachment, t.attachment),
-    )
+    let thickness = t.detachment.saturating_sub(t.attachment);
+    ratings::weight_by_ratings(d.stc, t.ratings, t.senior, t.months, thickness)
 }
 
-// The tranche's weight, which is its high end, and the low end, than which the weight is certainly no lower. By the formula they are the two numbers of a raw weight after
-// floor and cap; where the rules leave these open, the second promise limits them.
+// The tranche's weight, which is its high end, and the low end, than which the weight is certainly no lower. By the formula
+// they are the two numbers of a raw weight after floor and cap; where the rules leave these open, the second promise limits
+// them.
+#[tactic(auto, unfolding(crate::specs::ApproachFloorCap::weight))]
 pub fn weight(t: Tranche, d: Terms) -> Ends
     ensures value { result ≡ weight t d }
     ensures weight_by_formula { by_formula t d ≡ true → WeightByFormula t d result }
 {
-    let by = approach(t, d);
-    if by == 0 {
-        return Ends {
-            low: HIGHEST,
-            high: HIGHEST,
-        };
+    match approach(t, d) {
+        Approach::Fallback => HIGHEST,
+        Approach::Erba => after_floor_and_cap(t, d, table_weight(t, d)),
+        Approach::Sa | Approach::Irba => after_floor_and_cap(t, d, formula_raw_weight(t, d)),
     }
-    if formula_approach(by) {
-        return after_floor_and_cap(t, d, formula_raw_weight(t, d));
-    }
-    after_floor_and_cap(t, d, table_weight(t, d))
 }
 
-// Whether the formula applies to a tranche of no thickness above the pool charge. The thickness is asked first: most tranches have one, and need no approach here.
+// Whether the formula applies to a tranche of no thickness above the pool charge. The thickness is asked first: most
+// tranches have one, and need no approach here.
+#[tactic(auto, unfolding(crate::specs::ApproachFloorCap::thin))]
 pub fn is_thin(t: Tranche, d: Terms) -> bool
     ensures { result ≡ thin t d }
 {
-    if t.attachment != t.detachment {
-        return false;
-    }
-    if t.detachment <= d.charge {
-        return false;
-    }
-    formula_approach(approach(t, d))
+    t.attachment == t.detachment && d.charge < t.detachment && approach(t, d).is_by_formula()
 }

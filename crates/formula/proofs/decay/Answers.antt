@@ -1,10 +1,9 @@
 -- `decay`: the product of a coarse and a fine decay fits 64 bits, and so does its low end with the distance added. No axioms.
 use mathlib.Core.Path.{◌≡◌}
-use Prim.Native.Nat.{ℕ, ◌*◌, ◌/◌, ◌%◌, ◌^◌}
+use Prim.Native.Nat.{◌*◌, ◌/◌, ◌%◌, ◌^◌}
 use native.Mathlib.Omega.{arith}
-use Rattle.numbers.specs.declared.Ends.{Ends}
 use Rattle.numbers.proofs.Tests.{equal_keeps}
-use Rattle.formula.specs.FixedPoint.{decay_below, decay_above, decay}
+use Rattle.formula.specs.FixedPoint.{decay_below, decay_above}
 use Rattle.formula.specs.StepEnds.{DecayEnds}
 use Rattle.formula.proofs.StepBounds.{decays_at_most, decay_below_at_most}
 use Rattle.formula.proofs.StepEndsLaw.{decay_ends}
@@ -27,12 +26,9 @@ overflow_mul-low c =
 pub overflow_add-low : goal.overflow_add-low
 overflow_add-low c = omega (arith, low_is (goal.at.overflow_add-low c).After-coarse_decay, decay_below_at_most c.args.x)
 
--- whatever equals the decay's ends has what they have
-kept : (x : ℕ) (e : Ends) → e ≡ decay x → DecayEnds x e
-kept x e same = (equal_keeps (DecayEnds x) (decay_ends x) same).1
-
-pub returns : goal.returns
+pub returns-clause-value : goal.returns-clause-value
 unfolding decay_above
-returns c =
-    let low = low_is (goal.at.returns c).After-coarse_decay in
-    record { value = simp (c.smaller.ensures, low); decay_ends = kept c.args.x _ (simp (c.smaller.ensures, low)) }
+returns-clause-value c = simp (c.min.ensures, low_is (goal.at.returns-clause-value c).After-coarse_decay)
+
+pub returns-clause-decay_ends : goal.returns-clause-decay_ends
+returns-clause-decay_ends c = (equal_keeps (DecayEnds c.args.x) (decay_ends c.args.x) (returns-clause-value c)).1

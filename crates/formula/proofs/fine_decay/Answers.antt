@@ -3,15 +3,12 @@ use Prim.Native.Nat.{◌*◌, ◌-◌, ◌^◌, ◌/◌, ◌≤◌}
 use native.Mathlib.Omega.{arith}
 use Rattle.formula.specs.FixedPoint.{fine_decay}
 use Rattle.series.proofs.EntryBounds.{fine_entry_at_least}
-use Rattle.formula.proofs.StepBounds.{square_at_most, fine_fall_at_most}
+use Rattle.formula.proofs.StepBounds.{fine_fall_at_most}
 use Rattle.formula.proofs.fine_decay.Goals.{After-fine_entry-t}
 use Rattle.formula.proofs.fine_decay.Goals as goal
 
--- the square of j, and with it what is taken off the entry, is small
+-- what is taken off the entry is small beside it
 module _ (c : After-fine_entry-t) where
-  small_square : c.args.j * c.args.j ≤ 2 ^ 22 * c.args.j
-  small_square = square_at_most c.args.j c.requires.1
-
   large_entry : 2 ^ 31 ≤ c.fine_entry-t.result
   large_entry = rw c.fine_entry-t.ensures (fine_entry_at_least c.args.m c.requires.0)
 

@@ -1,21 +1,15 @@
 -- `sixteenth_loss`: the source's table of losses agrees with the rule of the entries at each place, by one computed test. No axioms.
-use mathlib.Core.Path.{◌≡◌}
-use Prim.Native.Nat.{◌+◌, ◌^◌}
 use Rattle.series.specs.Series.{low, factorial}
 use Rattle.series.specs.TableEntry.{entry}
 use Rattle.series.proofs.Entries.{loss_and_entry}
-use Rattle.formula.proofs.sixteenth_loss.Goals.{After-wide}
 use Rattle.formula.proofs.sixteenth_loss.Goals as goal
 use Rattle.formula.proofs.sixteenth_loss.Tie as tie
 use Rattle.formula.proofs.sixteenth_loss.Reads as reads
 use Rattle.formula.proofs.sixteenth_loss.Lts as lts
 
 -- the list is the source's own, as it stands in the function's local
-sum : (c : After-wide) → c.wide.result + entry c.args.n 16 ≡ 2 ^ 32
-unfolding low entry factorial
-sum c =
-    let losses = (lts.m6 tie.the-claims reads.Pre reads.Post c.before.before.before c.wide-arg-1.given).1.1.0.now in
-    loss_and_entry 16 losses 16 tt c.args.n c.wide.result c.requires c.wide.ensures.0
-
 pub returns : goal.returns
-returns c = (sum (goal.at.returns c).After-wide, c.wide.ensures.1)
+unfolding low entry factorial
+returns c =
+    let losses = (lts.m6 tie.the-claims reads.Pre reads.Post c.before.before.before c.from-arg-1.given).1.1.0.now in
+    loss_and_entry 16 losses 16 tt c.args.n c.from.result c.requires c.from.ensures

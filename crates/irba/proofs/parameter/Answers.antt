@@ -29,7 +29,7 @@ returns-then-not-within_limits c =
 pub signed_sum-sum-requires : goal.signed_sum-sum-requires
 signed_sum-sum-requires c =
     let a = c.args in
-    (rw c.coefficients_of-c.ensures (coefficients_small a.senior (few_loans a.f) a.f.retail), inside (goal.at.signed_sum-sum-requires c).Else-not-within_limits)
+    (rw c.of_pool-c.ensures (coefficients_small a.senior (few_loans a.f) a.f.retail), inside (goal.at.signed_sum-sum-requires c).Else-not-within_limits)
 
 pub signed_rounded_up-requires : goal.signed_rounded_up-requires
 signed_rounded_up-requires c =
@@ -41,7 +41,7 @@ pub returns : goal.returns
 unfolding sum_parameter
 returns c =
     let a = c.args in
-    let coefficients_are = ap (λ (k : Coefficients). signed_sum k a.charge a.fifths a.f) c.coefficients_of-c.ensures in
+    let coefficients_are = ap (λ (k : Coefficients). signed_sum k a.charge a.fifths a.f) c.of_pool-c.ensures in
     let read_sum = to_z-of_z w64 c.signed_sum-sum.result (sfits_of c.signed_sum-sum.type_inv) in
     let read_rounded = to_z-of_z w64 c.signed_rounded_up.result (sfits_of c.signed_rounded_up.type_inv) in
     let divided = ap₂ signed_rounded_up (read_sum ∙ c.signed_sum-sum.ensures ∙ coefficients_are) c.denominator.ensures in

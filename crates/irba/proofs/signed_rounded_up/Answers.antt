@@ -19,19 +19,16 @@ use Rattle.irba.proofs.signed_rounded_up.Goals as goal
 read : (c : Start) → to_z w64 (of_z w64 c.args.sum) ≡ c.args.sum
 read c = to_z-of_z w64 c.args.sum c.ranges.sum
 
-divisor : (c : Start) → to_z w64 c.args.d ≡ pos c.args.d
-divisor c = to_z_pos w64 c.args.d (omega (arith, c.requires))
-
 from_zero : (c : Else-sum-lt0) → lt_z c.args.sum (pos 0) ≡ false
 from_zero c = rw (read c.before) at c.if-sum-lt0.false
 
 rounded : (c : After-rounded_up) → c.rounded_up.result ≡ rounded_up (nat_abs c.args.sum) c.args.d
 rounded c = rw (read c.before.before) at c.rounded_up.ensures
 
-pub returns : goal.returns
-returns c =
+pub returns-else-sum-lt0 : goal.returns-else-sum-lt0
+returns-else-sum-lt0 c =
     let s = c.args in
-    let at = (goal.at.returns c).After-rounded_up in
+    let at = (goal.at.returns-else-sum-lt0 c).After-rounded_up in
     let n = nat_abs s.sum in
     let most : n ≤ n * s.d = le-mul_of_pos_right n c.requires.0 in
     let is = rounded at in

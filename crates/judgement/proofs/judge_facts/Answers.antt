@@ -1,44 +1,46 @@
--- `judge_facts`: the count of facts is judged first, and before each turn the words before place p are sound. No axioms.
+-- `judge_facts`: the count of facts is judged first, and before each turn the words before place p are sound. No
+-- axioms.
 use mathlib.Core.Path.{◌≡◌, ◌∙◌, sym}
-use Prim.Native.Nat.{◌+◌}
 use native.Mathlib.Omega.{arith}
+use Rattle.faults.specs.Reasons.{fault_number}
 use Rattle.judgement.specs.DealSheet.{pool_at}
-use Rattle.judgement.specs.Refusals.{judged}
+use Rattle.judgement.specs.Refusals.{fault}
 use Rattle.judgement.proofs.Judgement.{fault_of_fact_count, fault_of_fact}
-use Rattle.judgement.proofs.JudgeSteps.{faulty_unless_sound, none_judged, word_judged, fault_stays}
-use Rattle.judgement.proofs.judge_facts.Goals.{After-judge_word-count, After-judge_word-fact}
+use Rattle.judgement.proofs.JudgeSteps.{none_judged, sound_before, handed_on, word_sound, word_refused}
+use Rattle.judgement.proofs.judge_facts.Goals.{After-count_fault, After-fact_fault}
 use Rattle.judgement.proofs.judge_facts.Goals as goal
 
--- the count's verdict is that on the first word
-count_judged : (c : After-judge_word-count) → c.judge_word-count.result ≡ judged c.args.s.now 1
-count_judged c =
-    let s = c.args.s.now in
-    word_judged s 0 (none_judged s) (fault_of_fact_count s)
-    (c.judge_word-count.ensures ∙ simp (c.count_fault.ensures, c.word_at.ensures))
+-- the count's fault is that of the first word
+count_is : (c : After-count_fault) → fault c.args.s.now 0 ≡ fault_number c.count_fault.result
+count_is c = fault_of_fact_count _ ∙ simp (c.count_fault.ensures, c.word_at.ensures)
 
--- a fact's verdict is that on the words up to it
-fact_judged :
-    (c : After-judge_word-fact) →
-    c.judge_word-fact.result ≡ judged c.args.s.now (c.loop-p.p + 1)
-fact_judged c =
-    let s = c.args.s.now in
-    word_judged s c.loop-p.p c.loop-p.invariant.1.1 (fault_of_fact s c.loop-p.p (omega arith) (omega arith))
-    (c.judge_word-fact.ensures ∙ simp (c.fact_fault.ensures, c.word_at-in-loop-p.ensures, c.word_at-resecuritised.ensures))
+-- a fact's fault is that of its word
+fact_is : (c : After-fact_fault) → fault c.args.s.now c.loop-p.p ≡ fault_number c.fact_fault.result
+fact_is c =
+    fault_of_fact c.args.s.now c.loop-p.p (omega arith) (omega arith) ∙
+    simp (c.fact_fault.ensures, c.word_at-in-loop-p.ensures, c.word_at-resecuritised.ensures)
 
-pub returns-in_default : goal.returns-in_default
+pub returns-in_err-judge_word : goal.returns-in_err-judge_word
 unfolding pool_at
-returns-in_default c = fault_stays _ 1 _ (faulty_unless_sound _ c.in_default.not-Sound).1 (count_judged (goal.at.returns-in_default c).After-judge_word-count) (omega arith)
+returns-in_err-judge_word c =
+    word_refused _ 0 _ (none_judged _) (count_is (goal.at.returns-in_err-judge_word c).After-count_fault) (handed_on c.from_residual.ensures.1)
+    c.in_err-judge_word.ensures (omega arith)
 
-pub pool_at-end-requires : goal.pool_at-end-requires
-pool_at-end-requires c = sym (count_judged (goal.at.pool_at-end-requires c).After-judge_word-count) ∙ c.in-Sound.is
+pub pool_at-p-end-requires : goal.pool_at-p-end-requires
+pool_at-p-end-requires c = word_sound _ 0 (none_judged _) (count_is (goal.at.pool_at-p-end-requires c).After-count_fault) c.in_ok-judge_word.ensures
 
 pub loop-p-init : goal.loop-p-init
-unfolding pool_at
-loop-p-init c =
-    (omega arith, (omega arith, sym (count_judged (goal.at.loop-p-init c).After-judge_word-count) ∙ c.in-Sound.is))
+loop-p-init c = word_sound _ 0 (none_judged _) (count_is (goal.at.loop-p-init c).After-count_fault) c.in_ok-judge_word.ensures
 
-pub returns-in_default-fact : goal.returns-in_default-fact
-returns-in_default-fact c = fault_stays _ _ _ (faulty_unless_sound _ c.in_default-fact.not-Sound).1 (fact_judged (goal.at.returns-in_default-fact c).After-judge_word-fact) (omega arith)
+pub returns-in_err-judge_word-2 : goal.returns-in_err-judge_word-2
+returns-in_err-judge_word-2 c =
+    word_refused _ c.loop-p.p _ c.loop-p.invariant (fact_is (goal.at.returns-in_err-judge_word-2 c).After-fact_fault)
+    (handed_on c.from_residual-in_err-judge_word-2.ensures.1) c.in_err-judge_word-2.ensures (omega arith)
 
 pub loop-p-preserved : goal.loop-p-preserved
-loop-p-preserved c = (omega arith, (omega arith, sym (fact_judged (goal.at.loop-p-preserved c).After-judge_word-fact) ∙ c.in-Sound-fact.is))
+loop-p-preserved c =
+    word_sound _ c.loop-p.p c.loop-p.invariant (fact_is (goal.at.loop-p-preserved c).After-fact_fault) c.in_ok-judge_word-2.ensures
+
+pub returns : goal.returns
+unfolding pool_at
+returns c = sym (sound_before _ _ _ c.loop-p.invariant (omega arith))

@@ -3,25 +3,23 @@ use mathlib.Core.Path.{◌∙◌, sym}
 use native.Mathlib.Omega.{arith}
 use Rattle.judgement.specs.DealSheet.{pool_at}
 use Rattle.judgement.proofs.Judgement.{fault_of_pool_count}
-use Rattle.judgement.proofs.JudgeSteps.{faulty_unless_sound, sound_before, word_judged, fault_stays}
+use Rattle.judgement.proofs.JudgeSteps.{sound_before, word_judged, handed_on, refusal_stays}
 use Rattle.judgement.proofs.judge_pool_count.Goals as goal
 
-pub returns-in_default : goal.returns-in_default
-returns-in_default c = fault_stays _ _ _ (faulty_unless_sound _ c.in_default.not-Sound).1 c.judge_facts-facts.ensures (omega arith)
+pub returns-in_err-judge_facts : goal.returns-in_err-judge_facts
+returns-in_err-judge_facts c = refusal_stays _ _ _ (handed_on c.from_residual.ensures.1) c.in_err-judge_facts.ensures (omega arith)
 
 pub pool_at-requires : goal.pool_at-requires
 unfolding pool_at
-pool_at-requires c =
-    sound_before _ _ _ (sym c.judge_facts-facts.ensures ∙ c.in-Sound.is) (omega arith)
+pool_at-requires c = sound_before _ _ _ (sym c.in_ok-judge_facts.ensures) (omega arith)
 
 pub row_count-requires : goal.row_count-requires
 unfolding pool_at
-row_count-requires c =
-    sound_before _ _ _ (sym c.judge_facts-facts.ensures ∙ c.in-Sound.is) (omega arith)
+row_count-requires c = sound_before _ _ _ (sym c.in_ok-judge_facts.ensures) (omega arith)
 
 pub returns : goal.returns
 returns c =
-    word_judged _ _ (sym c.judge_facts-facts.ensures ∙ c.in-Sound.is) (fault_of_pool_count _)
+    word_judged _ _ (sym c.in_ok-judge_facts.ensures) (fault_of_pool_count _)
     (c.judge_word.ensures ∙
     simp (
       c.count_fault.ensures,

@@ -1,13 +1,10 @@
 -- `judge_tranche`: before each turn the words before the tranche's column are sound. No axioms.
 use mathlib.Core.Path.{◌≡◌}
-use Prim.Native.Nat.{◌+◌, ◌-◌, ◌≤◌}
+use Prim.Native.Nat.{◌+◌}
 use Rattle.judgement.specs.DealSheet.{tranche_at}
 use Rattle.judgement.specs.Refusals.{judged}
-use Rattle.judgement.specs.declared.Verdict.TheVariants.{Sound}
+use Rattle.judgement.specs.Verdicts.{Sound}
 use Rattle.judgement.proofs.judge_tranche.Given as goal
 
 abbrev pub invariant-loop-column : goal.invariant-loop-column
-invariant-loop-column l = (l.column ≤ 7) × (judged l.s (tranche_at l.s l.i + l.column) ≡ Sound)
-
-abbrev pub decreases-loop-column : goal.decreases-loop-column
-decreases-loop-column l = 7 - l.column
+invariant-loop-column l = judged l.s (tranche_at l.s l.i + l.column) ≡ Sound

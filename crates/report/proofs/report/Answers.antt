@@ -1,26 +1,10 @@
 -- `report`: the whole text is composed first, and copied where there is room. No axioms.
-use Rattle.std.proofs.Common.{◌≡◌, ◌≤◌, sym, length, take}
-use lib.Seq.{length-take-le}
-use Rattle.report.specs.ReportText.{file_text}
-use Rattle.report.proofs.ReportLaws.{composed, composed_copied, file_text_fits}
-use Rattle.report.proofs.report.Goals.{After-compose-size}
+use Rattle.report.proofs.TextLaws.{whole_text}
+use Rattle.report.proofs.ReportLaws.{file_text_fits}
 use Rattle.report.proofs.report.Goals as goal
-
--- what is composed is the file's text
-text_composed :
-    (c : After-compose-size) →
-    (c.compose-size.result ≤ length c.compose-size.new.out) × (take c.compose-size.result c.compose-size.new.out ≡ file_text c.args.file.now)
-text_composed c = composed _ _ _ (file_text_fits _) c.compose-size.ensures.value c.compose-size.ensures.out_after
-
-pub slice_bounds-whole-end : goal.slice_bounds-whole-end
-slice_bounds-whole-end c = (text_composed (goal.at.slice_bounds-whole-end c).After-compose-size).0
-
-pub slice_bounds-copied-end : goal.slice_bounds-copied-end
-slice_bounds-copied-end c = sym (length-take-le _ _ (text_composed (goal.at.slice_bounds-copied-end c).After-compose-size).0)
 
 pub returns : goal.returns
 returns c =
-    let file = c.args.file.now in
-    let made = text_composed (goal.at.returns c).After-compose-size in
-    let written = composed_copied (file_text file) c.args.text.now _ made.1 (c.copied.ensures.value, c.copied.ensures.text_after) in
-    record { value = written.0; text_after = written.1; file_len_bound = file_text_fits file }
+    let whole = whole_text _ _ c.new-whole.ensures c.put_file.ensures in
+    let copied = rw whole at c.copy_to.ensures in
+    record { value = copied.value; text_after = copied.text_after; file_len_bound = file_text_fits _ }

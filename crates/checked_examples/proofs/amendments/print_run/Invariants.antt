@@ -1,10 +1,11 @@
--- The place in the list rises with each amendment, and before each the pool is open.
-use Rattle.std.proofs.Common.{length, ◌-◌, ◌≤◌, ◌≡◌}
+-- What is left of the list shrinks with each amendment, and before each the pool is open.
+use Rattle.std.proofs.Common.{length, ◌+◌, ◌≤◌, ◌≡◌}
 use Rattle.pool.specs.SummedPool.{OpenedPool}
 use Rattle.checked_examples.proofs.amendments.print_run.Given as goal
 
-abbrev pub invariant-loop-at : goal.invariant-loop-at
-invariant-loop-at g l = (l.number ≤ l.at) × (length l.sheet ≡ length l.initial.sheet) × OpenedPool l.sheet l.sums
+abbrev pub invariant-loop-left : goal.invariant-loop-left
+invariant-loop-left g l =
+    (l.number + length l.left ≤ length l.list) × (length l.sheet ≡ length l.initial.sheet) × OpenedPool l.sheet l.sums
 
-abbrev pub decreases-loop-at : goal.decreases-loop-at
-decreases-loop-at g l = length l.list - l.at
+abbrev pub decreases-loop-left : goal.decreases-loop-left
+decreases-loop-left g l = length l.left

@@ -1,11 +1,7 @@
--- `next_rated`: after each turn the table is filled from the turn's row on, and `first` is what that row has. The measure is the row. No axioms.
-use Prim.Native.Nat.{◌≤◌}
-use Rattle.judgement.specs.DealSheet.{tranche_count}
+-- `next_rated`: after each turn the table is filled from the turn's row on, and `first` is what that row has. No
+-- axioms.
 use Rattle.deal.specs.NextRated.{FirstRatedFrom, NextRated}
 use Rattle.deal.proofs.inferred.next_rated.Given as goal
 
 abbrev pub invariant-loop-j : goal.invariant-loop-j
-invariant-loop-j l = (l.j ≤ tranche_count l.s) × (NextRated l.s l.next l.j × FirstRatedFrom l.s l.j l.first)
-
-abbrev pub decreases-loop-j : goal.decreases-loop-j
-decreases-loop-j l = l.j
+invariant-loop-j l = NextRated l.sheet.words.now l.next l.j × FirstRatedFrom l.sheet.words.now l.j l.first

@@ -7,7 +7,7 @@ use Rattle.deal.specs.InferredRatings.{rated_row, is_reference}
 use Rattle.deal.proofs.inferred.reference_row.Given as goal
 
 abbrev pub invariant-loop-j : goal.invariant-loop-j
-invariant-loop-j l = (l.j ≤ tranche_count l.s) × ((l.j < tranche_count l.s → rated_row l.s l.j ≡ true) × ((k : ℕ) → k < l.j → is_reference l.s l.i k ≡ false))
+invariant-loop-j l = (l.j ≤ tranche_count l.sheet.words.now) × ((l.j < tranche_count l.sheet.words.now → rated_row l.sheet.words.now l.j ≡ true) × ((k : ℕ) → k < l.j → is_reference l.sheet.words.now l.i k ≡ false))
 
 abbrev pub decreases-loop-j : goal.decreases-loop-j
 decreases-loop-j l = l.tranches - l.j

@@ -7,7 +7,7 @@ use lib.ListN.{length, get_or}
 use Rattle.limits.specs.SheetSize.{facts_least, facts_most, rows_most}
 use Rattle.judgement.specs.DealSheet.{pool_at, rows, tranches_at, tranche_count, needed, layout}
 use Rattle.judgement.specs.Refusals.{judged}
-use Rattle.judgement.specs.declared.Verdict.TheVariants.{Sound}
+use Rattle.judgement.specs.Verdicts.{Sound}
 use Rattle.judgement.proofs.SheetLimits.{facts_within, pool_at_within, facts_counted, pool_counted, tranches_counted, rows_within, fact_there, tranche_count_there, irb_at_most}
 use Rattle.judgement.proofs.sheet.layout_of.Goals as goal
 
@@ -78,8 +78,8 @@ offset_bounds-s-tranches c =
 pub bounds-s-tranches : goal.bounds-s-tranches
 bounds-s-tranches c = count_there _ c.requires
 
-pub irb_at-requires : goal.irb_at-requires
-irb_at-requires c = tranches_counted _ c.requires
+pub invariant_of-counted : goal.invariant_of-counted
+invariant_of-counted c = record { counted = tranches_counted _ c.requires }
 
 pub irb_figures-requires : goal.irb_figures-requires
 irb_figures-requires c =

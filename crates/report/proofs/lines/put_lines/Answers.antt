@@ -1,31 +1,20 @@
--- `put_lines`: after i turns the lines of the first i tranches stand in the buffer. No axioms.
-use Rattle.std.proofs.Common.{length, refl, ap, ◌∙◌, add-one, arith}
-use lib.Seq.{length-sets}
+-- `put_lines`: before turn i the lines of the first i tranches are written. No axioms.
+use Rattle.std.proofs.Common.{add-one, arith}
 use Rattle.report.specs.ReportText.{tranche_line, tranche_lines}
-use Rattle.report.proofs.TextLaws.{put_behind, length_tranche_lines}
+use Rattle.report.proofs.TextLaws.{put_behind, nothing_behind, same_room, length_tranche_lines}
 use Rattle.report.proofs.lines.put_lines.Goals as goal
 
 pub loop-i-init : goal.loop-i-init
 unfolding tranche_lines
-loop-i-init c = (omega arith, (omega arith, refl))
+loop-i-init c = nothing_behind _
 
-pub put_line-end-requires : goal.put_line-end-requires
-put_line-end-requires c =
-    let ws = c.args.results.now in
-    omega (
-      arith,
-      c.loop-i.invariant.1.0,
-      length_tranche_lines ws c.loop-i.i,
-      ap length c.loop-i.invariant.1.1 ∙ length-sets c.args.out.now c.args.at (tranche_lines ws c.loop-i.i),
-    )
+pub put_line-requires : goal.put_line-requires
+put_line-requires c =
+    (omega arith, omega arith, omega (arith, same_room c.loop-i.invariant, length_tranche_lines c.args.results.now c.loop-i.i))
 
 pub loop-i-preserved : goal.loop-i-preserved
 unfolding tranche_lines
 loop-i-preserved c =
     let ws = c.args.results.now in
-    let put = c.put_line-end.ensures in (
-      omega arith,
-      rw (add-one c.loop-i.i)
-          (put_behind c.args.out.now c.args.at (tranche_lines ws c.loop-i.i) (tranche_line ws c.loop-i.i) c.loop-i.invariant.1
-          (put.value, put.out_after)),
-    )
+    rw (add-one c.loop-i.i)
+    (put_behind c.args.text.now (tranche_lines ws c.loop-i.i) (tranche_line ws c.loop-i.i) c.loop-i.invariant c.put_line.ensures)

@@ -1,10 +1,6 @@
--- `put_spaced`: after i turns the numbers before `next` stand in the buffer, each with a space after it. No axioms.
-use Rattle.std.proofs.Common.{length, ◌-◌}
+-- `put_spaced`: before each word the numbers before `next` are written, each with a space after it. No axioms.
 use Rattle.report.proofs.LineSteps.{StillToPut}
 use Rattle.report.proofs.lines.put_spaced.Given as goal
 
-abbrev pub invariant-loop-i : goal.invariant-loop-i
-invariant-loop-i l = StillToPut l.initial.out l.at l.n l.words l.out l.end l.next l.i
-
-abbrev pub decreases-loop-i : goal.decreases-loop-i
-decreases-loop-i l = length l.words - l.i
+abbrev pub invariant-loop-word : goal.invariant-loop-word
+invariant-loop-word l = StillToPut l.initial.text l.n l.words l.text l.next l.word-index

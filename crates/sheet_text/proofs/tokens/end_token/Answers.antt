@@ -1,7 +1,8 @@
 -- `end_token`: no token, a word, or a token that is refused. No axioms.
-use mathlib.Core.Path.{refl, sym, ap}
+use mathlib.Core.Path.{sym, ap}
 use native.Mathlib.Omega.{arith}
-use Rattle.sheet_text.specs.declared.Made.TheVariants.{NotDecimal, TooLarge}
+use Rattle.std.specs.Prelude.{Err}
+use Rattle.sheet_text.specs.declared.TextFault.TheVariants.{NotDecimal, TooLarge}
 use Rattle.sheet_text.specs.declared.tokens.Numeral.TheVariants.{Over, Other}
 use Rattle.sheet_text.proofs.TokenLaws.{word_ended, token_refused}
 use Rattle.sheet_text.proofs.tokens.end_token.Goals as goal
@@ -19,11 +20,11 @@ returns-in-Over c =
     let s = c.args.s in
     λ all ahead begun sums onward.
     token_refused s ahead begun Over (TooLarge c.span.result) sums c.if-s-eq0.false c.in-Over.is
-    (λ later. ap TooLarge (sym c.span.ensures)) (λ text old. refl) onward
+    (λ later. ap (λ where_it_is. Err (TooLarge where_it_is)) (sym c.span.ensures)) onward
 
 pub returns-in-Other : goal.returns-in-Other
 returns-in-Other c =
     let s = c.args.s in
     λ all ahead begun sums onward.
     token_refused s ahead begun Other (NotDecimal c.span-in-Other.result) sums c.if-s-eq0.false c.in-Other.is
-    (λ later. ap NotDecimal (sym c.span-in-Other.ensures)) (λ text old. refl) onward
+    (λ later. ap (λ where_it_is. Err (NotDecimal where_it_is)) (sym c.span-in-Other.ensures)) onward

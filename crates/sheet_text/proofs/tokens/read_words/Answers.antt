@@ -3,50 +3,51 @@ use mathlib.Core.List.{[]}
 use mathlib.Core.Path.{◌≡◌, refl, ◌∙◌, sym}
 use native.Mathlib.Omega.{arith}
 use lib.ListN.{length}
+use Rattle.std.proofs.lemmas.Result.{err_from_is_err_and}
 use Rattle.sheet_text.specs.SheetText.{tokens}
-use Rattle.sheet_text.specs.Scanning.{Ends}
-use Rattle.sheet_text.proofs.ScanLaws.{behind_white, scan_begins, white_met, past_character_lem, past_white_lem, text_ends}
-use Rattle.sheet_text.proofs.tokens.read_words.Goals.{After-end_token-ended}
+use Rattle.sheet_text.proofs.ScanLaws.{scan_begins, white_met, past_character_lem, past_white_lem, text_ends}
+use Rattle.sheet_text.proofs.tokens.read_words.Goals.{then-white+in_ok-count, else-white}
 use Rattle.sheet_text.proofs.tokens.read_words.Goals as goal
 
--- what the end of a token at white space leads to
-ends_at_white :
-    (c : After-end_token-ended) →
-    Ends (tokens c.args.text.now) c.loop-s.s.at c.end_token-ended.new.words
-    (behind_white c.args.text.now c.comment_after-comment.result c.loop-s.s c.seen-b.result)
-    c.end_token-ended.result
-ends_at_white c =
-    let r = c.loop-s.invariant.2 in
-    c.end_token-ended.ensures _ _ r.begun r.sums
-    (white_met _ c.loop-s.comment _ c.loop-s.s _ (omega arith) c.seen-b.ensures c.comment_after-comment.ensures _ r
-    (sym c.white.ensures ∙ c.if-white.true))
+pub loop-character-init : goal.loop-character-init
+loop-character-init c = (refl, scan_begins _ _)
 
-pub loop-s-init : goal.loop-s-init
-loop-s-init c = (omega arith, refl, scan_begins _ _)
+pub returns-in_err-count : goal.returns-in_err-count
+returns-in_err-count c =
+    let here = c.loop-character.invariant.0 in
+    let r = c.loop-character.invariant.1 in
+    let within = c.loop-character-test.true in
+    let goes = c.comment_after-comment.ensures in
+    let white = sym c.white.ensures ∙ c.if-white.true in
+    let p = err_from_is_err_and c.from_residual.result c.from_residual.ensures.1 in
+    rw (p.1, p.2)
+    (c.in_err-count.ensures _ _ r.begun r.sums
+    (white_met _ _ _ c.loop-character.s _ _ here within c.seen-b.ensures goes _ r white))
 
-pub returns-in_default : goal.returns-in_default
-returns-in_default c =
-    rw c.in_default.is (rw c.in_default.is at (ends_at_white (goal.at.returns-in_default c).After-end_token-ended))
-
-pub loop-s-preserved-then-white : goal.loop-s-preserved-then-white
-loop-s-preserved-then-white c =
-    let ends = rw c.in-Words.is at (ends_at_white (goal.at.loop-s-preserved-then-white c).After-end_token-ended) in
-    rw c.past_white-s.ensures
-    (omega arith, c.end_token-ended.auto.words ∙ c.loop-s.invariant.1, past_white_lem _ _ c.loop-s.s c.seen-b.result _ _ (omega arith) ends.0 ends.1)
-
-pub loop-s-preserved : goal.loop-s-preserved
-loop-s-preserved c =
-    rw c.past_character-s.ensures (
-      omega arith,
-      c.loop-s.invariant.1,
-      past_character_lem _ c.loop-s.comment _ c.loop-s.s _ (omega arith) c.seen-b.ensures
-          c.comment_after-comment.ensures _ c.loop-s.invariant.2 (sym c.white.ensures ∙ c.if-white.false),
-    )
+pub loop-character-preserved : goal.loop-character-preserved
+loop-character-preserved c =
+    let s = c.loop-character.s in
+    let here = c.loop-character.invariant.0 in
+    let r = c.loop-character.invariant.1 in
+    let within = c.loop-character-test.true in
+    let read = c.seen-b.ensures in
+    let goes = c.comment_after-comment.ensures in
+    elim c.if-white.branch [
+      | then-white+in_ok-count w ↦
+          let white = sym c.white.ensures ∙ w.if-white.true in
+          let ends = w.in_ok-count.ensures _ _ r.begun r.sums (white_met _ _ _ s _ _ here within read goes _ r white) in
+          rw (w.s-is, w.words-is, w.past_white-s.ensures)
+          (omega arith, past_white_lem _ _ s c.seen-b.result _ _ (omega arith) ends.0 ends.1)
+      | else-white w ↦
+          let not_white = sym c.white.ensures ∙ w.if-white.false in
+          rw (w.s-is, w.words-is, w.past_character-s.ensures)
+          (omega arith, past_character_lem _ _ _ s _ _ here within read goes _ r not_white)
+    ]
 
 pub returns : goal.returns
 returns c =
     let text = c.args.text.now in
-    let s = c.loop-s.s in
-    let r = c.loop-s.invariant.2 in
+    let s = c.loop-character.s in
+    let r = c.loop-character.invariant.1 in
     let whole : s.at ≡ length text = omega arith in
-    rw (← whole) (c.end_token.ensures (tokens text) [] r.begun r.sums (text_ends text _ s _ r c.loop-s-test.false))
+    rw (← whole) (c.end_token-2.ensures (tokens text) [] r.begun r.sums (text_ends text _ s _ r (omega arith)))
