@@ -1,7 +1,8 @@
 #!/bin/sh
-# The version of the interface: the archive has just the header's functions, by the header's version, the header has the README's refusals and the Rust crate's
-# sizes, and neither the C example nor the Rust crate links with an archive of another version. Such an archive is made of the real one by renaming. Last, the header
-# alone, and the Rust crate with no archive. The static library is built first: tests/archive.sh.
+# The version of the interface: the archive has just the header's functions, by the header's version, and needs memcpy
+# and memset alone, the header has the README's refusals and the Rust crate's sizes, and neither the C example nor the
+# Rust crate links with an archive of another version. Such an archive is made of the real one by renaming. Last, the
+# header alone, and the Rust crate with no archive. The static library is built first: tests/archive.sh.
 set -eu
 cd "$(dirname "$0")/.."
 room=$(mktemp -d)
@@ -19,6 +20,11 @@ done | sort > "$room/declared"
 [ -s "$room/declared" ]
 cmp "$room/declared" "$room/exported"
 echo "functions of the archive: ok"
+
+# What the archive needs from outside is what the header says.
+nm -u "$archive" | awk 'NF == 2 { print $2 }' | sort > "$room/needed"
+printf 'memcpy\nmemset\n' | cmp - "$room/needed"
+echo "what the archive needs: ok"
 
 # The header has a name for each refusal that the README lists, and for no other number but 0.
 sed -n '/TRANCHE_WEIGHTS_ACCEPTED = 0/,/^}/s/.* = \([0-9]*\).*/\1/p' include/tranche_weights.h > "$room/named"

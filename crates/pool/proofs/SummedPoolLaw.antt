@@ -2,20 +2,20 @@
 use mathlib.Core.List.{List}
 use mathlib.Core.Path.{◌≡◌, refl, sym, ap, ◌∙◌, subst}
 use Prim.Native.Nat.{ℕ}
-use Rattle.std.specs.Prelude.{Result}
+use Rattle.std.specs.Prelude.{Result, Ok, Err}
 use Rattle.charge.specs.declared.Sums.{Sums}
 use Rattle.judgement.specs.Outcome.{found, refused_by, numbers_of}
 use Rattle.judgement.specs.ReadLayout.{layout_read}
 use Rattle.judgement.specs.Refusals.{words_verdict}
 use Rattle.judgement.specs.declared.Layout.{Layout}
-use Rattle.judgement.specs.Verdicts.{Refusal, Sound, Faulty}
+use Rattle.judgement.specs.Verdicts.{Refusal, Sound, Faulty, refusal_of}
 use Rattle.judgement.specs.declared.Refusal.{Refusal as Declared}
 use Rattle.judgement.proofs.JudgeSteps.{needed_sound}
 use Rattle.judgement.proofs.ReadLayout.{layout_read_lem}
 use Rattle.judgement.proofs.OutcomeLaws.{answer_of_numbers, found_not_refused, found_when, refused_when, found_means, refused_means}
 use Rattle.pool.specs.PoolSums.{pool_sums}
 use Rattle.pool.specs.BlockSums.{block_sums, sum_words, sums_of}
-use Rattle.pool.specs.SummedBlock.{block_numbers}
+use Rattle.pool.specs.SummedBlock.{block_numbers, sums_read, numbers_by}
 use Rattle.pool.specs.SummedPool.{OpenPool, OpenedPool, opened_numbers}
 
 pub opening_settled : (v w : Result Sums Declared) → numbers_of v ≡ numbers_of w → v ≡ w
@@ -23,6 +23,11 @@ opening_settled = answer_of_numbers
 
 pub block_settled : (v w : Result Sums Declared) → numbers_of v ≡ numbers_of w → v ≡ w
 block_settled = answer_of_numbers
+
+-- the sums that are read of an answer whose refusal has a reason
+pub read_with_reason : (v : Result Sums Declared) {q : Sums} → ((refusal : Declared → Refusal) → q ≡ sums_read (numbers_by refusal v)) → q ≡ sums_read (numbers_of v)
+read_with_reason (Ok q) read = read refusal_of
+read_with_reason (Err r) read = read refusal_of
 
 -- ---- from the words to the numbers
 

@@ -8,7 +8,8 @@ ghost use Rattle.pool.specs.PoolSums.{pool_sums};
 ghost use Rattle.pool.specs.BlockSums.{block_sums, sum_words, sums_of};
 ghost use Rattle.judgement.specs.Outcome.{numbers_of};
 ghost use Rattle.pool.specs.SummedPool.{opened_numbers};
-ghost use Rattle.pool.specs.SummedBlock.{block_numbers, sums_read};
+ghost use Rattle.pool.specs.SummedBlock.{block_numbers, numbers_by, sums_read};
+ghost use Rattle.judgement.specs.Verdicts.{Refusal as NumberedRefusal};
 ghost use Rattle.pool.specs.RowTotals.{totals_from, sums_from, marked_from, with_row, with_marked, totals_added, with_block, TotalsOfRows, MarkedOfRows, SumsOfRows, Subtotals};
 
 mod pool_rows;
@@ -267,9 +268,9 @@ pub fn sum_block(s: &[u64], block: u64) -> Result<Sums, Refusal>
     Ok(block_or_none(&sheet, block))
 }
 
-// The sums that a block came to; where the sheet was refused they read 0.
-pub fn sums_read(block: Result<Sums, Refusal>) -> Sums
-    ensures { result ≡ sums_read (numbers_of block) }
+// The sums that a block came to; where the sheet was refused they read 0, whatever says why: a reason, or any number.
+pub fn sums_read<E: Drop>(block: Result<Sums, E>) -> Sums
+    ensures { (refusal : E → NumberedRefusal) → result ≡ sums_read (numbers_by refusal block) }
 {
     block.unwrap_or(Sums::NONE)
 }

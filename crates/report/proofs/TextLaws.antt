@@ -1,12 +1,13 @@
 -- Laws of the printed text: pieces written one after another are one piece, no line and no text is longer than its room, and words after the lines
 -- of the tranches do not change a deal's text. No axioms.
 use mathlib.Core.List.{List, [], ◌∷◌, ◌++◌, append_assoc, append-nil}
-use mathlib.Core.Path.{◌≡◌, refl, ap, ◌∙◌}
+use mathlib.Core.Path.{◌≡◌, refl, sym, ap, ◌∙◌}
 use Prim.Native.Nat.{ℕ, zero, suc, ◌+◌, ◌*◌, ◌-◌, ◌≤◌, ◌<◌}
 use Prim.Native.String.{String}
+use native.Mathlib.Numerals.{add-one}
 use native.Mathlib.Omega.{arith}
-use lib.ListN.{length, get_or, take, drop, length-append, length-take, length-drop, get_or-append}
-use lib.Seq.{take-append-le, drop-append-le}
+use lib.ListN.{length, get_or, set, take, drop, length-append, length-take, length-drop, get_or-append}
+use lib.Seq.{take-append-le, drop-append-le, drop-cons, take-suc, length-take-le, set_at, append_snoc}
 use Rattle.numbers.proofs.SumLaws.{sum_same}
 use Rattle.limits.specs.SheetSize.{line_size, tranches_most}
 use Rattle.files.specs.Decimal.{decimal}
@@ -35,6 +36,15 @@ same_room is = ap (λ (t : Begun). t.room) is
 -- a text that is written into an empty buffer
 pub whole_text : (room : ℕ) (text : List ℕ) {new t : Begun} → new ≡ record { bytes = []; room = room } → t ≡ behind new text → t.bytes ≡ text
 whole_text room text empty is = ap (λ (t : Begun). t.bytes) is ∙ ap (λ (t : Begun). t.bytes ++ text) empty
+
+-- the next byte copied over the start of a list
+pub byte_copied :
+    (piece old : List ℕ) (i : ℕ) {before : List ℕ} {b : ℕ} → i < length piece → i < length old → before ≡ take i piece ++ drop i old → b ≡ get_or piece i 0 →
+    set before i b ≡ take (i + 1) piece ++ drop (i + 1) old
+byte_copied piece old i there within was is =
+    rw (was, is, add-one, drop-cons old i 0, take-suc piece i 0)
+    (set_at (take i piece) (get_or old i 0) (drop (suc i) old) (get_or piece i 0) i (length-take-le i piece (omega arith)) ∙
+    sym (append_snoc (take i piece) (get_or piece i 0) (drop (suc i) old)))
 
 -- ---- how long a text can be
 

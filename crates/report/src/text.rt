@@ -1,5 +1,5 @@
 // A text that is written piece by piece into a lent buffer.
-ghost use Rattle.std.specs.Prelude.{◌≡◌, ◌++◌, ◌∷◌, [], ◌+◌, ◌-◌, ◌≤◌, length, take};
+ghost use Rattle.std.specs.Prelude.{◌≡◌, ◌++◌, ◌∷◌, [], ◌+◌, ◌-◌, ◌≤◌, length, take, drop};
 ghost use Rattle.files.specs.Decimal.{decimal, newline};
 ghost use Rattle.faults.specs.Reasons.{number_of};
 ghost use Rattle.report.specs.ReportText.{number_room, labelled_room, refusal_line, refusal_room, written_for, text_after};
@@ -14,6 +14,17 @@ use std::marker::Model;
 pub(crate) struct Text<'a> {
     buffer: &'a mut [u8],
     end: usize,
+}
+
+// Copies a piece over the start of a list, byte by byte: a `copy_from_slice` of a length that is known only when it runs
+// would need the C library's memmove, which nothing else in the archive for C does.
+fn copy_start(piece: &[u8], list: &mut [u8])
+    requires { length piece.now ≤ length list.old }
+    ensures { list.new ≡ piece.now ++ drop (length piece.now) list.old }
+{
+    for (i, byte) in piece.iter().enumerate() {
+        list[i] = *byte;
+    }
 }
 
 impl<'a> Model for Text<'a> {
@@ -44,7 +55,7 @@ impl<'a> Text<'a> {
                 needed: size as u64,
             });
         }
-        text[..size].copy_from_slice(&self.buffer[..size]);
+        copy_start(&self.buffer[..size], text);
         Ok(size as u64)
     }
 

@@ -1,1 +1,2 @@
+pub mod ApproachLaws
 pub mod WeightLaws

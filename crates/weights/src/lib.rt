@@ -182,8 +182,8 @@ pub fn weight(t: Tranche, d: Terms) -> Ends
 {
     match approach(t, d) {
         Approach::Fallback => HIGHEST,
-        Approach::Erba => after_floor_and_cap(t, d, table_weight(t, d)),
-        Approach::Sa | Approach::Irba => after_floor_and_cap(t, d, formula_raw_weight(t, d)),
+        by if by.is_by_formula() => after_floor_and_cap(t, d, formula_raw_weight(t, d)),
+        _ => after_floor_and_cap(t, d, table_weight(t, d)),
     }
 }
 

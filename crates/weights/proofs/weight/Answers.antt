@@ -4,6 +4,6 @@ use Rattle.weights.specs.ApproachFloorCap.{weight}
 use Rattle.weights.proofs.WeightLaws.{weight_by_formula}
 use Rattle.weights.proofs.weight.Goals as goal
 
-pub returns-in-Sa-clause-weight_by_formula : goal.returns-in-Sa-clause-weight_by_formula
+pub returns-in_default-clause-weight_by_formula : goal.returns-in_default-clause-weight_by_formula
 unfolding weight
-returns-in-Sa-clause-weight_by_formula c = weight_by_formula c.args.t c.args.d (search rules)
+returns-in_default-clause-weight_by_formula c = weight_by_formula c.args.t c.args.d (search rules)
