@@ -120,12 +120,15 @@ fn sums_exchanged(q: Sums, old: Sums, new: Sums) -> Sums
     }
 }
 
-// Writes the row of an amendment to a place of the sheet.
+// Writes the row of an amendment to a place of the sheet, word by word: a caller has just written the words one by one,
+// and a copy of all four would wait for them. A column is a place in both lists.
 fn put_row(sheet: &mut [u64], at: usize, m: &[u64])
     requires { (at + 4 ≤ length sheet.old) × (length m.now ≡ 5) }
     ensures { sheet.new ≡ sets sheet.old at (drop 1 m.now) }
 {
-    sheet[at..at + ROW_SIZE].copy_from_slice(&m[1..]);
+    for column in 0..ROW_SIZE {
+        sheet[at + column] = m[1 + column];
+    }
 }
 
 // Replaces a row by a good amendment, and gives the sums after it.
