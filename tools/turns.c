@@ -15,8 +15,9 @@ enum { ROUNDS = 4000, CALLS = 2000 };
 typedef uint64_t amend_fn(uint64_t *, size_t, uint64_t *, const uint64_t *, size_t, uint64_t *);
 typedef uint64_t open_fn(const uint64_t *, size_t, uint64_t *, uint64_t *);
 
-static uint64_t sheet[] = {4, 0, 0, 1, 1, 3, 1000000, 1000000, 100, 0, 1000000, 1000000, 100, 0, 1000000, 1000000, 100, 0,
-                           1, 3000000, 1, 60, 3000000, 0, 0, 0};
+static uint64_t sheet[] = {4, 0, 0, 1, 1, /* the facts */
+                           3, 1000000, 1000000, 100, 0, 1000000, 1000000, 100, 0, 1000000, 1000000, 100, 0,
+                           1, 3000000, 1, 60, 3000000, 0, 0, 0}; /* the tranches */
 static uint64_t sums[TRANCHE_WEIGHTS_SUM_WORDS], place;
 static volatile uint64_t exposure = 1000000;
 

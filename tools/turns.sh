@@ -2,7 +2,7 @@
 # Prints how many cycles an amendment takes by each of two archives, timed in turns in one run (tools/turns.c): the
 # least, and the median of the ratio with its quartiles.
 #
-#   sh tools/turns.sh ARCHIVE ARCHIVE    static libraries of one version of the interface, as tests/archive.sh makes them
+#   sh tools/turns.sh ARCHIVE ARCHIVE    static libraries as tests/archive.sh makes them, of one version
 set -eu
 [ $# = 2 ] || {
     echo "usage: sh tools/turns.sh ARCHIVE ARCHIVE" >&2
